@@ -37,6 +37,9 @@ CASES = [
 # Three keywords, a string and a number.
 STATEMENTS = [
     ("a digit at the end of a statement of 60", b"SELECT title, writer FROM note WHERE title < 'harbour' + 15", b"", b"0"),
+    ("Backspace there", b"SELECT title, writer FROM note WHERE title < 'harbour' + 1500", b"", BACKSPACE),
+    ("a letter in its string", b"SELECT title, writer FROM note WHERE title < 'harbou' + 15", LEFT * 6, b"r"),
+    ("a letter behind its first keyword", b"SELECT title, writer FROM note WHERE title < 'harbour' + 15", LEFT * 53, b"s"),
     ("Left there", b"SELECT title, writer FROM note WHERE title < 'harbour' + 150", b"", LEFT),
 ]
 

@@ -1,13 +1,16 @@
 #!/usr/bin/env python3
 """Random edits with and without `partial_redraw`, over memory: after each key both displays of tests/shared/display.py have the
-same cells, with the same styles, and the cursor in the same cell. Run it by ./test, or alone once `rt ci` has built the programs.
+same cells, with the same styles, and the cursor in the same cell. Half of the sessions have styles that depend on the line's text
+and on the cursor's place. Run it by ./test, or alone once `rt ci` has built the programs.
 
     tests/hunts/partial.py [--sessions N] [--seed S]        so many sessions, of at most 40 keys
+    tests/hunts/partial.py --program PATH                   another sessions_program
 """
 import argparse
 import glob
 import os
 import random
+import re
 import subprocess
 import sys
 
@@ -15,8 +18,7 @@ sys.path += glob.glob(os.path.join(os.path.dirname(os.path.dirname(os.path.realp
 from checks import HUNG, Failed, built, run_all
 from display import Display, Meaningless
 from inputs import RowSession
-
-ROW_PROGRAM = built("sessions_program")
+from sessions import meant
 # Columns of the rows, which most lines fill once or twice.
 COLUMNS = (2, 3, 5, 10, 20, 40, 80, 200)
 LEFT, RIGHT, HOME, END, BACKSPACE = b"\x1b[D", b"\x1b[C", b"\x01", b"\x05", b"\x7f"
@@ -32,6 +34,21 @@ HELPED = ("helped", "loaded:#V2␊abc␠de(f)␊b漢␊c␠a(b)␊deef␊")
 # linker and consonants after it.
 APART = ["é", "я", "漢", "字", "한", "👍", "🔥"]
 OTHERS = ["\t", "\u0301", "\u200d", "🏽", "👨", "🇫", "🇷", "\u1100", "\u1161", "क", "\u094d", "ก", "ำ", "\ufe0f", "❤"]
+# Styles of a helper with fixed answers, and keywords that it draws in one: those of some begin or end inside a character or cluster.
+STYLES = ("bold+blue", "on-red", "reverse+bright-green", "underline+208")
+KEYWORDS = ("a", "b", "ab", "bc", "␠", "de", "(", "a␠", "é", "漢字", "👍", "‹cc›‹81›", "🏽", "␉", "a␊", "f)")
+# So many spans of a line are compared.
+COMPARED = 64
+
+
+def styled(rng):
+    """The words of a helper that marks a line by its length or by the cursor's place, and gives it styles by its text."""
+    words = ("colours", "advised", f"styled:{rng.randrange(9)},{rng.choice([1, 2, 7, 300])},{rng.choice(STYLES)}")
+    words += (f"marks-from:{rng.choice([0, 1, 1, 1, 5])}" if rng.random() < 0.8 else f"marked:{rng.randrange(9)}",)
+    words += (f"keyword:{rng.choice(KEYWORDS)}",) if rng.random() < 0.7 else ()
+    words += rng.choice([(), (), ("hint:!?漢", f"hint-from:{rng.randrange(9)}", "hint-style:faint"),
+                         ("verdict:InvalidTold", "message:no␊way", "message-style:red", "later:Incomplete", "later-from:9")])
+    return words + rng.choice([(), (), ("prompt-style:green",)])
 
 
 def typed(rng, others):
@@ -57,9 +74,15 @@ def session(rng):
     others = rng.choice([0.05, 0.05, 0.5])
     line = b"".join(b"\x16\n" if rng.random() < 0.02 else typed(rng, others / 2) for _ in range(min(length, 200)))
     words = (f"columns:{columns}", "modal") + rng.choice([(), ("tabs",)]) + (("vi",) if mode == "vi" else ())
-    words += rng.choice([(), (), HELPED, ("colours",) + HELPED])
+    words += styled(rng) if rng.random() < 0.5 else rng.choice([(), (), HELPED, ("colours",) + HELPED])
     keys = [line, b"\x1b" if mode == "vi" else rng.choice([HOME, END])]
     return words, keys + [edit(rng, mode, others) for _ in range(rng.randrange(1, 39))]
+
+
+def spans(words, keys):
+    """How many spans a line has as it is first typed, if it is drawn by keywords."""
+    keyword = RowSession(keys[0], words).value("keyword:")
+    return len(re.findall(re.escape(meant(keyword)) + b"|.", keys[0], re.S)) if keyword else 0
 
 
 def rows(words, keys):
@@ -99,15 +122,17 @@ def judge(words, keys, found):
     return sizes
 
 
-def hunt(sessions, seed):
+def hunt(sessions, seed, program):
     def the_same_is_shown():
         given = [session(random.Random(f"{seed} {number}")) for number in range(sessions)]
         text = "".join(row for words, keys in given for row in rows(words, keys))
-        told = subprocess.run([ROW_PROGRAM, "each"], input=text.encode(), stdout=subprocess.PIPE, timeout=HUNG, check=True).stdout
+        told = subprocess.run([program, "each"], input=text.encode(), stdout=subprocess.PIPE, timeout=HUNG, check=True).stdout
         found = displays(told)
         sizes = [judge(words, keys, found) for words, keys in given]
         whole, partial = map(sum, zip(*sizes))
-        print(f"seed {seed}; display bytes without the setting: {whole}, with it: {partial}", flush=True)
+        many = sum(spans(words, keys) > COMPARED for words, keys in given)
+        print(f"seed {seed}; display bytes without the setting: {whole}, with it: {partial}; sessions with over {COMPARED} spans: {many}",
+              flush=True)
         if not partial < whole or next(found, None):
             raise Failed("the setting has saved nothing, or there is more output than rows")
 
@@ -118,5 +143,6 @@ if __name__ == "__main__":
     parser = argparse.ArgumentParser(description=__doc__.partition("\n")[0])
     parser.add_argument("--sessions", type=int, default=200)
     parser.add_argument("--seed", default="partial")
+    parser.add_argument("--program", default=built("sessions_program"))
     asked = parser.parse_args()
-    sys.exit(run_all(hunt(asked.sessions, asked.seed)))
+    sys.exit(run_all(hunt(asked.sessions, asked.seed, asked.program)))

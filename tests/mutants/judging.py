@@ -5,8 +5,8 @@ from functions import functions
 from mutant_checks import UNREAD, head
 
 # What a check finds about a mutant: values are known for which an open goal is false, so no proof can be written in any form;
-# or goals are open, which shows nothing if the search has given up; or neither.
-FALSE, OPEN, FAULT = "false", "open", "fault"
+# or goals are open, which shows nothing if the search has given up; or neither. And that a right body is proved.
+FALSE, OPEN, FAULT, RIGHT = "false", "open", "fault", "right"
 
 
 class Said:
@@ -21,6 +21,7 @@ class Said:
     )
     WAITS = re.compile(r"(?m)^note: `search` has not tried the goals of `([^`]+)`, which wait for a callee's proof")
     ANTT = re.compile(r"(?m)^(?:\./)?((?:specs|proofs)/[^\s:]+):\d+:\d+: (?:error|`\S+` is not admitted: (?!has-h))")
+    GOALS = re.compile(r"(?m)^goals of (\S+): (.*)$")
     FRONT = re.compile(r"(?m)^(?:\./)?(src/[^\s:]+):(\d+):\d+: error\S* (.*)$")
 
     def __init__(self, crate, group, said, brief=()):
@@ -28,6 +29,7 @@ class Said:
         self.unasked = {path: it.unasked for it in group for path in it.paths()}
         self.lines = {it[1]: (it[2], it[3].strip(": ")) for it in self.FUNCTION.finditer(said)}
         self.waiting = {*self.WAITS.findall(said)}
+        self.named = {path: goals.split() for path, goals in self.GOALS.findall(said)}
         self.places = {file: spans(crate.sources, file, text) for file, text in crate.texts(group).items()}
         self.open = {}
         for file, line, goal, more in self.OPEN.findall(said):
@@ -70,7 +72,7 @@ class Said:
 
     def silent(self, edit):
         """Whether a brief report of a mutant doesn't show that it is killed, so that it is checked again."""
-        return not all(self.refusals(path) for path in edit.paths() if path in self.brief)
+        return not all(self.refusals(path) for path in edit.paths() if path in self.brief) and not edit.is_right
 
     def goals(self, path):
         """The open goals of a function except for those of invariants, and whether values are known for which each is false."""
@@ -83,13 +85,41 @@ class Said:
         """Whether values are known for which an open goal is false."""
         return any(self.goals(path).values())
 
+    def suspects(self, path):
+        """The goals of a function of which one is false if no proof can be written: those that are open, and those whose stored
+        answers are rejected."""
+        unproved = self.UNPROVED.match(self.why(path) or "")
+        found = dict.fromkeys(re.findall(r"`([^`]+)`", unproved[1]) if unproved else [])
+        rejected = [it for it, has_goal in self.rejected_answers(path).items() if has_goal]
+        return {**found, **dict.fromkeys(self.open.get(path, ())), **dict.fromkeys(rejected)}
+
+    def rejected_answers(self, path):
+        """The stored answers of a function that are rejected, and whether its body has such a goal."""
+        folder = re.escape(self.crate.answers(path))
+        found = re.findall(rf"(?m)^(?:\./)?{folder}/.*: error: `([^`]+)`(: `\w+\.\1`: module )?", self.text)
+        return {it: not gone for it, gone in found if it not in (UNREAD, *self.unasked.get(path, ()))}
+
     def to_spare(self, edit):
-        """The open goals of a mutant's function that need not be asked, since one that is enough is asked."""
+        """The goals of a mutant's function that need not be asked: those that are proved. If values are known for which one is
+        false, or its case names one, that one is enough. Nor need answers be read to goals that its body doesn't have."""
         [path, *more] = edit.paths()
-        goals = {} if more or path not in self.lines else self.goals(path)
-        asked = min(goals, key=lambda it: not goals[it], default=None)
-        stored = self.crate.answered(path) or set()
-        return [it for it in self.open.get(path, {}) if it not in stored and it != asked] if goals else []
+        if more or path not in self.lines or not self.refusals(path):
+            return []
+        suspects = self.suspects(path)
+        known = [it for it, is_false in self.goals(path).items() if is_false] or [it for it in edit.blamed if it in suspects]
+        asked = {*known[:1]} or suspects
+        # (a goal with several clauses is answered as a whole, or clause by clause)
+        stored = self.crate.answered(path) or ()
+        wholes = tuple(f"{it}-clause-" for it in stored)
+        named = [it for it in self.named.get(path, self.open.get(path, ())) if it not in asked and not it.startswith(wholes)]
+        named = [it for it in named if not any(other.startswith(f"{it}-clause-") for other in stored)]
+        return named + [it for it, has_goal in self.rejected_answers(path).items() if not has_goal]
+
+    def missing(self, edit):
+        """The goals that go unasked of a right body, and that it doesn't have: they are of mutants."""
+        folders = "|".join(re.escape(self.crate.answers(path)) for path in edit.paths())
+        found = re.findall(rf"(?m)^(?:\./)?(?:{folders})/.*: error: `([^`]+)`: `\w+\.\1`: module ", self.text)
+        return [it for it in found if it in edit.unasked]
 
 
 def spans(sources, file, text):
@@ -100,7 +130,7 @@ def spans(sources, file, text):
 
 
 def found_of(edit, said):
-    """What a check finds about a mutant, and what to print."""
+    """What a check finds about a mutant, or about a right body in place of mutants, and what to print."""
     faults, told, known = [], [], []
     for path in edit.paths():
         why = said.refusals(path) if path in said.lines else []
@@ -108,12 +138,14 @@ def found_of(edit, said):
             faults.append(f"rattle names no function {path}")
         elif said.lines[path][0] == "could not tell":
             faults.append(f"{path}: could not tell")
+        elif edit.is_right:
+            faults += [f"{path} is rejected with the right body under the assumptions of its mutants' checks: {it}" for it in why]
         elif not why:
             faults.append(f"{path} is NOT KILLED: it is proved with this body")
         else:
             known.append(said.is_false(path))
         told += [f"{path}: {it}" for it in why]
-    kind = FAULT if faults else FALSE if all(known) else OPEN
+    kind = FAULT if faults else RIGHT if edit.is_right else FALSE if all(known) else OPEN
     return kind, "; ".join(faults or told)
 
 

@@ -11,14 +11,25 @@ from functions import Sources, blanked, closing, functions
 ATTRIBUTES = re.compile(r"(?:#\[(?:[^][]|\[[^][]*\])*\]\s*)*(?:pub(?:\([^)]*\))?\s+)?(?:(?:const|unsafe)\s+)*\Z")
 # A function's clauses, each with its name if it has one; and the answers of a stored proof for one.
 ENSURES = re.compile(r"\bensures\b\*?\s*(\w*)\s*(?=\{)")
-ANSWER = re.compile(r"(?ms)^pub (returns\S*?(?:-clause-(\w+))?) : goal\.\1\n.*?(?=^pub |\Z)")
-# The files of a function's proof, and the proof that is assumed.
+ANSWER = re.compile(r"(?ms)^pub ((returns\S*?)(?:-clause-(\w+))?) : goal\.\1\n(.*?)(?=^(?:pub |abbrev )*\S+ : |\Z)")
+# The files of a function's proof, and the proof that is assumed: of a file's one hole, since rattle writes out the goal of each.
 PROOF_FILES = ("Proof.antt", "Answers.antt", "Invariants.antt")
-HOLE = """use {module}.Statement.{{statement}}
+ASSUMED = """
+assumed {ℓ} : {A : Type ℓ} → A
+assumed = ?
 
-pub {name}_spec : {{M : Type 1}} → statement M
-{name}_spec = ?
 """
+HOLE = """use {module}.Statement.{{statement}}
+{assumed}pub {name}_spec : {{M : Type 1}} → statement M
+{name}_spec = assumed
+"""
+# What stands in tests/mutants/mutants-unasked.txt for a crate whose lemmas are assumed.
+LEMMAS = "lemmas"
+# A definition or a lemma without a mark, which nothing unfolds unless it names it; and such names.
+SIGNATURE = re.compile(r"(?:pub )?([^\s:]+) :\s")
+BLOCK = re.compile(r"(?s)(?:module _\s.*?\bwhere|mutual)\n+(?=  \S)")
+USES = re.compile(r"(?:(?:use|open|mod|pub mod|pub use)\b.*\n(?:[ \t].*\n)*|[})].*\n|--.*\n|\n)*")
+UNFOLDED = re.compile(r"\bunfold(?:ing)?\b[ (]([^\n]*)")
 # Rattle writes out what is to be proved of a function that it rejects, at the cost of half the check again, unless one of the
 # function's answers can't be read. It takes the other answers as ever, so such a one ends their file.
 UNREAD = "no_lines_wanted"
@@ -38,9 +49,11 @@ class Edit:
     several functions. Some of its goals may go unasked, since another one kills it.
     """
 
+    is_right = False
+
     def __init__(self, path, sources, unasked=(), case=""):
         self.name, self.unasked = os.path.basename(path).removesuffix(".edit"), unasked
-        self.clause = None
+        self.clause, self.blamed = None, re.findall(r"`([\w-]+)`", case)
         self.bodies, self.right = {}, {}
         changes = [(file, *it) for file, text in changed(read(path), sources).items()
                    for it in bodies_changed(sources, file, text)]
@@ -65,6 +78,22 @@ class Edit:
         """Whether the two may share a check: neither replaces a function that the other changes."""
         clash = lambda one, its: {*one.replaced()} & {*its.right.values()}
         return not ({*self.paths()} & {*other.paths()} or clash(self, other) or clash(other, self))
+
+
+class Control(Edit):
+    """A right body in place of mutants of it, with what all their checks assume: so it must be proved."""
+
+    is_right = True
+
+    def __init__(self, edits, sources):
+        [first, *more] = edits
+        self.name, self.clause, self.blamed = f"right-of-{first.name}", first.clause, []
+        self.unasked = [it for it in first.unasked if all(it in other.unasked for other in more)]
+        self.bodies, self.right = {}, {}
+        for (file, path), (old, _) in first.bodies.items():
+            right = first.right[path]
+            own = right if path == right else f"{right}_{self.name.replace('-', '_')}"
+            self.bodies[file, own], self.right[own] = (old, sources.texts[file][slice(*old)]), right
 
 
 def changed(text, sources):
@@ -157,11 +186,19 @@ def clause_of(case, own):
 
 
 def of_clause(text, clause):
-    """A stored proof's text without the answers to goals of other clauses: in a function that ensures only one clause, no goal
-    has a clause's name."""
+    """A stored proof's text without the answers to goals of other clauses. A function that ensures only one clause has one goal
+    for each return: a record with the clause as its field."""
     if clause is None:
         return text
-    return re.sub(rf"-clause-{clause}\b", "", ANSWER.sub(lambda it: it[0] if it[2] == clause else "", text))
+    return ANSWER.sub(lambda it: as_record(it) if it[3] == clause else "", text)
+
+
+def as_record(answer):
+    """An answer to a goal of one clause as one to the goal of a function that ensures no other."""
+    _, goal, clause, proof = answer.groups()
+    equation = re.compile(rf"(?ms)^{re.escape(goal)}-clause-{clause}\b([^=\n]*)=(.*?)(?=^{re.escape(goal)}-clause-|\Z)")
+    made = equation.sub(lambda it: f"{goal}{it[1]}= record {{\n  {clause} = ({it[2].strip()});\n}}\n\n", proof)
+    return f"pub {goal} : goal.{goal}\n{made}"
 
 
 class Crate:
@@ -172,8 +209,9 @@ class Crate:
 
     def __init__(self, top, name, unasked=None, cases=None):
         self.name, self.folder = name, os.path.join(top, "crates", name)
+        self.assumes_lemmas = LEMMAS in (unasked or {}).get(name, ())
         self.checks, self.taken = [], []
-        self.edits, self.unfit = [], {}
+        self.edits, self.controls, self.unfit = [], [], {}
         room = os.path.join(self.folder, "mutants")
         files = sorted(it for it in os.listdir(room) if it.endswith(".edit")) if os.path.isdir(room) else []
         self.sources = Sources(self.folder, name) if files else None
@@ -184,6 +222,14 @@ class Crate:
                 self.edits.append(Edit(os.path.join(room, file), self.sources, goals, case))
             except Unfit as why:
                 self.unfit[edit] = str(why)
+        self.controls = self.made_controls()
+
+    def made_controls(self):
+        """The right bodies of its mutants, each once for all that are of the same clause."""
+        alike = {}
+        for edit in self.edits:
+            alike.setdefault((*edit.right.values(), edit.clause), []).append(edit)
+        return [Control(it, self.sources) for it in alike.values()]
 
     def weight(self):
         """The cost of its checks, roughly: the lines of its code, and some for each mutant."""
@@ -203,7 +249,7 @@ class Crate:
 
     def right_of(self, path):
         """The path of the original of a function in a check."""
-        return next((it.right[path] for it in self.edits if path in it.right), path)
+        return next((it.right[path] for it in [*self.edits, *self.controls] if path in it.right), path)
 
     def stored(self, path):
         """The files of a function's proof, by their names."""
@@ -218,7 +264,7 @@ class Crate:
 
     def ensured_by(self, path):
         """The only clause that a function ensures in a check; None if it ensures what the original does."""
-        return next((it.clause for it in self.edits if path in it.right), None)
+        return next((it.clause for it in [*self.edits, *self.controls] if path in it.right), None)
 
     def answered(self, path):
         """The goals for which the function's proof files have answers; None if there is no such file."""
@@ -254,7 +300,8 @@ class Crate:
             self.taken = [*texts_under(self.folder, "specs"), *lemmas(self.folder), *self.outlines()]
         bodies = [(file, path, edit.right[path], new) for (file, path), (_, new) in edit.bodies.items()]
         stored = [(name, read(file)) for path in edit.paths() for name, file in sorted(self.stored(path).items())]
-        return sum_of(self.name, self.taken, edit.name, edit.clause, bodies, stored, sorted(edit.unasked))
+        assumed = self.assumes_lemmas, sorted(edit.unasked)
+        return sum_of(self.name, self.taken, edit.name, edit.clause, bodies, stored, assumed)
 
     def outlines(self):
         """The crate's files without the lines of bodies that are assumed."""
@@ -268,12 +315,23 @@ class Crate:
                 shutil.copytree(os.path.join(self.folder, part), os.path.join(room, part))
         for file, text in self.texts(group).items():
             write(os.path.join(room, file), text)
+        if self.assumes_lemmas:
+            self.assume_lemmas(room)
         paths = {path: edit.clause for edit in group for path in edit.paths()}
         for it in (it for found in self.sources.found.values() for it in found):
             if self.sources.path(it) not in paths:
                 self.take_at_its_word(room, self.sources.path(it))
         for path, clause in paths.items():
             self.prove_as_the_right_one(room, path, clause)
+
+    def assume_lemmas(self, room):
+        """Leaves holes for the proofs of the crate's lemmas, in a folder with it."""
+        texts = [*texts_under(room, "proofs"), *texts_under(room, "specs"), *self.sources.texts.items()]
+        unfolded = {word for _, text in texts for found in UNFOLDED.findall(text) for word in re.findall(r"[^\s,():]+", found)}
+        for file, text in lemmas(room):
+            uses = USES.match(text)[0]
+            rest = with_lemmas_assumed(text[len(uses) :], unfolded)
+            write(os.path.join(room, file), uses + ASSUMED * (" = assumed\n" in rest) + rest)
 
     def prove_as_the_right_one(self, room, path, clause):
         """Gives a body beside the original that one's proof, under its own name, as far as it belongs to a clause."""
@@ -291,16 +349,16 @@ class Crate:
         return f"Rattle.{self.name}.proofs.{'.'.join(path.split('::')[1:])}"
 
     def shorten(self, room, group, brief):
-        """Makes rattle say little about some functions of a group, and ask no goal that need not be, in a folder with it."""
+        """Makes rattle say little about some functions of a group, and assume each goal that need not be asked, in a folder
+        with it."""
         for edit in group:
-            for path in brief.intersection(edit.paths()):
+            for path in self.brief([edit]) if edit.is_right else brief.intersection(edit.paths()):
                 file = os.path.join(room, self.answers(path), "Answers.antt")
                 text = read(file) if os.path.exists(file) else ""
-                goals = [it for it in edit.unasked if it not in (self.answered(path) or ())]
-                if goals:
-                    name, text = self.named_goals(path, text)
-                    text += "".join(f"\npub {it} : {name}.{it}\n{it} = ?\n" for it in goals)
-                write(file, text + UNREAD_ANSWER)
+                if edit.unasked:
+                    name, text = self.named_goals(path, unanswered(text, edit.unasked))
+                    text += ASSUMED + "".join(f"pub {it} : {name}.{it}\n{it} = assumed\n\n" for it in edit.unasked)
+                write(file, text + UNREAD_ANSWER * (not edit.is_right))
 
     def named_goals(self, path, text):
         """The name that a function's answers use for the module of its goals, and their text with a name for it."""
@@ -314,7 +372,7 @@ class Crate:
         for name in PROOF_FILES:
             if os.path.exists(os.path.join(folder, name)):
                 os.remove(os.path.join(folder, name))
-        hole = HOLE.format(module=self.module(path), name=path.rpartition("::")[2])
+        hole = HOLE.format(module=self.module(path), assumed=ASSUMED, name=path.rpartition("::")[2])
         write(os.path.join(folder, PROOF_FILES[0]), hole)
 
 
@@ -324,6 +382,48 @@ def outline(text, found, keeps):
         if not keeps(it):
             text = f"{text[: it.body[0]]}{{}}{text[it.body[1] :]}"
     return text
+
+
+def parts_of(text):
+    """The parts of a file of lemmas: each begins with a line at the left, and goes on to the next one."""
+    return re.split(r"(?m)^(?=[^\s})\]])", text)
+
+
+def with_lemmas_assumed(text, unfolded):
+    """A file of lemmas with a hole for the proof of each lemma, except for what something unfolds."""
+    made, parts = [], parts_of(re.sub(r"(?m)^ *--.*\n", "", text))
+    while parts:
+        part = parts.pop(0)
+        inner = BLOCK.match(part)
+        if inner:
+            lines = with_lemmas_assumed(re.sub(r"(?m)^  ", "", part[inner.end() :]), unfolded)
+            part = part[: inner.end()] + re.sub(r"(?m)^(?=.)", "  ", lines)
+        made += [part, *proof_of(part, parts, unfolded)]
+    return "".join(made)
+
+
+def proof_of(part, parts, unfolded):
+    """Takes the proof of a lemma from the parts behind it: a hole in its place, or what stands there if something unfolds it."""
+    named, proof = SIGNATURE.match(part), []
+    clause = re.compile(rf"unfolding\s|{re.escape(named[1])}\s") if named and named[1] not in unfolded else None
+    while clause and parts and clause.match(parts[0]):
+        proof.append(parts.pop(0))
+    if any(not it.startswith("unfolding") for it in proof):
+        return [f"{named[1]} = assumed\n\n"]
+    return proof
+
+
+def unanswered(text, goals):
+    """The text of a function's answers without those to some goals."""
+    kept, parts = [], parts_of(text)
+    while parts:
+        part = parts.pop(0)
+        named = SIGNATURE.match(part)
+        if named and named[1] in goals:
+            proof_of(part, parts, ())
+        else:
+            kept.append(part)
+    return "".join(kept)
 
 
 def texts_under(folder, part):

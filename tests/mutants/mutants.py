@@ -5,7 +5,7 @@ Such a file is written like those of must-fail/: a line `file: src/lib.rt` and p
 Each old text must be in the file once. Many mutants share a check of their crate, over the libraries that `rt ci` left in
 crates/*/out. Each is a function beside the original, with another name. It ensures only the clause with which its case in
 tests/mutants/mutants-by-hand.txt begins. The originals are assumed to meet their contracts: a check proves none of them, since
-`rt ci` has, and needs nothing that an earlier check kept.
+`rt ci` has.
 
 A mutant is killed if each function that it changes is rejected for its own sake, and rattle knows values for which an
 open goal of it is false, or tests/mutants/mutants-by-hand.txt has a case for which a clause is. An open goal alone isn't enough,
@@ -18,16 +18,24 @@ check read. A later run, in any clone, tries only the mutants for which somethin
     tests/mutants/mutants.py [CRATE..]          all crates, or these
     tests/mutants/mutants.py --anew [CRATE..]   tries the kept ones again, too
     tests/mutants/mutants.py --fit [CRATE..]    says in a second which mutants no longer fit, and tries none
-    tests/mutants/mutants.py --all-goals ..     asks every goal, and writes tests/mutants/mutants-unasked.txt again for these crates
+    tests/mutants/mutants.py --right ..         the control: tries the right bodies in place of the mutants, under the same
+                                        assumptions, and each must be proved
+    tests/mutants/mutants.py --all-goals ..     asks every goal, writes tests/mutants/mutants-unasked.txt again for these crates,
+                                        and then tries the right bodies
     rt ci | tests/mutants/mutants.py --beside   begins with a crate as soon as the lines of `rt ci` show that it has proved the
                                         libraries below it, one check at a time until `rt ci` has ended; tries no more
                                         if that was broken off, so that its last line doesn't count
 
-If a mutant leaves several goals open, one is enough to kill it, and each takes seconds. So the goals in
-tests/mutants/mutants-unasked.txt are left as holes; if no other one is open, the mutant is tried again with them.
+One false goal is enough to kill a mutant, and each goal costs: the search for the proof of one that is open, and the proof of
+one that isn't. So the goals in tests/mutants/mutants-unasked.txt are assumed; if no other one is open, the mutant is tried
+again with all of them. A goal stands there if it is proved with the mutant, so that it isn't the false one; or if another one is
+known to be false, by values or by the mutant's case, which may name it in backquotes. If the crate stands there too, its lemmas
+are assumed. Nothing of a crate stands there if a right body isn't proved under these assumptions.
 
 The output of a check is in build/mutants/ afterwards.
 """
+import glob
+import json
 import os
 import re
 import shutil
@@ -41,21 +49,24 @@ from threading import Thread
 
 from judging import FAULT, OPEN, Said, judged
 from kept import Kept, folder_beside
-from mutant_checks import Crate, below, crates_of, joined, read, write
+from mutant_checks import LEMMAS, Crate, below, crates_of, joined, read, write
 
 TOP = os.path.dirname(os.path.dirname(os.path.dirname(os.path.realpath(__file__))))
 # The memory limit of a check, in bytes.
 NEED = 2_500_000_000
 BY_HAND = os.path.join(TOP, "tests", "mutants", "mutants-by-hand.txt")
 UNASKED = os.path.join(TOP, "tests", "mutants", "mutants-unasked.txt")
-OPTIONS = ("--anew", "--fit", "--all-goals", "--beside")
+# What a kept file says of a module, and the names of goals that may be dear.
+INTERFACE = re.compile(rb"(?m)^--@ interface (.*)$")
+DEAR = re.compile(r"(?!lives-|drop-|branch-|from_residual-)(?:returns|invariant_of|.*-requires)")
+OPTIONS = ("--anew", "--fit", "--all-goals", "--right", "--beside")
 
 
 class Checker:
     """Checks crates of a repository with the libraries that were built in their out/."""
 
-    def __init__(self, top, uses):
-        self.top, self.uses = top, uses
+    def __init__(self, top, uses, names_goals=False):
+        self.top, self.uses, self.names_goals = top, uses, names_goals
         self.kit = os.path.dirname(os.path.dirname(os.path.realpath(shutil.which("rt"))))
 
     def rlib(self, name):
@@ -67,7 +78,8 @@ class Checker:
         return [it for it in below(self.uses, crate.name) if not (proofs.has(it) and os.path.isdir(self.rlib(it)))]
 
     def words(self, crate, kept, paths):
-        """The command that checks these functions of a crate; other functions are taken by their contracts."""
+        """The command that checks these functions of a crate, over what is kept in a folder, if there is one; other functions
+        are taken by their contracts."""
         root = "src/main.rt" if "src/main.rt" in crate.sources.texts else "src/lib.rt"
         words = [os.path.join(self.kit, "bin", "rattle"), "check", "--crate-name", crate.name, root]
         for dep in ["std", *self.uses[crate.name]]:
@@ -77,24 +89,26 @@ class Checker:
             words += ["-L", f"dependency={folder}"]
         words += ["--antt-project", os.path.join(self.kit, "rattle", "logic", "antt-project.json")]
         words += ["--logic-built", os.path.join(self.kit, "logic_built"), "--links", f"{crate.name}="]
-        words += ["--jobs", "1", "--incremental", kept, "--allow-holes"]
+        words += ["--jobs", "1", "--allow-holes", *(["--incremental", kept] if kept else [])]
         return words + [word for path in sorted(paths) for word in ("--only", path.partition("::")[2])]
 
-    def check(self, crate, group, brief, kept):
+    def check(self, crate, group, brief, shared):
         """What a check of the functions that a group changes costs, what rattle says about them (about some in brief), and how
         it ends.
 
-        Each later check has a copy of what the crate's first one keeps, since rattle can't share such a folder.
+        If a folder is shared by the crate's checks, the first one keeps there what serves the others. Each of these has a copy,
+        since rattle can't share such a folder.
         """
         with tempfile.TemporaryDirectory(prefix="mutants-") as top:
             room, own = os.path.join(top, "crate"), os.path.join(top, "kept")
-            os.mkdir(room)
-            if crate.checks:
-                shutil.copytree(kept, own)
+            if shared and crate.checks:
+                shutil.copytree(shared, own)
+            kept = shared if shared and not crate.checks else own
             crate.furnish(room, group)
             crate.shorten(room, group, brief)
             paths = {path for edit in group for path in edit.paths()}
-            return self.ran(self.words(crate, own if crate.checks else kept, paths), room)
+            cost, said, status = self.ran(self.words(crate, kept if shared or self.names_goals else None, paths), room)
+            return cost, said + "".join(goals_in(kept, crate, it) for it in paths if self.names_goals), status
 
     def ran(self, words, room):
         """The processor time of a command, its output, and its status."""
@@ -105,6 +119,18 @@ class Checker:
                 it.returncode = os.waitstatus_to_exitcode(status)
             said.seek(0)
             return used.ru_utime + used.ru_stime, said.read(), it.returncode
+
+
+def goals_in(kept, crate, path):
+    """A line with the goals of a function that may be dear, by what a check kept; nothing, if it kept nothing."""
+    module = crate.module(path).replace(".", "-", 2)
+    [file, *_] = glob.glob(os.path.join(kept, "*", f"{module}.Proof.oantt")) or [None]
+    if file is None:
+        return ""
+    with open(file, "rb") as it:
+        names = [it["name"] for it in json.loads(INTERFACE.search(it.read())[1])["globals"]]
+    dear = [it for it in names if DEAR.match(it) and not any(other.startswith(f"{it}-clause-") for other in names)]
+    return f"goals of {path}: {' '.join(dear)}\n"
 
 
 class Proofs:
@@ -141,18 +167,19 @@ class Proofs:
 class Trial:
     """A crate's mutants as they are tried: what was found about them, and the groups that are still to be tried.
 
-    The first check keeps what serves the others, of which each has a copy; so these begin when the first one has ended.
+    Of several checks the first one keeps what serves the others, of which each has a copy; so these begin when it has ended.
     """
 
-    def __init__(self, crate, checker, by_hand, kept):
+    def __init__(self, crate, checker, by_hand, kept, of_right_bodies=False):
         self.crate, self.checker, self.by_hand, self.kept = crate, checker, by_hand, kept
-        self.folder = tempfile.TemporaryDirectory(prefix="mutants-kept-")
+        self.is_of_right_bodies, self.edits = of_right_bodies, crate.controls if of_right_bodies else crate.edits
         self.found = [(False, f"{crate.name}/{name}", f"it no longer fits: {why}") for name, why in crate.unfit.items()]
-        self.sums = {it: kept.name(crate, it) for it in crate.edits}
-        known = {it: found for it in crate.edits for found in [kept.found(self.sums[it])] if found}
+        self.sums = {it: kept.name(crate, it) for it in self.edits}
+        known = {it: found for it in self.edits for found in [kept.found(self.sums[it])] if found}
         self.found += [self.settled(kind, f"{crate.name}/{it.name}", why) for it, (kind, why) in known.items()]
         self.known, self.full, self.killed, self.running, self.spared = len(known), set(), set(), 0, {}
-        self.left = crate.groups([it for it in crate.edits if it not in known])
+        self.left = crate.groups([it for it in self.edits if it not in known])
+        self.folder = tempfile.TemporaryDirectory(prefix="mutants-kept-") if len(self.left) > 1 else None
 
     def settled(self, kind, name, why):
         """Whether a mutant with this finding passes, with its name and what to print."""
@@ -167,17 +194,18 @@ class Trial:
             self.left = []
             why = f"no library of {', '.join(lacking)} is built: run rt ci first"
             self.found.append((False, self.crate.name, why))
-        if lacking or self.running and not self.crate.checks:
+        is_first = self.folder and not self.crate.checks
+        if lacking or is_first and self.running:
             return []
-        groups = self.left if self.crate.checks else self.left[:1]
+        groups = self.left[:1] if is_first else self.left
         self.left = self.left[len(groups) :]
         self.running += len(groups)
         return groups
 
     def check(self, group):
         """Tries a group: the cost of its check, its output, and how the check ended."""
-        brief = self.crate.brief([it for it in group if it not in self.full])
-        cost, said, status = self.checker.check(self.crate, group, brief, self.folder.name)
+        brief = self.crate.brief([it for it in group if it not in self.full and not it.is_right])
+        cost, said, status = self.checker.check(self.crate, group, brief, self.folder and self.folder.name)
         return cost, Said(self.crate, group, said, brief), status
 
     def take(self, group, cost, said, status):
@@ -187,7 +215,8 @@ class Trial:
             self.take_killed(group, status)
             return
         self.crate.checks.append((cost, [it.name for it in group]))
-        save(self.checker.top, f"{self.crate.name}-{len(self.crate.checks)}.log", said.text)
+        kind = "-right" if self.is_of_right_bodies else ""
+        save(self.checker.top, f"{self.crate.name}{kind}-{len(self.crate.checks)}.log", said.text)
         if said.lines:
             self.take_told(group, said)
         else:
@@ -216,13 +245,21 @@ class Trial:
         # If nothing is open, the mutant is checked in full: its body is proved, or rejected in another way.
         silent = [it for it in group if it not in waiting and said.silent(it)]
         self.full.update(silent)
-        again = [*waiting, *silent]
-        self.left += joined([], again) if len(again) < len(group) else [[it] for it in again]
+        lacking = self.without_goals_of_mutants(group, said)
+        again = [*dict.fromkeys([*waiting, *silent, *lacking])]
+        self.left += joined([], again) if lacking or len(again) < len(group) else [[it] for it in again]
         self.spared.update({it: said.to_spare(it) for it in group if it not in again})
         names = {f"{self.crate.name}/{it.name}" for it in again}
         found = [it for it in judged(self.crate, group, said) if it[1] not in names]
         self.found += [self.settled(*it) for it in found]
         self.keep(group, found)
+
+    def without_goals_of_mutants(self, group, said):
+        """The right bodies that are tried again, without the goals that only their mutants have."""
+        found = {it: said.missing(it) for it in group if it.is_right}
+        for it, missing in found.items():
+            it.unasked = [goal for goal in it.unasked if goal not in missing]
+        return [it for it, missing in found.items() if missing]
 
     def keep(self, group, found):
         """Keeps what was found about the killed mutants of a group, unless the check shows another fault."""
@@ -284,11 +321,18 @@ def noted(path):
     return dict(line.split(": ", 1) for line in lines)
 
 
-def note_unasked(path, trials):
-    """Writes which goals need not be asked of these crates' mutants, as the trials showed."""
+def noted_unasked():
+    """The goals that need not be asked of a mutant, by its crate and name."""
+    return {name: it.split(", ") for name, it in noted(UNASKED).items()}
+
+
+def note_unasked(path, trials, unsafe=()):
+    """Writes which goals need not be asked of these crates' mutants, as the trials showed, and that their lemmas are assumed;
+    nothing of crates for which that is unsafe."""
     names = {it.crate.name for it in trials}
     told = {name: goals for name, goals in noted(path).items() if name.split("/")[0] not in names}
-    for it in trials:
+    for it in (it for it in trials if it.crate.name not in unsafe):
+        told[it.crate.name] = LEMMAS
         told.update({f"{it.crate.name}/{edit.name}": ", ".join(goals) for edit, goals in it.spared.items() if goals})
     comment = [line for line in read(path).split("\n") if line.startswith("#")]
     write(path, "\n".join([*comment, "", *(f"{name}: {told[name]}" for name in sorted(told)), ""]))
@@ -321,11 +365,11 @@ def main(words):
         return 2
     names = [it for it in words if it not in OPTIONS]
     by_hand = noted(BY_HAND)
-    unasked = {} if "--all-goals" in words else {name: it.split(", ") for name, it in noted(UNASKED).items()}
+    unasked = {} if "--all-goals" in words else noted_unasked()
     crates = [Crate(TOP, name, unasked, by_hand) for name in uses if not names or name in names]
     crates = [it for it in crates if it.sources]
     known = {f"{it.name}/{name}" for it in crates for name in [*it.unfit, *(edit.name for edit in it.edits)]}
-    passed = failed = 0
+    failed = 0
     for name in by_hand:
         if name not in known and (not names or name.split("/")[0] in names):
             print(f"FAILED {name}: tests/mutants/mutants-by-hand.txt names it, and there is no such mutant", flush=True)
@@ -335,33 +379,43 @@ def main(words):
         for name, why in unfit:
             print(f"FAILED {name}: it no longer fits: {why}")
         return finished(len(known) - len(unfit), failed + len(unfit))
-    checker = Checker(TOP, uses)
+    checker = Checker(TOP, uses, "--all-goals" in words)
     anew = not {"--anew", "--all-goals"}.isdisjoint(words)
     kept = Kept(TOP, uses, checker.kit, folder_beside(checker.kit), anew)
-    trials = [Trial(it, checker, by_hand, kept) for it in sorted(crates, key=Crate.weight, reverse=True)]
+    crates.sort(key=Crate.weight, reverse=True)
+    trials = [Trial(it, checker, by_hand, kept, "--right" in words) for it in crates]
     proofs = Proofs(open(0, encoding="utf-8", errors="replace") if "--beside" in words else None)
-    for trial in tried(trials, processors(), proofs):
-        tell(trial)
-        passed += sum(well for well, _, _ in trial.found)
-        failed += sum(not well for well, _, _ in trial.found)
+    found = told(trials, proofs)
     proofs.hear_out()
-    kept.shrink()
     if "--all-goals" in words:
         note_unasked(UNASKED, trials)
-    return finished(passed, failed)
+        controls = [Trial(Crate(TOP, it.name, noted_unasked(), by_hand), checker, by_hand, kept, True) for it in crates]
+        found += told(controls, proofs)
+        note_unasked(UNASKED, trials, [it.crate.name for it in controls if not all(well for well, _, _ in it.found)])
+    kept.shrink()
+    return finished(sum(found), failed + found.count(False))
+
+
+def told(trials, proofs):
+    """Tries mutants, or the right bodies, and tells of them: whether each passes."""
+    found = []
+    for trial in tried(trials, processors(), proofs):
+        tell(trial)
+        found += [well for well, _, _ in trial.found]
+    return found
 
 
 def tell(trial):
     """Prints the cost and the result of a trial."""
     crate = trial.crate
+    kind, well = ("right bodies", "proved") if trial.is_of_right_bodies else ("mutants", "killed")
     cost = f"checks {len(crate.checks)}, {sum(cost for cost, _ in crate.checks):.0f} s of processor"
-    count = f"mutants {len(crate.edits) + len(crate.unfit)}, of them kept {trial.known}"
-    print(f"-- {crate.name}: {count}, {cost}", flush=True)
+    print(f"-- {crate.name}: {kind} {len(trial.edits)}, of them kept {trial.known}, {cost}", flush=True)
     for at, (cost, names) in enumerate(crate.checks, 1):
         of = ", ".join(names[:8]) + " .." * (len(names) > 8)
-        print(f"   check {at}: {cost:.0f} s, mutants {len(names)}: {of}", flush=True)
-    for well, name, text in trial.found:
-        print(f"{'killed' if well else 'FAILED'} {name}: {text[:400]}", flush=True)
+        print(f"   check {at}: {cost:.0f} s, {kind} {len(names)}: {of}", flush=True)
+    for passes, name, text in trial.found:
+        print(f"{well if passes else 'FAILED'} {name}: {text[:400]}", flush=True)
 
 
 def finished(passed, failed):

@@ -96,6 +96,7 @@ EDITS = {
     "from-other": ("doubled(n) + doubled(n)", "u16::from(&Pair { one: 0, other: 0 })"),
 }
 DOUBLED = "small::doubled_added_once"
+DOUBLED_RIGHT = "small::doubled_right_of_added_once"
 # What is said about it: an open goal, and one that is known to be false.
 OPEN = "note: src/lib.rt:27:1: it is not proved that what the function ensures holds when it returns (`returns`)\n"
 FALSE = OPEN.replace("\n", "; the facts known there allow values at which this goal is false\n")
@@ -126,14 +127,14 @@ class Small:
     def uses(self):
         return mutant_checks.crates_of(self.folder.name)
 
-    def trial(self, unasked=None):
-        return self.tried_by(mutants.Checker(self.folder.name, self.uses()), {}, unasked)
+    def trial(self, unasked=None, of_right_bodies=False):
+        return self.tried_by(mutants.Checker(self.folder.name, self.uses()), {}, unasked, of_right_bodies)
 
-    def tried_by(self, checker, by_hand, unasked=None):
+    def tried_by(self, checker, by_hand, unasked=None, of_right_bodies=False):
         """A trial that keeps its findings in the repository's own folder."""
         kit = mutants.Checker(self.folder.name, self.uses()).kit
         kept = Kept(self.folder.name, self.uses(), kit, os.path.join(self.folder.name, "kept"))
-        return mutants.Trial(self.crate(unasked), checker, by_hand, kept)
+        return mutants.Trial(self.crate(unasked), checker, by_hand, kept, of_right_bodies)
 
     def judged(self, said, by_hand=()):
         trial = self.tried_by(None, by_hand)
@@ -177,10 +178,44 @@ def goals_that_go_unasked():
     same("checks", [names for _, names in trial.crate.checks], [["neither", "one-of-two"], ["one-of-two"]])
 
 
+def right_bodies_under_the_assumptions_of_mutants():
+    trial = Small("neither", "one-of-two", "from-none").trial({
+        "small/neither": ["returns-clause-other", "gone"], "small/one-of-two": ["returns-clause-other", "returns-clause-one"],
+    }, True)
+    same("right bodies", [(it.name, it.paths(), it.unasked) for it in trial.edits], [
+        ("right-of-from-none", ["small::U16FromRefPair::from"], []),
+        ("right-of-neither", ["small::twice_right_of_neither"], ["returns-clause-other"]),
+    ])
+    found = tried(trial)
+    expect(found, "small/right-of-from-none", True, "")
+    expect(found, "small/right-of-neither", True, "")
+
+
+def right_bodies_without_goals_that_only_their_mutants_have():
+    trial = Small("neither").trial({"small/neither": ["returns-clause-other", "gone"]}, True)
+    expect(tried(trial), "small/right-of-neither", True, "")
+    same("what is assumed", trial.edits[0].unasked, ["returns-clause-other"])
+    same("checks", [names for _, names in trial.crate.checks], [["right-of-neither"], ["right-of-neither"]])
+
+
+def a_right_body_that_is_rejected():
+    for said, well, words in (
+        ("depends on a hole in `Rattle.small.proofs.doubled_right_of_added_once.Answers.assumed`", True, ""),
+        ("no holes", True, ""),
+        ("no proof: `search` did not prove `returns`", False, "is rejected with the right body"),
+        ("could not tell", False, "could not tell"),
+    ):
+        small = Small("added-once")
+        trial = small.tried_by(Told(small.folder.name, {"right-of-added-once": f"fn {DOUBLED_RIGHT}: {said}\n"}), {}, None, True)
+        expect(tried(trial), "small/right-of-added-once", well, words)
+        same("what is kept", len(small.tried_by(None, {}, None, True).left), 0 if well else 1)
+
+
 def answers_of_a_body_beside_the_right_one():
     small = Small("neither")
     use = "use Rattle.small.proofs.{}.Goals as "
-    for stored, name in (("", "unasked"), (f"{use.format('twice')}goal\n", "goal")):
+    answer = "\npub returns-clause-one : goal.returns-clause-one\nreturns-clause-one g c = it_is g\n"
+    for stored, name in (("", "unasked"), (f"{use.format('twice')}goal\n{answer}", "goal")):
         small.write("crates/small/proofs/twice/Answers.antt", stored)
         crate, room = small.crate({"small/neither": ["returns-clause-one"]}), os.path.join(small.folder.name, name)
         crate.furnish(room, crate.edits)
@@ -188,12 +223,15 @@ def answers_of_a_body_beside_the_right_one():
         text = mutant_checks.read(os.path.join(room, "proofs/twice_neither/Answers.antt"))
         same("whether its answers name its goals so", text.startswith(f"{use.format('twice_neither')}{name}\n"), True)
         same("how often the goals are brought in", text.count("Goals as "), 1)
-        same("whether the goal is left as a hole",
-             f"\npub returns-clause-one : {name}.returns-clause-one\nreturns-clause-one = ?\n" in text, True)
+        same("whether the goal is assumed",
+             f"\npub returns-clause-one : {name}.returns-clause-one\nreturns-clause-one = assumed\n" in text, True)
+        same("whether its stored answer goes", "it_is" in text, False)
 
 
 def goals_that_need_not_be_asked():
-    trial = Small("neither").trial()
+    small = Small("neither")
+    trial = small.trial()
+    [blaming] = small.crate(None, {"small/neither": "its clauses (`returns-clause-one`): of 1 it answers 0"}).edits
     note = "note: src/lib.rt:59:1: it is not proved that what the function ensures holds when it returns (`{}`){}\n"
     false = "; the facts known there allow values at which this goal is false"
     said = note.format("returns-clause-one", "") + note.format("returns-clause-other", false)
@@ -201,10 +239,27 @@ def goals_that_need_not_be_asked():
     group = trial.crate.edits
     trial.take(group, 1, judging.Said(trial.crate, group, said, {"small::twice_neither"}), 0)
     same("what need not be asked", trial.spared, {group[0]: ["returns-clause-one"]})
+    for more, edit, known, spared in (
+        ("", group[0], false, ["id-requires", "returns-clause-one"]),
+        # (if none is known to be false, each may be it that is open or has a rejected answer)
+        ("", group[0], "", ["id-requires"]),
+        ("proofs/twice_neither/Answers.antt:1:1: error: `id-requires`: differs\n", group[0], "", []),
+        ("proofs/twice_neither/Answers.antt:1:1: error: `gone`: `goal.gone`: module `Goals`\n", group[0], "",
+         ["id-requires", "gone"]),
+        ("", blaming, "", ["id-requires", "returns-clause-other"]),
+    ):
+        said = note.format("returns-clause-one", "") + note.format("returns-clause-other", known) + more
+        said += "fn small::twice_neither: not proved\n"
+        said += "goals of small::twice_neither: id-requires returns-clause-one returns-clause-other\n"
+        told = judging.Said(trial.crate, [edit], said, {"small::twice_neither"})
+        same("what need not be asked where goals are proved", told.to_spare(edit), spared)
     file = os.path.join(trial.checker.top, "unasked.txt")
     mutant_checks.write(file, "# Told.\n\nother/one: a, b\nsmall/gone: c\n")
     mutants.note_unasked(file, [trial])
-    same("what is written", mutant_checks.read(file), "# Told.\n\nother/one: a, b\nsmall/neither: returns-clause-one\n")
+    mine = "small: lemmas\nsmall/neither: returns-clause-one\n"
+    same("what is written", mutant_checks.read(file), f"# Told.\n\nother/one: a, b\n{mine}")
+    mutants.note_unasked(file, [trial], ["small"])
+    same("what is written if a right body is rejected", mutant_checks.read(file), "# Told.\n\nother/one: a, b\n")
 
 
 class Told:
@@ -216,7 +271,7 @@ class Told:
     def lacking(self, _crate, proofs):
         return [] if proofs.has("low") else ["low"]
 
-    def check(self, _crate, group, _brief, _kept):
+    def check(self, _crate, group, _brief, _shared):
         return 1, self.said[" ".join(it.name for it in group)], 1
 
 
@@ -385,8 +440,73 @@ def what_is_not_changed_is_taken_at_its_word():
         "proofs/twice/Proof.antt", "proofs/U16FromRefPair/from/Proof.antt", "proofs/doubled_added_once/Answers.antt",
     })
     with open(os.path.join(room, "proofs/Pair/first/Proof.antt"), encoding="utf-8") as it:
-        same("a hole", it.read(), "use Rattle.small.proofs.Pair.first.Statement.{statement}\n\n"
-             "pub first_spec : {M : Type 1} \u2192 statement M\nfirst_spec = ?\n")
+        same("a hole", it.read(), "use Rattle.small.proofs.Pair.first.Statement.{statement}\n"
+             f"{mutant_checks.ASSUMED}pub first_spec : {{M : Type 1}} \u2192 statement M\nfirst_spec = assumed\n")
+
+
+LEMMAS = """use Words.{N}
+
+-- what it says
+lemma : (n : N) \u2192
+    n \u2261 n
+unfolding opened
+lemma zero = refl
+lemma (suc n) = by n
+  where
+    by : N
+    by = n
+
+opened : N \u2192 N
+opened n = n
+
+abbrev pub open : N
+open = zero
+
+module _ (n : N) where
+  -- of n
+  pub inner : n \u2261 n
+  inner = record {
+    at = n;
+  }
+
+record Two : Type 0 where
+  one : N
+
+◌!◌ : N \u2192 N
+a ! b = a
+"""
+ASSUMED = f"""use Words.{{N}}
+
+-- what it says
+{mutant_checks.ASSUMED}lemma : (n : N) \u2192
+    n \u2261 n
+lemma = assumed
+
+opened : N \u2192 N
+opened n = n
+
+abbrev pub open : N
+open = zero
+
+module _ (n : N) where
+  pub inner : n \u2261 n
+  inner = assumed
+
+record Two : Type 0 where
+  one : N
+
+◌!◌ : N \u2192 N
+a ! b = a
+"""
+
+
+def lemmas_are_taken_at_their_word():
+    small = Small("added-once")
+    small.write("crates/small/proofs/Words.antt", LEMMAS)
+    for unasked, text in (({}, LEMMAS), ({"small": ["lemmas"]}, ASSUMED)):
+        crate, room = small.crate(unasked), os.path.join(small.folder.name, f"room{len(unasked)}")
+        crate.furnish(room, crate.edits)
+        same("lemmas", mutant_checks.read(os.path.join(room, "proofs/Words.antt")), text)
 
 
 def a_body_ensures_what_its_case_is_of():
@@ -394,6 +514,8 @@ def a_body_ensures_what_its_case_is_of():
     answers = [f"pub returns-clause-{it} : goal.returns-clause-{it}\nreturns-clause-{it} g c = {it}_is g\n\n"
                for it in ("one", "other")]
     lemma = "one_is : (g : Ghosts) \u2192 g.one \u2261 g.one\none_is g = refl\n\n"
+    between = "between : N\nbetween = zero\n\n"
+    answers[0] += between
     small.write("crates/small/proofs/twice/Answers.antt", lemma + "".join(answers))
     cases = {"small/neither": "other: of 1 it answers 0", "small/one-of-two": "its one clause: of 1 it answers 0"}
     crate, room = small.crate(cases=cases), os.path.join(small.folder.name, "room")
@@ -401,8 +523,8 @@ def a_body_ensures_what_its_case_is_of():
     heads = re.findall(r"fn (twice_\w+)[^\n]*\n(.*?)\n\{", mutant_checks.read(os.path.join(room, "src/lib.rt")), re.DOTALL)
     one, other = (f"    ensures {it} {{ result.{at} \u2261 n }}" for at, it in enumerate(("one", "other")))
     same("what each ensures", dict(heads), {"twice_neither": other, "twice_one_of_two": f"{one}\n{other}"})
-    alone = answers[1].replace("returns-clause-other", "returns")
-    for name, kept in (("neither", lemma + alone), ("one_of_two", lemma + "".join(answers))):
+    alone = "pub returns : goal.returns\nreturns g c = record {\n  other = (other_is g);\n}\n\n"
+    for name, kept in (("neither", lemma + between + alone), ("one_of_two", lemma + "".join(answers))):
         same(f"the answers of {name}", mutant_checks.read(os.path.join(room, f"proofs/twice_{name}/Answers.antt")), kept)
     same("which goals of its clause have answers", crate.answered("small::twice_neither"), {"returns"})
     sums = [{it.name: its.sum_of(it) for it in its.edits} for its in (crate, small.crate())]
@@ -611,12 +733,15 @@ def what_shares_a_check_with_another_fault_is_not_kept():
 PROVER = [
     what_the_prover_says,
     goals_that_go_unasked,
+    right_bodies_under_the_assumptions_of_mutants,
+    right_bodies_without_goals_that_only_their_mutants_have,
 ]
 STAND_INS = [
     edits_that_no_longer_fit,
     unknown_words_are_a_mistake,
     mutants_that_share_a_check,
     what_is_not_changed_is_taken_at_its_word,
+    lemmas_are_taken_at_their_word,
     a_body_ensures_what_its_case_is_of,
     a_caller_is_not_blamed_for_its_callee,
     a_refused_lemma_is_told_of,
@@ -632,6 +757,7 @@ STAND_INS = [
     a_crate_waits_for_its_libraries,
     one_check_at_a_time_beside_the_proofs,
     nothing_is_tried_once_the_proofs_are_broken_off,
+    a_right_body_that_is_rejected,
     answers_of_a_body_beside_the_right_one,
     goals_that_need_not_be_asked,
 ]

@@ -103,9 +103,11 @@ class Row:
 
     def is_drawn_in_part(self):
         """Whether a row shows a change that `--extended` draws in part: a text is pasted, a character that isn't ASCII is typed,
-        or a line fills its row."""
+        a line fills its row, or has a style."""
         if self.display is None:
             return False
+        if "colours" in self.settings and self.asks_highlighter():
+            return True
         return NAMED["Paste"] in self.keys or not self.keys.isascii() or b"\r\n\x1b[m\x1b[m" in self.display
 
     def is_played(self):

@@ -1,6 +1,6 @@
 #!/usr/bin/env python3
-"""Styles and tabs on a terminal: what tmux shows after each drawing of the rows of `colours.txt` and `tabs.txt`, cell by cell with
-its style, is what the display of tests/shared/display.py shows. So is what libvterm shows, by its program `unterm`; without it that part is
+"""Styles and tabs on a terminal: what tmux shows after each drawing of the rows of `colours.txt` and `tabs.txt`, and of those with
+styles in `partial.txt`, cell by cell with its style, is what the display of tests/shared/display.py shows. So is what libvterm shows, by its program `unterm`; without it that part is
 skipped with a word.
 
 The rows have the bytes, so nothing is built for this: sessions_program and the program play the same rows.
@@ -96,8 +96,8 @@ class Shown:
 
 def rows():
     """The rows of the tables, each with its columns, and what to call it."""
-    for name in ("colours.txt", "tabs.txt"):
-        for row in rows_of(name):
+    for name in ("colours.txt", "tabs.txt", "partial.txt"):
+        for row in (it for it in rows_of(name) if name != "partial.txt" or "colours" in it.settings):
             yield row, int(row.value("columns:", "80")), f"{name}:{row.number}"
 
 

@@ -1,1 +1,2 @@
 pub mod Rulers
+pub mod Told

@@ -1,8 +1,5 @@
 //! Accepted lines, accepted hints, and commands that draw or do nothing.
 
-use crate::desk::holds;
-use std::test::Fail;
-
 const ENDS: &str = "
     |: AcceptLine = Submit | /
     ab|: AcceptLine = Submit ab| /
@@ -42,29 +39,29 @@ const ENDS: &str = "
 ";
 
 const VERDICTS: &str = "
-    helper: Valid = nothing
+    helper: verdict:Valid hints:taken = nothing
     ab|: AcceptLine = Submit ab| /
     a|b: AcceptOrInsertLine = Submit a|b /
     a|b: AcceptAtEndOrInsertLine = a␊|b / draw '> a␊|b' at 1,0 to 1,1
     ab|: EndOfFile = ab| /
     ab|: Newline = ab␊| / draw '> ab␊|' at 1,0 to 1,0
 
-    helper: ValidTold ok = nothing
+    helper: verdict:ValidTold message:ok hints:taken = nothing
     ab|: AcceptLine = Submit ab| / draw '> ab|{ok}' at 0,4 to 0,6
     a|b: AcceptOrInsertLine = Submit a|b / draw '> a|b{ok}' at 0,3 to 0,6
     a|b: AcceptAtEndOrInsertLine = a␊|b / draw '> a|b{ok}' at 0,3 to 0,6; draw '> a␊|b' at 1,0 to 1,1
 
-    helper: Invalid = nothing
+    helper: verdict:Invalid hints:taken = nothing
     ab|: AcceptLine = Submit ab| /
     ab|: AcceptOrInsertLine = ab␊| / draw '> ab␊|' at 1,0 to 1,0
     a|b: AcceptAtEndOrInsertLine = a␊|b / draw '> a␊|b' at 1,0 to 1,1
 
-    helper: Incomplete = nothing
+    helper: verdict:Incomplete hints:taken = nothing
     ab|: AcceptLine = Submit ab| /
     ab|: AcceptOrInsertLine = ab␊| / draw '> ab␊|' at 1,0 to 1,0
     a|b: AcceptAtEndOrInsertLine = a␊|b / draw '> a␊|b' at 1,0 to 1,1
 
-    helper: InvalidTold no = nothing
+    helper: verdict:InvalidTold message:no hints:taken = nothing
     ab|: AcceptLine = Submit ab| / draw '> ab|{no}' at 0,4 to 0,6
     ab|: AcceptOrInsertLine = ab| / draw '> ab|{no}' at 0,4 to 0,6
     ab|: AcceptOrInsertLine; AcceptOrInsertLine = ab| / draw '> ab|{no}' at 0,4 to 0,6
@@ -72,7 +69,7 @@ const VERDICTS: &str = "
     ab|: AcceptOrInsertLine; SelfInsert 1 c = abc| / draw '> abc|' at 0,5 to 0,5
     ab|: AcceptOrInsertLine; Kill BackwardChar 1 = a| / draw '> a|' at 0,3 to 0,3
 
-    helper: InvalidTold = nothing
+    helper: verdict:InvalidTold hints:taken = nothing
     ab|: AcceptOrInsertLine = ab| / draw '> ab|{}' at 0,4 to 0,4
     ab|: AcceptOrInsertLine; SelfInsert 1 c = abc| / draw '> abc|' at 0,5 to 0,5
     ab|: AcceptOrInsertLine; SelfInsert 1 c; SelfInsert 1 d = abcd| / write 'd'
@@ -80,7 +77,7 @@ const VERDICTS: &str = "
 
 const HINTS: &str = "
     history: abcd = nothing
-    helper: Valid = nothing
+    helper: verdict:Valid hints:taken = nothing
     ab|: Repaint; AcceptLine = Submit ab| / draw '> ab|' at 0,4 to 0,4
     ab|: Repaint; AcceptOrInsertLine = Submit ab| / draw '> ab|' at 0,4 to 0,4
     ab|: Repaint; Move BackwardChar 1; AcceptAtEndOrInsertLine = a␊|b / draw '> a|b' at 0,3 to 0,4; draw '> a␊|b' at 1,0 to 1,1
@@ -99,15 +96,15 @@ const HINTS: &str = "
     ab|: Repaint; CompleteHint = abcd| / - / ab|
 
     tells: calls = nothing
-    takes: no = nothing
+    advised: hints:shown = nothing
     ab|: Repaint; CompleteHint = ab| / beep; draw '> ab|{cd}' at 0,4 to 0,6
     ab|: CompleteHint = ab| /
 ";
 
 const HIGHLIGHTS: &str = "
     colours: yes = nothing
-    helper: Valid = nothing
-    marks: 2 = nothing
+    helper: verdict:Valid hints:taken = nothing
+    advised: marked:2 = nothing
     ab|: AcceptLine = Submit ab| / draw '> ab|' at 0,4 to 0,4 lit marked
     a|b: AcceptLine = Submit a|b /
     ab|: Repaint; Move BackwardChar 1 = a|b / draw '> a|b' at 0,3 to 0,4 lit
@@ -118,15 +115,10 @@ const HIGHLIGHTS: &str = "
     ab|: Repaint = ab| / draw '> ab|{cd}' at 0,4 to 0,6 lit marked
     abc|: Repaint = abc| / draw '> abc|{d}' at 0,5 to 0,6 lit
 
-    helper: InvalidTold no = nothing
+    helper: verdict:InvalidTold message:no hints:taken = nothing
     ab|: AcceptOrInsertLine = ab| / draw '> ab|{no}' at 0,4 to 0,6 lit told
-    marks: 2 = nothing
+    advised: marked:2 = nothing
     ab|: AcceptOrInsertLine = ab| / draw '> ab|' at 0,4 to 0,4 lit marked; draw '> ab|{no}' at 0,4 to 0,6 lit marked told
 ";
 
-const TABLES: [&str; 4] = [ENDS, VERDICTS, HINTS, HIGHLIGHTS];
-
-#[test]
-fn ends_of_lines(rt: HostRuntime) -> Result<(), Fail> {
-    holds(&rt, &TABLES)
-}
+pub(crate) const TABLES: [&str; 4] = [ENDS, VERDICTS, HINTS, HIGHLIGHTS];

@@ -1,29 +1,26 @@
 //! How the keys of a line are requested.
 
 use crate::calls::CallList;
-use crate::desk::{Stage, key_of};
+use crate::desk::Stage;
 use line_config::{Config, EditMode};
 use line_editor::run;
 use line_keys::KeyEvent;
 use line_record::KillRing;
 use stand_ins::asked_keys::{AskedKeys, requests_in_words};
-use stand_ins::rows::{Player, raised, rows_hold};
-use std::alloc::Global;
+use stand_ins::rows::{Player, Starts, raised, tables_hold};
+use stand_ins::typing::keys_named;
+use std::alloc::{AllocError, Global};
 use std::test::Fail;
 
-fn keys_named(alloc: Global, words: &str) -> Result<Vec<KeyEvent>, Fail> {
-    let mut keys = Vec::new(alloc);
-    for word in words.split_whitespace() {
-        keys.push(key_of(word)?)?;
-    }
-    Ok(keys)
-}
-
 // How the keys of a line were requested, in words.
-fn asked(alloc: Global, mode: EditMode, keys: &[KeyEvent]) -> Result<String, Fail> {
-    let stage = Stage::new(alloc)?;
+fn asked(
+    stage: &Stage,
+    ring: &mut KillRing,
+    alloc: Global,
+    mode: EditMode,
+    keys: &[KeyEvent],
+) -> Result<String, AllocError> {
     let config = Config::builder().edit_mode(mode).build();
-    let mut ring = KillRing::new(alloc, 60)?;
     let mut query = String::new(alloc);
     let mut reader = AskedKeys::new(alloc, keys);
     run(
@@ -31,14 +28,14 @@ fn asked(alloc: Global, mode: EditMode, keys: &[KeyEvent]) -> Result<String, Fai
         &mut reader,
         CallList::new(alloc, stage.columns, stage.colours, stage.tab),
         "> ",
-        stage.helper(),
+        None::<()>,
         &stage.history,
         &config,
         &stage.bindings,
-        &mut ring,
+        ring,
         &mut query,
     );
-    raised(requests_in_words(alloc, reader.requests()))
+    requests_in_words(alloc, reader.requests())
 }
 
 // The mode and the keys; how each of them is requested. The first key of a command is requested as
@@ -52,8 +49,11 @@ const ASKED: &str = "
 ";
 
 /// How the keys of lines are requested.
-#[derive(Clone, Copy, Drop)]
-struct Requests;
+#[derive(Drop)]
+struct Requests {
+    stage: Stage,
+    ring: KillRing,
+}
 
 impl Player for Requests {
     fn play(&mut self, alloc: Global, call: &str) -> Result<String, Fail> {
@@ -65,11 +65,21 @@ impl Player for Requests {
             _ => EditMode::Emacs,
         };
         let keys = keys_named(alloc, keys)?;
-        asked(alloc, mode, &keys)
+        raised(asked(&self.stage, &mut self.ring, alloc, mode, &keys))
+    }
+}
+
+impl Starts for Requests {
+    fn start(alloc: Global) -> Result<Self, Fail> {
+        let stage = Stage::new(alloc)?;
+        Ok(Requests {
+            stage,
+            ring: KillRing::new(alloc, 60)?,
+        })
     }
 }
 
 #[test]
 fn keys_of_a_line_are_requested_as_said(rt: HostRuntime) -> Result<(), Fail> {
-    rows_hold(rt.alloc(), &mut Requests, ASKED)
+    tables_hold::<Requests>(rt.alloc(), &[ASKED])
 }

@@ -12,6 +12,7 @@ use line_help::Highlighter;
 use line_screen::ScreenRenderer;
 use stand_ins::tables::{marked, pictured};
 use std::alloc::{AllocError, Global};
+use std::fmt;
 
 /// The calls made, and how many more succeed.
 #[derive(Drop)]
@@ -47,26 +48,35 @@ impl CallLog {
         }
     }
 
-    fn keep(&mut self, call: &str) -> Result<(), AllocError> {
-        if !self.calls.is_empty() {
-            self.calls.push_str("; ")?;
-        }
-        self.calls.push_str(call)
+    fn keep<D: fmt::Display + Drop>(&mut self, call: D) -> Result<(), AllocError> {
+        let gap = if self.calls.is_empty() { "" } else { "; " };
+        write!(self.calls, "{gap}{call}")
     }
 
     /// Logs a call, or fails.
-    fn note(&mut self, call: Result<String, AllocError>) -> Result<(), ReadlineError>
+    fn note<D: fmt::Display + Drop>(&mut self, call: D) -> Result<(), ReadlineError>
         ensures fault { IfErr result (λ e. e ≡ Display) }
         ensures failed { OnErr result (IsTrue self.new.failed) }
     {
-        if self.answers()
-            && let Ok(call) = call
-            && self.keep(call.as_str()).is_ok()
-        {
+        if self.answers() && self.keep(call).is_ok() {
             return Ok(());
         }
         self.failed = true;
         Err(ReadlineError::Display)
+    }
+
+    /// Logs a call in these words, or fails.
+    fn note_told(&mut self, told: Result<String, AllocError>) -> Result<(), ReadlineError>
+        ensures fault { IfErr result (λ e. e ≡ Display) }
+        ensures failed { OnErr result (IsTrue self.new.failed) }
+    {
+        match told {
+            Ok(call) => self.note(call.as_str()),
+            Err(_) => {
+                self.failed = true;
+                Err(ReadlineError::Display)
+            }
+        }
     }
 }
 
@@ -112,9 +122,11 @@ impl CallList {
 }
 
 // The text after a line, in braces.
-fn tell_hint(alloc: Global, text: &mut String, hint: &str) -> Result<(), AllocError> {
-    let hint = pictured(alloc, hint)?;
-    write!(text, "{{{hint}}}")
+fn hint_told(alloc: Global, hint: Option<&str>) -> Result<String, AllocError> {
+    match hint {
+        Some(hint) => format!(in alloc; "{{{}}}", pictured(alloc, hint)?),
+        None => Ok(String::new(alloc)),
+    }
 }
 
 // The text of a drawing: prompt, line and what follows it.
@@ -124,12 +136,9 @@ fn drawn(
     line: &LineBuffer,
     hint: Option<&str>,
 ) -> Result<String, AllocError> {
-    let mut text = pictured(alloc, prompt)?;
-    text.push_str(marked(alloc, line.as_str(), line.pos())?.as_str())?;
-    if let Some(hint) = hint {
-        tell_hint(alloc, &mut text, hint)?;
-    }
-    Ok(text)
+    let shown = marked(alloc, line.as_str(), line.pos())?;
+    let told = hint_told(alloc, hint)?;
+    format!(in alloc; "{}{shown}{told}", pictured(alloc, prompt)?)
 }
 
 // The words for a highlighter that is passed in.
@@ -143,13 +152,12 @@ fn lit_words(marked: bool, told: bool) -> &'static str {
 }
 
 // The words after the places of a drawing.
-fn tell_rest(call: &mut String, old: Option<Layout>, lit: &str) -> Result<(), AllocError> {
+fn older_told(alloc: Global, old: Option<Layout>) -> Result<String, AllocError> {
     match old {
-        None => call.push_str(" fresh")?,
-        Some(old) if old.cursor.row == 0 => {}
-        Some(old) => write!(call, " below {}", old.cursor.row)?,
+        None => String::from_str(alloc, " fresh"),
+        Some(old) if old.cursor.row == 0 => Ok(String::new(alloc)),
+        Some(old) => format!(in alloc; " below {}", old.cursor.row),
     }
-    call.push_str(lit)
 }
 
 // A drawing in words.
@@ -160,21 +168,17 @@ fn drawing(
     new: &Layout,
     lit: &str,
 ) -> Result<String, AllocError> {
-    let mut call = format!(in alloc;
-        "draw '{text}' at {},{} to {},{}",
+    let older = older_told(alloc, old)?;
+    format!(in alloc;
+        "draw '{text}' at {},{} to {},{}{older}{lit}",
         new.cursor.row, new.cursor.col, new.end.row, new.end.col
-    )?;
-    tell_rest(&mut call, old, lit)?;
-    Ok(call)
+    )
 }
 
 // The rest of a line, and what follows it.
 fn hinted(alloc: Global, rest: &str, hint: Option<&str>) -> Result<String, AllocError> {
-    let mut text = pictured(alloc, rest)?;
-    if let Some(hint) = hint {
-        tell_hint(alloc, &mut text, hint)?;
-    }
-    Ok(text)
+    let told = hint_told(alloc, hint)?;
+    format!(in alloc; "{}{told}", pictured(alloc, rest)?)
 }
 
 // Its drawing in words.
@@ -210,8 +214,7 @@ impl Renderer for CallList {
     } };
 
     fn move_cursor(&mut self, old: Position, new: Position) -> Result<(), ReadlineError> {
-        let log = &mut self.log;
-        log.note(format!(in log.alloc; "move {},{} to {},{}", old.row, old.col, new.row, new.col))
+        self.log.note(format_args!("move {},{} to {},{}", old.row, old.col, new.row, new.col))
     }
 
     fn refresh_line<H: Highlighter>(
@@ -233,32 +236,28 @@ impl Renderer for CallList {
             Ok(text) => drawing(self.log.alloc, text.as_str(), old_layout, new_layout, lit),
             Err(refusal) => Err(refusal),
         };
-        self.log.note(call)
+        self.log.note_told(call)
     }
 
     fn write_and_flush(&mut self, text: &str) -> Result<(), ReadlineError> {
-        let log = &mut self.log;
-        log.note(format!(in log.alloc; "write '{text}'"))
+        self.log.note(format_args!("write '{text}'"))
     }
 
     fn beep(&mut self) -> Result<(), ReadlineError> {
-        let log = &mut self.log;
-        log.note(format!(in log.alloc; "beep"))
+        self.log.note("beep")
     }
 
     fn clear_screen(&mut self) -> Result<(), ReadlineError> {
-        let log = &mut self.log;
-        log.note(format!(in log.alloc; "clear screen"))
+        self.log.note("clear screen")
     }
 
     fn clear_rows(&mut self, layout: &Layout) -> Result<(), ReadlineError> {
-        let log = &mut self.log;
-        log.note(format!(in log.alloc; "clear rows {}", layout.cursor.row))
+        self.log
+            .note(format_args!("clear rows {}", layout.cursor.row))
     }
 
     fn clear_to_eol(&mut self) -> Result<(), ReadlineError> {
-        let log = &mut self.log;
-        log.note(format!(in log.alloc; "clear row"))
+        self.log.note("clear row")
     }
 
     fn move_and_clear_to_eol(&mut self, old: Position, new: Position) -> Result<(), ReadlineError> {
@@ -274,8 +273,7 @@ impl Renderer for CallList {
         new: Position,
         end: Position,
     ) -> Result<(), ReadlineError> {
-        let log = &mut self.log;
-        log.note(format!(in log.alloc;
+        self.log.note(format_args!(
             "put '{ch}' before '{rest}' {},{} {},{}",
             new.row, new.col, end.row, end.col
         ))
@@ -290,36 +288,37 @@ impl Renderer for CallList {
         end: Position,
     ) -> Result<(), ReadlineError> {
         self.move_cursor(old, new)?;
-        let log = &mut self.log;
-        log.note(format!(in log.alloc; "take out {count} before '{rest}' {},{}", end.row, end.col))
+        self.log.note(format_args!("take out {count} before '{rest}' {},{}", end.row, end.col))
     }
 
     fn append_text(&mut self, text: &str, at: Position) -> Result<Position, ReadlineError> {
-        let log = &mut self.log;
-        log.note(format!(in log.alloc; "append '{text}' at {},{}", at.row, at.col))?;
+        self.log
+            .note(format_args!("append '{text}' at {},{}", at.row, at.col))?;
         Ok(self.calculate_position(text, at))
     }
 
     fn refresh_rest<H: Highlighter>(
         &mut self,
-        rest: &str,
+        line: &LineBuffer,
+        from: usize,
         hint: Option<&str>,
         old: Position,
         at: Position,
         new_layout: &Layout,
         highlighter: Option<&H>,
+        marked: bool,
         told: bool,
     ) -> Result<(), ReadlineError> {
         self.move_cursor(old, at)?;
         let lit = match highlighter {
-            Some(_) => lit_words(false, told && hint.is_some()),
+            Some(_) => lit_words(marked, told && hint.is_some()),
             None => "",
         };
-        let call = match hinted(self.log.alloc, rest, hint) {
+        let call = match hinted(self.log.alloc, &line.as_str()[from..], hint) {
             Ok(text) => rest_drawing(self.log.alloc, text.as_str(), new_layout, lit),
             Err(refusal) => Err(refusal),
         };
-        self.log.note(call)
+        self.log.note_told(call)
     }
 
     fn write_over(
@@ -330,13 +329,11 @@ impl Renderer for CallList {
         new: Position,
     ) -> Result<(), ReadlineError> {
         self.move_cursor(old, at)?;
-        let log = &mut self.log;
-        log.note(format!(in log.alloc; "write over '{letters}' {},{}", new.row, new.col))
+        self.log.note(format_args!("write over '{letters}' {},{}", new.row, new.col))
     }
 
     fn move_cursor_at_leftmost(&mut self) -> Result<(), ReadlineError> {
-        let log = &mut self.log;
-        log.note(format!(in log.alloc; "leftmost"))
+        self.log.note("leftmost")
     }
 
     fn update_size(&mut self) {}

@@ -1,12 +1,9 @@
 //! Lines in which Tab lists candidates or puts them in turn, by `run` alone. Rows are those of
 //! [`crate::searching`].
 
-use crate::searching::plays_lines;
-use std::test::Fail;
-
 const LISTED: &str = "
-    helper: Valid = nothing
-    offers: 0 alpha alpine = nothing
+    helper: verdict:Valid hints:taken = nothing
+    advised: start:0 offers:alpha,alpine = nothing
     completion: List = nothing
     a l p Tab Tab Enter = alp / draw '> |' at 0,2 to 0,2; write 'a'; write 'l'; write 'p'; beep; beep / - /
 
@@ -29,15 +26,15 @@ const LISTED: &str = "
     a l p Tab Enter = alp / draw '> |' at 0,2 to 0,2; write 'a'; draw '> al|' at 1,0 to 1,0; write 'p'; draw '> alp|{␊alpha␊alpine}' at 1,1 to 5,2 below 1; draw '> alp|' at 1,1 to 1,1 below 1 / - /
 
     columns: 80 = nothing
-    offers: 0 alpha = nothing
+    advised: start:0 offers:alpha = nothing
     a l Tab Tab Enter = alpha / draw '> |' at 0,2 to 0,2; write 'a'; write 'l'; draw '> alpha|' at 0,7 to 0,7; draw '> alpha|' at 0,7 to 0,7 / - /
-    offers: 0 = nothing
+    advised: start:0 offers: = nothing
     a l Tab Tab Enter = al / draw '> |' at 0,2 to 0,2; write 'a'; write 'l'; beep; beep / - /
 ";
 
 const IN_TURN: &str = "
-    helper: Valid = nothing
-    offers: 0 alpha alpine = nothing
+    helper: verdict:Valid hints:taken = nothing
+    advised: start:0 offers:alpha,alpine = nothing
     modal: yes = nothing
     a l Tab Tab Tab Tab Enter = alpha / draw '> |' at 0,2 to 0,2; write 'a'; write 'l'; draw '> alpha|' at 0,7 to 0,7; draw '> alpine|' at 0,8 to 0,8; draw '> al|' at 0,4 to 0,4; beep; draw '> alpha|' at 0,7 to 0,7 / - /
     a l Tab BackTab BackTab Enter = alpine / draw '> |' at 0,2 to 0,2; write 'a'; write 'l'; draw '> alpha|' at 0,7 to 0,7; draw '> al|' at 0,4 to 0,4; beep; draw '> alpine|' at 0,8 to 0,8 / - /
@@ -47,20 +44,20 @@ const IN_TURN: &str = "
     a l Tab C-K x Enter = alphax / draw '> |' at 0,2 to 0,2; write 'a'; write 'l'; draw '> alpha|' at 0,7 to 0,7; write 'x' / - /
     a l Tab C-W Enter = / draw '> |' at 0,2 to 0,2; write 'a'; write 'l'; draw '> alpha|' at 0,7 to 0,7; move 0,7 to 0,2; clear row / 'alpha' /
 
-    offers: 0 alpha alpha = nothing
+    advised: start:0 offers:alpha,alpha = nothing
     a l Tab Tab Tab Enter = al / draw '> |' at 0,2 to 0,2; write 'a'; write 'l'; draw '> alpha|' at 0,7 to 0,7; draw '> alpha|' at 0,7 to 0,7; draw '> al|' at 0,4 to 0,4; beep / - /
-    offers: 0 grün größe = nothing
+    advised: start:0 offers:grün,größe = nothing
     Tab Tab C-G Enter = / draw '> |' at 0,2 to 0,2; draw '> grün|' at 0,6 to 0,6; draw '> größe|' at 0,7 to 0,7; draw '> |' at 0,2 to 0,2 / - /
 
     mode: Vi = nothing
-    offers: 0 alpha alpine = nothing
+    advised: start:0 offers:alpha,alpine = nothing
     x Esc a l Tab Esc u Enter = xl / draw '> |' at 0,2 to 0,2; write 'x'; move 0,3 to 0,2; move 0,2 to 0,3; write 'l'; draw '> alpha|' at 0,7 to 0,7; move 0,7 to 0,6; draw '> xl|' at 0,4 to 0,4 / - /
 ";
 
 // At each step: displays that fail, and a helper that does.
 const CUT: &str = "
-    helper: Valid = nothing
-    offers: 0 alpha alpine = nothing
+    helper: verdict:Valid hints:taken = nothing
+    advised: start:0 offers:alpha,alpine = nothing
     modal: yes = nothing
     answered: 3 = nothing
     a l Tab Tab Enter = Display / draw '> |' at 0,2 to 0,2; write 'a'; write 'l' / - /
@@ -72,21 +69,21 @@ const CUT: &str = "
     a l Tab Tab Tab Enter = Display / draw '> |' at 0,2 to 0,2; write 'a'; write 'l'; draw '> alpha|' at 0,7 to 0,7; draw '> alpine|' at 0,8 to 0,8; draw '> al|' at 0,4 to 0,4 / - /
     answered: all = nothing
     a l Tab !failed = Reader / draw '> |' at 0,2 to 0,2; write 'a'; write 'l'; draw '> alpha|' at 0,7 to 0,7 / - /
-    update-fails: 6 = nothing
+    advised: update-fails:6 = nothing
     a l Tab Tab Enter = Helper / draw '> |' at 0,2 to 0,2; write 'a'; write 'l'; draw '> alpha|' at 0,7 to 0,7 / - /
-    wants-memory: yes = nothing
+    advised: wants-memory = nothing
     a l Tab Tab Enter = Memory / draw '> |' at 0,2 to 0,2; write 'a'; write 'l'; draw '> alpha|' at 0,7 to 0,7 / - /
-    wants-memory: no = nothing
-    update-fails: never = nothing
-    hint-fails: 5 = nothing
+    advised: wants-memory:no = nothing
+    advised: update-fails:never = nothing
+    advised: hint-fails:5 = nothing
     a l Tab Tab Enter = Helper / draw '> |' at 0,2 to 0,2; write 'a'; write 'l' / - /
-    hint-fails: never = nothing
-    completion-fails: 2 = nothing
+    advised: hint-fails:never = nothing
+    advised: completion-fails:2 = nothing
     a l Tab Tab Enter = Helper / draw '> |' at 0,2 to 0,2; write 'a'; write 'l' / - /
-    completion-fails: 3 = nothing
+    advised: completion-fails:3 = nothing
     completion: List = nothing
     a l Tab Tab Enter = Helper / draw '> |' at 0,2 to 0,2; write 'a'; write 'l'; draw '> alp|' at 0,5 to 0,5 / - /
-    completion-fails: never = nothing
+    advised: completion-fails:never = nothing
     answered: 4 = nothing
     a l p Tab Tab Enter = Display / draw '> |' at 0,2 to 0,2; write 'a'; write 'l'; write 'p' / - /
     answered: 5 = nothing
@@ -96,16 +93,8 @@ const CUT: &str = "
     answered: 7 = nothing
     a l p Tab Tab h Enter = Display / draw '> |' at 0,2 to 0,2; write 'a'; write 'l'; write 'p'; beep; draw '> alp|{␊alpha␊alpine}' at 0,5 to 2,6; draw '> alp|' at 0,5 to 0,5 / - /
     answered: all = nothing
-    hint-fails: 3 = nothing
+    advised: hint-fails:3 = nothing
     a l Tab Enter = Helper / draw '> |' at 0,2 to 0,2; write 'a'; write 'l' / - /
 ";
 
-const TABLES: [&str; 3] = [LISTED, IN_TURN, CUT];
-
-#[test]
-fn lines_of_candidates(rt: HostRuntime) -> Result<(), Fail> {
-    for table in &TABLES {
-        plays_lines(rt.alloc(), table)?;
-    }
-    Ok(())
-}
+pub(crate) const TABLES: [&str; 3] = [LISTED, IN_TURN, CUT];

@@ -7,17 +7,18 @@ ghost use Rattle.std.specs.Prelude.{◌≡◌, [], None, false, refl};
 ghost use Rattle.line_help.specs.Completion.{nothing_offered};
 ghost use Rattle.line_keys.specs.Replies.{gives, gives_at_once};
 
-use crate::desk::{Stage, key_of, led_over};
-use crate::lines::{run_bound, run_over, typed};
+use crate::desk::{Stage, led_over};
+use crate::lines::{run_bound, run_over};
 use line_buffer::{ChangeListener, LineBuffer, RepeatCount};
 use line_config::{CompletionType, HookFault, ReadlineError};
 use line_help::{
     Completer, Context, Helper, HelperParts, Highlighter, Hinter, History, Mark, Part, Span,
     ValidationContext, ValidationResult, Validator, update_line,
 };
-use line_keys::{Cmd, CmdKind, Decides, Event, EventContext, EventMap, Keys};
-use stand_ins::rows::{Player, raised, rows_hold};
-use std::alloc::Global;
+use line_keys::{Cmd, CmdKind, Decides, Event, EventContext, EventMap};
+use stand_ins::rows::{Player, done, raised, rows_hold};
+use stand_ins::typing::{event, typed};
+use std::alloc::{AllocError, Global};
 use std::borrow::CowStr;
 use std::cell::Cell;
 use std::test::Fail;
@@ -29,6 +30,41 @@ struct Counting<'c> {
     verdicts: &'c Cell<u32>,
     completions: &'c Cell<u32>,
     marks: &'c Cell<u32>,
+}
+
+/// How often each hook was called.
+#[derive(Drop)]
+struct Tally {
+    hints: Cell<u32>,
+    verdicts: Cell<u32>,
+    completions: Cell<u32>,
+    marks: Cell<u32>,
+}
+
+impl Tally {
+    fn new() -> Self {
+        Tally {
+            hints: Cell::new(0),
+            verdicts: Cell::new(0),
+            completions: Cell::new(0),
+            marks: Cell::new(0),
+        }
+    }
+
+    fn helper(&self) -> Counting<'_> {
+        Counting {
+            hints: &self.hints,
+            verdicts: &self.verdicts,
+            completions: &self.completions,
+            marks: &self.marks,
+        }
+    }
+
+    fn told(&self, alloc: Global) -> Result<String, AllocError> {
+        let (hints, verdicts) = (self.hints.get(), self.verdicts.get());
+        let (completions, marks) = (self.completions.get(), self.marks.get());
+        format!(in alloc; "{hints} {verdicts} {completions} {marks}")
+    }
 }
 
 fn count(times: &Cell<u32>) {
@@ -218,18 +254,11 @@ impl Player for Counter {
         if self.stage.sets(alloc, row)? {
             return Ok(String::new(alloc));
         }
-        let (hints, verdicts) = (Cell::new(0), Cell::new(0));
-        let (completions, marks) = (Cell::new(0), Cell::new(0));
-        let helper = Counting {
-            hints: &hints,
-            verdicts: &verdicts,
-            completions: &completions,
-            marks: &marks,
-        };
-        let _ = self.counted(alloc, helper, row)?;
-        let (hints, verdicts) = (hints.get(), verdicts.get());
-        let (completions, marks) = (completions.get(), marks.get());
-        raised(format!(in alloc; "{hints} {verdicts} {completions} {marks}"))
+        let tally = Tally::new();
+        match self.counted(alloc, tally.helper(), row) {
+            Ok(_) => raised(tally.told(alloc)),
+            Err(why) => Err(why),
+        }
     }
 }
 
@@ -326,20 +355,78 @@ struct Handled {
     stage: Stage,
 }
 
-fn bind<'c>(
-    bindings: &mut EventMap<Counted<'c>>,
-    event: Event,
-    answers: bool,
-    calls: &'c Cell<u32>,
-    shown: &'c Cell<u32>,
-) -> Result<(), Fail> {
-    let handler = Counted {
-        answers,
-        calls,
-        shown,
-    };
-    let _old = bindings.bind_sequence(event, handler)?;
-    Ok(())
+/// How often each handler was called, and the sum of the counts that they were shown.
+#[derive(Drop)]
+struct Calls {
+    own: Cell<u32>,
+    followed: Cell<u32>,
+    any: Cell<u32>,
+    shown: Cell<u32>,
+}
+
+impl Calls {
+    fn new() -> Self {
+        Calls {
+            own: Cell::new(0),
+            followed: Cell::new(0),
+            any: Cell::new(0),
+            shown: Cell::new(0),
+        }
+    }
+
+    /// Binds keys, or any key without keys, to a handler that counts its calls here.
+    fn bind<'c>(
+        &'c self,
+        alloc: Global,
+        bindings: &mut EventMap<Counted<'c>>,
+        keys: &str,
+        calls: &'c Cell<u32>,
+    ) -> Result<(), ReadlineError> {
+        let event = event(alloc, keys)?;
+        let handler = Counted {
+            answers: !keys.is_empty(),
+            calls,
+            shown: &self.shown,
+        };
+        done(bindings.bind_sequence(event, handler))
+    }
+
+    fn bind_all<'c>(
+        &'c self,
+        alloc: Global,
+        bindings: &mut EventMap<Counted<'c>>,
+    ) -> Result<(), ReadlineError> {
+        self.bind(alloc, bindings, "C-O", &self.own)?;
+        self.bind(alloc, bindings, "F2 a", &self.followed)?;
+        self.bind(alloc, bindings, "", &self.any)
+    }
+
+    fn told(&self, alloc: Global) -> Result<String, AllocError> {
+        let (own, followed, any) = (self.own.get(), self.followed.get(), self.any.get());
+        format!(in alloc; "{own} {followed} {any}, {}", self.shown.get())
+    }
+}
+
+impl Handled {
+    fn typed_at<'c>(
+        &self,
+        alloc: Global,
+        bindings: &mut EventMap<Counted<'c>>,
+        calls: &'c Calls,
+        row: &str,
+    ) -> Result<String, Fail> {
+        calls.bind_all(alloc, bindings)?;
+        let keys = typed(alloc, row)?;
+        run_bound(alloc, &self.stage, bindings, &keys)
+    }
+
+    /// The result of a row's keys, whose handlers count here.
+    fn types(&self, alloc: Global, calls: &Calls, row: &str) -> Result<String, Fail> {
+        match &mut EventMap::new(alloc) {
+            Ok(bindings) => self.typed_at(alloc, bindings, calls, row),
+            Err(why) => Err(Fail::from(*why)),
+        }
+    }
 }
 
 impl Player for Handled {
@@ -347,24 +434,11 @@ impl Player for Handled {
         if self.stage.sets(alloc, row)? {
             return Ok(String::new(alloc));
         }
-        let (own, followed, any) = (Cell::new(0), Cell::new(0), Cell::new(0));
-        let shown = Cell::new(0);
-        let mut bindings = EventMap::new(alloc)?;
-        let sequence = Keys::try_from_slice(alloc, &[key_of("F2")?, key_of("a")?])?;
-        let ctrl_o = Event::from_key(alloc, key_of("C-O")?)?;
-        bind(&mut bindings, ctrl_o, true, &own, &shown)?;
-        bind(
-            &mut bindings,
-            Event::KeySeq(sequence),
-            true,
-            &followed,
-            &shown,
-        )?;
-        bind(&mut bindings, Event::Any, false, &any, &shown)?;
-        let keys = typed(alloc, row)?;
-        let _ = run_bound(alloc, &self.stage, &bindings, &keys)?;
-        let (own, followed, any) = (own.get(), followed.get(), any.get());
-        raised(format!(in alloc; "{own} {followed} {any}, {}", shown.get()))
+        let calls = Calls::new();
+        match self.types(alloc, &calls, row) {
+            Ok(_) => raised(calls.told(alloc)),
+            Err(why) => Err(why),
+        }
     }
 }
 

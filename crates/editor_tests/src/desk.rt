@@ -10,26 +10,24 @@
 //! in part, where that can be. `first:` sets the commands before those of each row, `tells: ring`
 //! what a row's result is.
 //!
-//! `helper: InvalidTold no` sets a helper with its verdict and its message, which never fails. For
-//! that helper, `marks: 2` is the place at which it highlights, and `takes: no` says that its hints
-//! are only shown. `hint-fails: 3`, `verdict-fails: 3` and `completion-fails: 3` are the length of
-//! the texts from which on it fails. `update-fails: 3` is the length of the words from which on it
-//! inserts none. `wants-memory: yes` makes it run out of memory there. `offers: 3 alpha alpine`
-//! sets where each word starts and its candidates.
+//! `helper:` sets a helper with an adviser's words (`session_rows::words::advice`), and `advised:`
+//! puts words before those that it has.
 
 use crate::calls::CallList;
-use crate::helpers::{Adviser, Offer, Verdict};
+use crate::{
+    accepting, completing, faults, inserting, killing, moving, remembering, rewording, yanking,
+};
 use line_buffer::{LineBuffer, Unit};
 use line_config::{CompletionType, Config, EditMode, ReadlineError};
 use line_editor::commands::{Status, execute};
 use line_editor::{RefreshKind, State};
 use line_help::{Context, Helper, History, MemHistory};
-use line_keys::{Bindings, Cmd, CmdKind, Decides, Event, EventHandler, InputState, KeyEvent};
+use line_keys::{Bindings, Cmd, CmdKind, Decides, EventHandler, InputState};
 use line_record::{Changeset, KillRing};
-use stand_ins::commands::command_named;
-use stand_ins::key_names::key_named;
-use stand_ins::rows::{Player, raised, rows_hold, trimmed};
-use stand_ins::tables::{marked, meant, pictured, word_and_rest};
+use session_rows::words::advice::{Adviser, Texts, texts_of};
+use stand_ins::rows::{Player, Starts, done, raised, tables_hold, trimmed};
+use stand_ins::tables::{marked, meant, named, pictured, word_and_rest};
+use stand_ins::typing::{bind, command_of};
 use std::alloc::{AllocError, Global};
 use std::test::Fail;
 
@@ -41,9 +39,8 @@ pub(crate) struct Stage {
     /// How many columns apart tab stops are; without them a tab is a question mark.
     pub tab: Option<u8>,
     pub history: MemHistory,
-    /// Whether there is a helper.
-    helped: bool,
-    helper: Adviser,
+    /// The words of the helper; none without one.
+    advice: String,
     /// How many calls of the renderer succeed for the last command; `None` for all.
     pub answered: Option<u32>,
     pub mode: EditMode,
@@ -63,47 +60,6 @@ pub(crate) struct Stage {
     pub tells_ring: bool,
 }
 
-fn verdict_named(name: &str) -> Verdict {
-    match name {
-        "Incomplete" => Verdict::Incomplete,
-        "Invalid" => Verdict::Invalid,
-        "InvalidTold" => Verdict::InvalidTold,
-        "ValidTold" => Verdict::ValidTold,
-        _ => Verdict::Valid,
-    }
-}
-
-fn message_named(name: &str) -> &'static str {
-    match name {
-        "ok" => "ok",
-        "no" => "no",
-        _ => "",
-    }
-}
-
-// The offered words, by their names.
-fn word_named(name: &str) -> &'static str {
-    match name {
-        "alpha" => "alpha",
-        "alpine" => "alpine",
-        "grün" => "grün",
-        "größe" => "größe",
-        "acute" => "e\u{301}a",
-        "grave" => "e\u{300}a",
-        "long" => "alphabetagammadelta",
-        _ => "",
-    }
-}
-
-// Two words, or one, or none.
-fn offer_of(words: &str) -> Offer {
-    match words.split_once(' ') {
-        Some((word, other)) => Offer::Two(word_named(word), word_named(other)),
-        None if words.is_empty() => Offer::Nothing,
-        None => Offer::One(word_named(words)),
-    }
-}
-
 impl Stage {
     /// A display of 80 columns without colours, no history and no helper.
     pub(crate) fn new(alloc: Global) -> Result<Self, ReadlineError> {
@@ -113,8 +69,7 @@ impl Stage {
             colours: false,
             tab: None,
             history: MemHistory::new(alloc),
-            helped: false,
-            helper: Adviser::new(Verdict::Valid, ""),
+            advice: String::new(alloc),
             answered: None,
             mode: EditMode::Emacs,
             modal: false,
@@ -128,16 +83,27 @@ impl Stage {
         })
     }
 
-    pub(crate) fn helper(&self) -> Option<Adviser> {
-        if self.helped { Some(self.helper) } else { None }
+    /// The helper's texts.
+    pub(crate) fn texts(&self, alloc: Global) -> Result<Texts, AllocError> {
+        texts_of(alloc, self.advice.as_str())
+    }
+
+    /// The helper, whose texts these are.
+    pub(crate) fn helper<'t>(&self, texts: &'t Texts) -> Option<Adviser<'t>> {
+        if self.advice.is_empty() {
+            return None;
+        }
+        Some(texts.adviser(self.advice.as_str()))
     }
 
     /// Applies a row's setting, and returns whether the row has one.
     pub(crate) fn sets(&mut self, alloc: Global, row: &str) -> Result<bool, Fail> {
         let (word, rest) = word_and_rest(row);
         match word {
+            "advised:" => self.advice = format!(in alloc; "{rest} {}", self.advice)?,
             "bind:" => self.bindings = bound(alloc, rest)?,
             "first:" => self.first = format!(in alloc; "{rest}; ")?,
+            "helper:" => self.advice = String::from_str(alloc, rest)?,
             "history:" => self.history = history_of(alloc, rest)?,
             _ => return Ok(self.sets_display(word, rest)),
         }
@@ -156,39 +122,6 @@ impl Stage {
             }
             "mode:" if rest == "Vi" => self.mode = EditMode::Vi,
             "tells:" => self.tells_ring = rest == "ring",
-            _ => return self.sets_helper(word, rest),
-        }
-        true
-    }
-
-    fn sets_helper(&mut self, word: &str, rest: &str) -> bool {
-        let number = rest.parse().unwrap_or(usize::MAX);
-        match word {
-            "helper:" => {
-                let (verdict, message) = word_and_rest(rest);
-                self.helper = Adviser::new(verdict_named(verdict), message_named(message));
-                self.helped = true;
-            }
-            "marks:" => self.helper.marked_at = number,
-            "takes:" => self.helper.completes = rest == "yes",
-            "hint-fails:" => self.helper.hint_fails_at = number,
-            "verdict-fails:" => self.helper.verdict_fails_at = number,
-            "wants-memory:" => self.helper.wants_memory = rest == "yes",
-            _ => return self.sets_completion(word, rest),
-        }
-        true
-    }
-
-    fn sets_completion(&mut self, word: &str, rest: &str) -> bool {
-        let number = rest.parse().unwrap_or(usize::MAX);
-        match word {
-            "completion-fails:" => self.helper.completion_fails_at = number,
-            "offers:" => {
-                let (start, words) = word_and_rest(rest);
-                self.helper.start = start.parse().unwrap_or(0);
-                self.helper.offer = offer_of(words);
-            }
-            "update-fails:" => self.helper.update_fails_at = number,
             _ => return self.sets_several(word, rest),
         }
         true
@@ -221,27 +154,22 @@ fn history_of(alloc: Global, entries: &str) -> Result<MemHistory, ReadlineError>
     Ok(history)
 }
 
-/// The key with this name.
-pub(crate) fn key_of(name: &str) -> Result<KeyEvent, Fail> {
-    match key_named(name) {
-        Some(key) => Ok(key),
-        None => Err(Fail::new(format_args!("no key: {name}"))),
-    }
-}
-
 // Binds a key to a command.
-fn bind(alloc: Global, bindings: &mut Bindings, name: &str, words: &str) -> Result<(), Fail> {
-    let event = Event::from_key(alloc, key_of(name)?)?;
-    let cmd = command_of(alloc, words)?;
-    let _ = bindings.bind_sequence(event, EventHandler::Simple(cmd))?;
-    Ok(())
+fn bind_named(
+    alloc: Global,
+    bindings: &mut Bindings,
+    name: &str,
+    words: &str,
+) -> Result<(), ReadlineError> {
+    let handler = EventHandler::Simple(command_of(alloc, words)?);
+    done(bind(alloc, bindings, name, handler))
 }
 
 // The bindings of a row `C-O: HistorySearchBackward`.
-fn bound(alloc: Global, row: &str) -> Result<Bindings, Fail> {
+fn bound(alloc: Global, row: &str) -> Result<Bindings, ReadlineError> {
     let (name, words) = row.split_once(": ").unwrap_or((row, ""));
     let mut bindings = Bindings::new(alloc)?;
-    bind(alloc, &mut bindings, name, words)?;
+    bind_named(alloc, &mut bindings, name, words)?;
     Ok(bindings)
 }
 
@@ -316,7 +244,7 @@ pub(crate) fn status_of(
     match answer {
         Ok(Status::Proceed) => Ok(String::new(alloc)),
         Ok(Status::Submit) => raised(String::from_str(alloc, "Submit ")),
-        Err(refusal) => Ok(format!(in alloc; "{refusal:?} ")?),
+        Err(refusal) => raised(format!(in alloc; "{refusal:?} ")),
     }
 }
 
@@ -334,14 +262,6 @@ pub(crate) fn lent_by(alloc: Global, ring: &mut KillRing) -> Result<String, Allo
     match ring.yank() {
         Some(text) => format!(in alloc; "'{}'", pictured(alloc, text)?),
         None => String::from_str(alloc, "-"),
-    }
-}
-
-/// The command with this name.
-pub(crate) fn command_of(alloc: Global, words: &str) -> Result<Cmd, Fail> {
-    match command_named(alloc, words) {
-        Some(cmd) => Ok(cmd),
-        None => Err(Fail::new(format_args!("no command: {words}"))),
     }
 }
 
@@ -493,8 +413,10 @@ fn done_with<H: Helper + Drop, W: Work>(
     work: &W,
 ) -> Result<String, Fail> {
     let config = Config::builder().edit_mode(stage.mode).build();
-    let mut input = InputState::new(alloc, &config, &stage.bindings)?;
-    work.done(alloc, stage, desk, &mut input, ring)
+    match &mut InputState::new(alloc, &config, &stage.bindings) {
+        Ok(input) => work.done(alloc, stage, desk, input, ring),
+        Err(why) => Err(Fail::from(*why)),
+    }
 }
 
 fn done_on<H: Helper + Drop, W: Work>(
@@ -503,8 +425,10 @@ fn done_on<H: Helper + Drop, W: Work>(
     desk: &mut Desk<'_, H>,
     work: &W,
 ) -> Result<String, Fail> {
-    let mut ring = KillRing::new(alloc, 60)?;
-    done_with(alloc, stage, desk, &mut ring, work)
+    match &mut KillRing::new(alloc, 60) {
+        Ok(ring) => done_with(alloc, stage, desk, ring, work),
+        Err(why) => Err(Fail::from(*why)),
+    }
 }
 
 fn done_from<H: Helper + Drop, W: Work>(
@@ -526,8 +450,10 @@ pub(crate) fn done_over<H: Helper + Drop, W: Work>(
     helper: Option<H>,
     work: &W,
 ) -> Result<String, Fail> {
-    let mut desk = empty_desk(alloc, stage)?;
-    done_from(alloc, stage, &mut desk, helper, work)
+    match &mut empty_desk(alloc, stage) {
+        Ok(desk) => done_from(alloc, stage, desk, helper, work),
+        Err(why) => Err(Fail::from(*why)),
+    }
 }
 
 /// Runs the commands of a row, over a helper.
@@ -548,7 +474,10 @@ impl Stage {
             return Err(Fail::new(format_args!("no row: {row}")));
         };
         let commands = format!(in alloc; "{}{commands}", self.first)?;
-        led_over(alloc, self, self.helper(), shown, commands.as_str())
+        match &self.texts(alloc) {
+            Ok(texts) => led_over(alloc, self, self.helper(texts), shown, commands.as_str()),
+            Err(why) => Err(Fail::from(*why)),
+        }
     }
 }
 
@@ -565,14 +494,21 @@ impl Player for Stage {
 /// Each row has, after ` = `, how the last command ends unless the line continues, the line then,
 /// and after ` / ` the calls of that command. If results are the ring, it has the line then, the
 /// text that a yank would return, in quotes or `-`, and the line after one undo.
-pub(crate) fn holds(rt: &impl AllocGlobal, tables: &[&str]) -> Result<(), Fail> {
-    for table in tables {
-        stage_holds(rt.alloc(), table)?;
+impl Starts for Stage {
+    fn start(alloc: Global) -> Result<Self, Fail> {
+        raised(Stage::new(alloc))
     }
-    Ok(())
 }
 
-fn stage_holds(alloc: Global, table: &str) -> Result<(), Fail> {
-    let mut stage = Stage::new(alloc)?;
-    rows_hold(alloc, &mut stage, table)
+#[test]
+fn tables_of_commands(rt: HostRuntime) -> Result<(), Fail> {
+    tables_hold::<Stage>(rt.alloc(), &accepting::TABLES)?;
+    tables_hold::<Stage>(rt.alloc(), &completing::TABLES)?;
+    tables_hold::<Stage>(rt.alloc(), &faults::TABLES)?;
+    tables_hold::<Stage>(rt.alloc(), &inserting::TABLES)?;
+    tables_hold::<Stage>(rt.alloc(), &killing::TABLES)?;
+    tables_hold::<Stage>(rt.alloc(), &moving::TABLES)?;
+    tables_hold::<Stage>(rt.alloc(), &remembering::TABLES)?;
+    tables_hold::<Stage>(rt.alloc(), &rewording::TABLES)?;
+    tables_hold::<Stage>(rt.alloc(), &yanking::TABLES)
 }

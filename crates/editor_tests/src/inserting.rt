@@ -1,8 +1,5 @@
 //! Insertions of characters and texts.
 
-use crate::desk::holds;
-use std::test::Fail;
-
 const INSERTIONS: &str = "
     |: SelfInsert 1 a = a| / write 'a'
     ab|: SelfInsert 1 c = abc| / write 'c'
@@ -71,7 +68,7 @@ const INSERTIONS: &str = "
 
 const HINTS_AND_HIGHLIGHTS: &str = "
     history: abcd = nothing
-    helper: Valid = nothing
+    helper: verdict:Valid hints:taken = nothing
     a|: SelfInsert 1 b = ab| / draw '> ab|{cd}' at 0,4 to 0,6
     |: SelfInsert 1 x = x| / write 'x'
     ab|: Repaint; SelfInsert 1 x = abx| / draw '> abx|' at 0,5 to 0,5
@@ -81,7 +78,7 @@ const HINTS_AND_HIGHLIGHTS: &str = "
 
     history: = nothing
     colours: yes = nothing
-    marks: 3 = nothing
+    advised: marked:3 = nothing
     ab|: SelfInsert 1 c = abc| / draw '> abc|' at 0,5 to 0,5 lit marked
     ab|: SelfInsert 1 c; SelfInsert 1 d = abcd| / draw '> abcd|' at 0,6 to 0,6 lit
     ab|: SelfInsert 1 c; SelfInsert 1 d; SelfInsert 1 e = abcde| / write 'e'
@@ -167,7 +164,7 @@ const FROM_A_PLACE: &str = "
     columns: 80 = nothing
 
     history: abcd = nothing
-    helper: Valid = nothing
+    helper: verdict:Valid hints:taken = nothing
     a|: SelfInsert 1 b = ab| / move 0,3 to 0,3; rest 'b{cd}' at 0,4 to 0,6
     ab|: Repaint; SelfInsert 1 x = abx| / move 0,4 to 0,4; rest 'x' at 0,5 to 0,5
     ab|: Repaint; SelfInsert 1 x; SelfInsert 1 y = abxy| / append 'y' at 0,5
@@ -175,21 +172,36 @@ const FROM_A_PLACE: &str = "
 
     history: = nothing
     colours: yes = nothing
-    marks: 3 = nothing
-    ab|: SelfInsert 1 c = abc| / draw '> abc|' at 0,5 to 0,5 lit marked
-    ab|: SelfInsert 1 c; SelfInsert 1 d = abcd| / draw '> abcd|' at 0,6 to 0,6 lit
+    advised: marked:3 = nothing
+    ab|: SelfInsert 1 c = abc| / move 0,4 to 0,4; rest 'c' at 0,5 to 0,5 lit marked
+    ab|: SelfInsert 1 c; SelfInsert 1 d = abcd| / move 0,5 to 0,5; rest 'd' at 0,6 to 0,6 lit
     ab|: SelfInsert 2 d = abdd| / move 0,4 to 0,4; rest 'dd' at 0,6 to 0,6 lit
 ";
 
-const TABLES: [&str; 5] = [
+// The same with styles: a keyword is bold.
+const BEHIND_STYLES: &str = "
+    partial: yes = nothing
+    colours: yes = nothing
+    helper: verdict:Valid hints:taken = nothing
+    advised: keyword:aa styled:0,0,bold marks-from:0 = nothing
+    first: Repaint = nothing
+    aab|: SelfInsert 1 c = aabc| / move 0,5 to 0,5; rest 'c' at 0,6 to 0,6 lit marked
+    aab|c: SelfInsert 1 x = aabx|c / move 0,5 to 0,5; rest 'xc' at 0,6 to 0,7 lit marked
+    a|ac: SelfInsert 1 x = ax|ac / move 0,3 to 0,2; rest 'axac' at 0,4 to 0,6 lit marked
+    aa|b: Insert 1 x = aax|b / move 0,4 to 0,4; rest 'xb' at 0,5 to 0,6 lit marked
+    aé|: SelfInsert 1 \u{301} = aé\u{301}| / draw '> aé\u{301}|' at 0,4 to 0,4 lit marked
+    abcdefghijabcdefghijabcdefghijabcdefghijabcdefghijabcdefghijabc|: SelfInsert 1 x = abcdefghijabcdefghijabcdefghijabcdefghijabcdefghijabcdefghijabcx| / move 0,65 to 0,65; rest 'x' at 0,66 to 0,66 lit marked
+    abcdefghijabcdefghijabcdefghijabcdefghijabcdefghijabcdefghijabcd|: SelfInsert 1 x = abcdefghijabcdefghijabcdefghijabcdefghijabcdefghijabcdefghijabcdx| / move 0,66 to 0,66; rest 'x' at 0,67 to 0,67 lit marked
+    abcdefghijabcdefghijabcdefghijabcdefghijabcdefghijabcdefghijabcdef|: SelfInsert 1 x = abcdefghijabcdefghijabcdefghijabcdefghijabcdefghijabcdefghijabcdefx| / move 0,68 to 0,66; rest 'efx' at 0,69 to 0,69 lit marked
+    advised: keyword:bb = nothing
+    ab|: SelfInsert 1 b = abb| / move 0,4 to 0,3; rest 'bb' at 0,5 to 0,5 lit marked
+";
+
+pub(crate) const TABLES: [&str; 6] = [
     INSERTIONS,
     HINTS_AND_HIGHLIGHTS,
     AFTER_TABS,
     INSIDE,
     FROM_A_PLACE,
+    BEHIND_STYLES,
 ];
-
-#[test]
-fn insertions(rt: HostRuntime) -> Result<(), Fail> {
-    holds(&rt, &TABLES)
-}

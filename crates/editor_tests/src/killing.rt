@@ -1,8 +1,5 @@
 //! Kills, and copies into the ring.
 
-use crate::desk::holds;
-use std::test::Fail;
-
 const DRAWN: &str = "
     |: Kill BackwardChar 1 = | /
     |: Kill ForwardChar 1 = | /
@@ -99,7 +96,7 @@ const KEPT: &str = "
 
 const WITH_HINTS: &str = "
     history: abcd = nothing
-    helper: Valid = nothing
+    helper: verdict:Valid hints:taken = nothing
     abx|: Repaint; Kill BackwardChar 1 = ab| / draw '> ab|{cd}' at 0,4 to 0,6
     ab|: Repaint; Kill BackwardChar 2 = | / draw '> |' at 0,2 to 0,2
     ab|: Repaint; Kill ForwardChar 1; CompleteHint = abcd| / draw '> abcd|' at 0,6 to 0,6
@@ -118,13 +115,16 @@ const INSIDE: &str = "
     columns: 10 = nothing
     |abcdefghij: Kill ForwardChar 1 = |bcdefghij / move 0,2 to 0,2; take out 1 before 'bcdefghij' 1,1
     |abcdefghij: Kill ForwardChar 2 = |cdefghij / move 0,2 to 0,2; take out 2 before 'cdefghij' 1,0
-    |abcdefghij: Kill ForwardChar 3 = |defghij / draw '> |defghij' at 0,2 to 0,9
+    |abcdefghij: Kill ForwardChar 3 = |defghij / move 0,2 to 0,2; rest 'defghij' at 0,2 to 0,9
     abcdefg|hijk: Kill ForwardChar 1 = abcdefg|ijk / move 0,9 to 0,9; take out 1 before 'ijk' 1,2
-    abcdefg|hijk: Kill ForwardChar 2 = abcdefg|jk / draw '> abcdefg|jk' at 0,9 to 1,1
+    abcdefg|hijk: Kill ForwardChar 2 = abcdefg|jk / move 0,9 to 0,9; rest 'jk' at 0,9 to 1,1
     abcdefghi|jk: Kill BackwardChar 1 = abcdefgh|jk / move 1,1 to 1,0; take out 1 before 'jk' 1,2
     ab |cd efghijk: Kill ForwardWord 1 AfterEnd Emacs = ab | efghijk / move 0,5 to 0,5; take out 2 before ' efghijk' 1,3
     ab cd |efghijk: Kill BackwardWord 1 Emacs = ab |efghijk / move 0,8 to 0,5; take out 3 before 'efghijk' 1,2
     abc|defghijklmnopqrst: Kill ForwardChar 2 = abc|fghijklmnopqrst / move 0,5 to 0,5; take out 2 before 'fghijklmnopqrst' 2,0
+    abcdefgh|: Kill BackwardChar 1 = abcdefg| / move 1,0 to 0,9; rest '' at 0,9 to 0,9
+    ab cdefghij|: Kill BackwardWord 1 Emacs = ab | / move 1,3 to 0,5; rest '' at 0,5 to 0,5
+    abcdefgh漢|: Kill BackwardChar 1 = abcdefgh| / move 1,2 to 1,0; rest '' at 1,0 to 1,0
 ";
 
 // From the changed place on, if lines are drawn in part.
@@ -142,15 +142,18 @@ const FROM_A_PLACE: &str = "
     |abc: Replace ForwardChar 1 with x = |xbc / move 0,2 to 0,2; take out 1 before 'bc' 0,4; move 0,2 to 0,2; rest 'xbc' at 0,2 to 0,5
 
     history: abcd = nothing
-    helper: Valid = nothing
+    helper: verdict:Valid hints:taken = nothing
     abx|: Repaint; Kill BackwardChar 1 = ab| / move 0,5 to 0,4; rest '{cd}' at 0,4 to 0,6
     ab|: Repaint; Kill BackwardChar 2 = | / move 0,4 to 0,2; rest '' at 0,2 to 0,2
     abx|y: Repaint; Kill BackwardChar 1 = ab|y / move 0,5 to 0,4; take out 1 before 'y' 0,5
+    history: = nothing
+    colours: yes = nothing
+    advised: keyword:aa styled:0,0,bold marks-from:0 = nothing
+    aabc|d: Repaint; Kill BackwardChar 1 = aab|d / move 0,6 to 0,5; rest 'd' at 0,5 to 0,6 lit marked
+    a|ba: Repaint; Kill ForwardChar 1 = a|a / move 0,3 to 0,2; rest 'aa' at 0,3 to 0,4 lit marked
+    advised: keyword:bb = nothing
+    abb|c: Repaint; Kill BackwardChar 1 = ab|c / move 0,5 to 0,3; rest 'bc' at 0,4 to 0,5 lit marked
+    aabb|: Repaint; Kill BackwardChar 1 = aab| / move 0,6 to 0,4; rest 'b' at 0,5 to 0,5 lit marked
 ";
 
-const TABLES: [&str; 5] = [DRAWN, KEPT, WITH_HINTS, INSIDE, FROM_A_PLACE];
-
-#[test]
-fn kills(rt: HostRuntime) -> Result<(), Fail> {
-    holds(&rt, &TABLES)
-}
+pub(crate) const TABLES: [&str; 5] = [DRAWN, KEPT, WITH_HINTS, INSIDE, FROM_A_PLACE];

@@ -1,5 +1,5 @@
 //! The promises of `line_editor` at work: tables of text in which each row is a line and what is
-//! done to it; and in `screen` those of `line_screen`.
+//! done to it. In `screen` those of `line_screen`; in `library` and `sessions` those of `keyline`.
 #![tactic(auto)]
 
 #[cfg(test)]
@@ -19,11 +19,11 @@ mod desk;
 #[cfg(test)]
 mod faults;
 #[cfg(test)]
-mod helpers;
-#[cfg(test)]
 mod inserting;
 #[cfg(test)]
 mod killing;
+#[cfg(test)]
+mod library;
 #[cfg(test)]
 mod lines;
 #[cfg(test)]
@@ -36,5 +36,7 @@ mod rewording;
 mod screen;
 #[cfg(test)]
 mod searching;
+#[cfg(test)]
+mod sessions;
 #[cfg(test)]
 mod yanking;

@@ -4,49 +4,20 @@
 //! C-O: Noop` binds this key only to a command.
 
 use crate::calls::CallList;
-use crate::desk::{Desk, Stage, Work, done_over, key_of, lent_by, line_shown, make, status_of};
+use crate::desk::{Desk, Stage, Work, done_over, lent_by, line_shown, make, status_of};
 use line_buffer::LineBuffer;
 use line_config::{Config, ReadlineError};
 use line_editor::commands::Status;
 use line_editor::run;
 use line_help::Helper;
-use line_keys::{Cmd, CmdKind, Decides, EventMap, InputState, Text};
+use line_keys::{Cmd, CmdKind, Decides, EventMap, InputState};
 use line_record::KillRing;
-use stand_ins::readers::{After, KeyList, Typed};
-use stand_ins::rows::{Player, raised, rows_hold, trimmed};
-use stand_ins::tables::{meant, pictured};
+use stand_ins::readers::KeyList;
+use stand_ins::rows::{Player, Starts, raised, tables_hold, trimmed};
+use stand_ins::tables::pictured;
+use stand_ins::typing::{Input, typed};
 use std::alloc::{AllocError, Global};
 use std::test::Fail;
-
-/// The input of a row.
-#[derive(Drop)]
-pub(crate) struct Input {
-    typed: Vec<Typed>,
-    after: After,
-}
-
-fn item(alloc: Global, word: &str) -> Result<Typed, Fail> {
-    if let Some(text) = word.strip_prefix("text:") {
-        return Ok(Typed::Paste(Text::from(meant(alloc, text)?)));
-    }
-    Ok(Typed::Key(key_of(word)?))
-}
-
-/// Keys and pasted texts by a row's words.
-pub(crate) fn typed(alloc: Global, words: &str) -> Result<Input, Fail> {
-    let mut input = Input {
-        typed: Vec::new(alloc),
-        after: After::End,
-    };
-    for word in words.split_whitespace() {
-        if word == "!failed" {
-            input.after = After::Failed;
-        } else {
-            input.typed.push(item(alloc, word)?)?;
-        }
-    }
-    Ok(input)
-}
 
 // One turn: the next command, and its effect.
 fn turn<H: Helper + Drop, D: Decides>(
@@ -202,16 +173,10 @@ pub(crate) fn run_after<H: Helper + Drop>(
     keys: &Input,
     query: &mut String,
 ) -> Result<String, Fail> {
-    let mut ring = KillRing::new(alloc, 60)?;
-    run_with(
-        alloc,
-        stage,
-        helper,
-        &stage.bindings,
-        &mut ring,
-        query,
-        keys,
-    )
+    match &mut KillRing::new(alloc, 60) {
+        Ok(ring) => run_with(alloc, stage, helper, &stage.bindings, ring, query, keys),
+        Err(why) => Err(Fail::from(*why)),
+    }
 }
 
 /// The same without a helper, and with these bindings.
@@ -221,17 +186,13 @@ pub(crate) fn run_bound<D: Decides>(
     bindings: &EventMap<D>,
     keys: &Input,
 ) -> Result<String, Fail> {
-    let mut ring = KillRing::new(alloc, 60)?;
-    let mut query = String::new(alloc);
-    run_with(
-        alloc,
-        stage,
-        None::<()>,
-        bindings,
-        &mut ring,
-        &mut query,
-        keys,
-    )
+    match &mut KillRing::new(alloc, 60) {
+        Ok(ring) => {
+            let mut query = String::new(alloc);
+            run_with(alloc, stage, None::<()>, bindings, ring, &mut query, keys)
+        }
+        Err(why) => Err(Fail::from(*why)),
+    }
 }
 
 fn run_with<H: Helper + Drop, D: Decides>(
@@ -300,19 +261,33 @@ struct Typist {
 impl Typist {
     // The result of the keys turn by turn, if that of `run` is the same.
     fn types(&self, alloc: Global, keys: &str) -> Result<String, Fail> {
-        let input = typed(alloc, keys)?;
-        let stage = &self.stage;
-        let left = run_over(alloc, stage, stage.helper(), &input)?;
+        match &self.stage.texts(alloc) {
+            Ok(texts) => self.typed_with(alloc, self.stage.helper(texts), keys),
+            Err(why) => Err(Fail::from(*why)),
+        }
+    }
+
+    fn typed_with<H: Helper + Copy + Drop>(
+        &self,
+        alloc: Global,
+        helper: Option<H>,
+        keys: &str,
+    ) -> Result<String, Fail> {
+        match &typed(alloc, keys) {
+            Ok(input) => self.typed_twice(alloc, helper, input),
+            Err(why) => Err(Fail::from(*why)),
+        }
+    }
+
+    fn typed_twice<H: Helper + Copy + Drop>(
+        &self,
+        alloc: Global,
+        helper: Option<H>,
+        input: &Input,
+    ) -> Result<String, Fail> {
+        let left = run_over(alloc, &self.stage, helper, input)?;
         let left = left.as_str();
-        done_over(
-            alloc,
-            stage,
-            stage.helper(),
-            &Keys {
-                input: &input,
-                left,
-            },
-        )
+        done_over(alloc, &self.stage, helper, &Keys { input, left })
     }
 }
 
@@ -328,9 +303,11 @@ impl Player for Typist {
 
 /// Each row has, after ` / `, all calls from the first drawing on; if results are the ring, the
 /// text that a yank would return, in quotes or `-`.
-fn types(alloc: Global, table: &str) -> Result<(), Fail> {
-    let stage = Stage::new(alloc)?;
-    rows_hold(alloc, &mut Typist { stage }, table)
+impl Starts for Typist {
+    fn start(alloc: Global) -> Result<Self, Fail> {
+        let stage = Stage::new(alloc)?;
+        Ok(Typist { stage })
+    }
 }
 
 const TYPED: &str = "
@@ -434,21 +411,21 @@ const FAILING_DISPLAYS: &str = "
 ";
 
 const WITH_A_HELPER: &str = "
-    helper: Incomplete = nothing
+    helper: verdict:Incomplete hints:taken = nothing
     a Enter b C-C = Interrupted a␊b| / draw '> |' at 0,2 to 0,2; write 'a'; draw '> a␊|' at 1,0 to 1,0; write 'b'
 
-    helper: InvalidTold no = nothing
+    helper: verdict:InvalidTold message:no hints:taken = nothing
     a Enter Left Enter = Eof |a / draw '> |' at 0,2 to 0,2; write 'a'; draw '> a|{no}' at 0,3 to 0,5; move 0,3 to 0,2; draw '> |a{no}' at 0,2 to 0,5
     a Enter A-2 b = Eof abb| / draw '> |' at 0,2 to 0,2; write 'a'; draw '> a|{no}' at 0,3 to 0,5; draw '(arg: 2) a|' at 0,10 to 0,10; draw '> a|' at 0,3 to 0,3; draw '> abb|' at 0,5 to 0,5
 
-    helper: Valid = nothing
+    helper: verdict:Valid hints:taken = nothing
     history: abcd = nothing
     a b Right Enter = Submit abcd| / draw '> |' at 0,2 to 0,2; draw '> a|{bcd}' at 0,3 to 0,6; draw '> ab|{cd}' at 0,4 to 0,6; draw '> abcd|' at 0,6 to 0,6
     a Enter = Submit a| / draw '> |' at 0,2 to 0,2; draw '> a|{bcd}' at 0,3 to 0,6; draw '> a|' at 0,3 to 0,3
     a C-C = Interrupted a| / draw '> |' at 0,2 to 0,2; draw '> a|{bcd}' at 0,3 to 0,6; move 0,3 to 0,6
 
     history: = nothing
-    hint-fails: 2 = nothing
+    advised: hint-fails:2 = nothing
     a b Enter = Helper ab| / draw '> |' at 0,2 to 0,2; write 'a'
     a A-2 b Enter = Helper abb| / draw '> |' at 0,2 to 0,2; write 'a'; draw '(arg: 2) a|' at 0,10 to 0,10; draw '> a|' at 0,3 to 0,3
 ";
@@ -464,8 +441,5 @@ const TABLES: [&str; 6] = [
 
 #[test]
 fn lines_as_they_are_typed(rt: HostRuntime) -> Result<(), Fail> {
-    for table in &TABLES {
-        types(rt.alloc(), table)?;
-    }
-    Ok(())
+    tables_hold::<Typist>(rt.alloc(), &TABLES)
 }

@@ -1,8 +1,5 @@
 //! Motions.
 
-use crate::desk::holds;
-use std::test::Fail;
-
 const MOTIONS: &str = "
     |: Move BackwardChar 1 = | /
     |: Move ForwardChar 1 = | /
@@ -91,8 +88,8 @@ const IN_TEN_COLUMNS: &str = "
 ";
 
 const HIGHLIGHTS: &str = "
-    helper: Valid = nothing
-    marks: 1 = nothing
+    helper: verdict:Valid hints:taken = nothing
+    advised: marked:1 = nothing
     ab|c: Move BackwardChar 1 = a|bc / move 0,4 to 0,3
 
     colours: yes = nothing
@@ -104,7 +101,7 @@ const HIGHLIGHTS: &str = "
 
 const WITH_A_HINT: &str = "
     history: abcd = nothing
-    helper: Valid = nothing
+    helper: verdict:Valid hints:taken = nothing
     ab|: Repaint = ab| / draw '> ab|{cd}' at 0,4 to 0,6
     ab|: Repaint; Move BackwardChar 1 = a|b / move 0,4 to 0,3
     ab|: Repaint; Move ForwardChar 1 = ab| /
@@ -133,9 +130,4 @@ const OVER_TABS: &str = "
     abcdefg␉x␊abcdefghi|: Move LineUp 1 = abcdefg|␉x␊abcdefghi / move 2,9 to 0,9
 ";
 
-const TABLES: [&str; 5] = [MOTIONS, IN_TEN_COLUMNS, HIGHLIGHTS, WITH_A_HINT, OVER_TABS];
-
-#[test]
-fn moves(rt: HostRuntime) -> Result<(), Fail> {
-    holds(&rt, &TABLES)
-}
+pub(crate) const TABLES: [&str; 5] = [MOTIONS, IN_TEN_COLUMNS, HIGHLIGHTS, WITH_A_HINT, OVER_TABS];

@@ -1,8 +1,5 @@
 //! Transpositions, changes of case, indentation, and undo.
 
-use crate::desk::holds;
-use std::test::Fail;
-
 const CHANGES: &str = "
     a|ßc: TransposeChars = ßa|c / draw '> ßa|c' at 0,4 to 0,5
     abc|: TransposeChars = acb| / draw '> acb|' at 0,5 to 0,5
@@ -70,10 +67,7 @@ const WRITTEN_OVER: &str = "
 
     columns: 6 = nothing
     ab|: TransposeChars = ba| / move 0,4 to 0,2; write over 'ba' 0,4
-    abc|d: TransposeChars = abdc| / draw '> abdc|' at 1,0 to 1,0
+    abc|d: TransposeChars = abdc| / move 0,5 to 0,4; rest 'dc' at 1,0 to 1,0
 ";
 
-#[test]
-fn words_and_rows_changed(rt: HostRuntime) -> Result<(), Fail> {
-    holds(&rt, &[CHANGES, WRITTEN_OVER])
-}
+pub(crate) const TABLES: [&str; 2] = [CHANGES, WRITTEN_OVER];

@@ -6,4 +6,3 @@ mod measuring;
 mod reading;
 mod sequences;
 mod sinks;
-mod sources;

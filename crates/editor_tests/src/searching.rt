@@ -3,12 +3,28 @@
 //! and after ` = ` the line or why there is none, all calls, the text that a yank would return, and
 //! the last query, with which the next row begins. `query: ab` sets it.
 
+use crate::candidates;
 use crate::desk::Stage;
-use crate::lines::{run_after, typed};
-use stand_ins::rows::{Player, raised, rows_hold, trimmed};
+use crate::lines::run_after;
+use line_help::Helper;
+use stand_ins::rows::{Player, Starts, raised, tables_hold, trimmed};
 use stand_ins::tables::word_and_rest;
+use stand_ins::typing::typed;
 use std::alloc::Global;
 use std::test::Fail;
+
+// The result of keys over a helper, and the last query.
+fn finds<H: Helper + Drop>(
+    alloc: Global,
+    stage: &Stage,
+    helper: Option<H>,
+    keys: &str,
+    query: &mut String,
+) -> Result<String, Fail> {
+    let input = typed(alloc, keys)?;
+    let left = run_after(alloc, stage, helper, &input, query)?;
+    raised(format!(in alloc; "{left} / {query}"))
+}
 
 /// Keys typed on a stage, line after line.
 #[derive(Drop)]
@@ -20,10 +36,13 @@ struct Searcher {
 impl Searcher {
     // The result of a row's keys.
     fn types(&mut self, alloc: Global, keys: &str) -> Result<String, Fail> {
-        let input = typed(alloc, keys)?;
-        let helper = self.stage.helper();
-        let left = run_after(alloc, &self.stage, helper, &input, &mut self.query)?;
-        raised(format!(in alloc; "{left} / {}", self.query))
+        match &self.stage.texts(alloc) {
+            Ok(texts) => {
+                let helper = self.stage.helper(texts);
+                finds(alloc, &self.stage, helper, keys, &mut self.query)
+            }
+            Err(why) => Err(Fail::from(*why)),
+        }
     }
 
     fn sets(&mut self, alloc: Global, row: &str) -> Result<bool, Fail> {
@@ -46,11 +65,12 @@ impl Player for Searcher {
     }
 }
 
-/// Whether a table's lines are as its rows say.
-pub(crate) fn plays_lines(alloc: Global, table: &str) -> Result<(), Fail> {
-    let stage = Stage::new(alloc)?;
-    let query = String::new(alloc);
-    rows_hold(alloc, &mut Searcher { stage, query }, table)
+impl Starts for Searcher {
+    fn start(alloc: Global) -> Result<Self, Fail> {
+        let stage = Stage::new(alloc)?;
+        let query = String::new(alloc);
+        Ok(Searcher { stage, query })
+    }
 }
 
 const FOUND: &str = "
@@ -98,19 +118,17 @@ const CUT: &str = "
     C-R !failed = Reader / draw '> |' at 0,2 to 0,2; draw '(reverse-i-search)`': |' at 0,22 to 0,22 / - / s
     C-R C-R !failed = Reader / draw '> |' at 0,2 to 0,2; draw '(reverse-i-search)`': |' at 0,22 to 0,22; draw '(reverse-i-search)`s': l|s -l' at 0,24 to 0,28 / - / s
 
-    helper: Valid = nothing
-    hint-fails: 5 = nothing
+    helper: verdict:Valid hints:taken = nothing
+    advised: hint-fails:5 = nothing
     C-R l Enter = Helper / draw '> |' at 0,2 to 0,2; draw '(reverse-i-search)`': |' at 0,22 to 0,22 / - / l
-    wants-memory: yes = nothing
+    advised: wants-memory = nothing
     C-R C-R Enter = Memory / draw '> |' at 0,2 to 0,2; draw '(reverse-i-search)`': |' at 0,22 to 0,22 / - / l
 ";
 
 const TABLES: [&str; 2] = [FOUND, CUT];
 
 #[test]
-fn lines_of_searches(rt: HostRuntime) -> Result<(), Fail> {
-    for table in &TABLES {
-        plays_lines(rt.alloc(), table)?;
-    }
-    Ok(())
+fn lines_of_searches_and_of_candidates(rt: HostRuntime) -> Result<(), Fail> {
+    tables_hold::<Searcher>(rt.alloc(), &TABLES)?;
+    tables_hold::<Searcher>(rt.alloc(), &candidates::TABLES)
 }

@@ -1,8 +1,5 @@
 //! Yanks.
 
-use crate::desk::holds;
-use std::test::Fail;
-
 // `one` and `two` are killed, each into its own slot, `one` last.
 const YANKS: &str = "
     |: Yank 1 Before = | /
@@ -49,7 +46,4 @@ const FROM_A_PLACE: &str = "
     one two|: Yank 0 Before; YankPop = |  /
 ";
 
-#[test]
-fn yanks(rt: HostRuntime) -> Result<(), Fail> {
-    holds(&rt, &[YANKS, FROM_A_PLACE])
-}
+pub(crate) const TABLES: [&str; 2] = [YANKS, FROM_A_PLACE];

@@ -101,7 +101,7 @@ module _ (s : Screen) where
     own_answered k (Keys (Reads item)) = tt
     own_answered k _ = tt
 
-    asks_bytes : (l : Layout) (k : LineState) (asks : List LineAsk) → drawn_in (asks_events s a l k asks) ≡ flat_map (bytes_of s) (calls_by_screen s l (steps_along a k asks)).calls
+    pub asks_bytes : (l : Layout) (k : LineState) (asks : List LineAsk) → drawn_in (asks_events s a l k asks) ≡ flat_map (bytes_of s) (calls_by_screen s l (steps_along a k asks)).calls
     asks_bytes l k [] = refl
     asks_bytes l k (ask ∷ asks) =
         let rs = (effect_at a k ask).steps in

@@ -20,6 +20,7 @@ pub mod PasteLemmas
 pub mod PastePhrases
 pub mod PhraseFuel
 pub mod PlayedLemmas
+pub mod RestFits
 pub mod SessionFuel
 pub mod SessionLawLemmas
 pub mod SessionSteps

@@ -1,5 +1,5 @@
 -- The count of one byte.
-use Rattle.std.proofs.Common.{◌≡◌, ℕ, ◌+◌, ◌<◌, ◌==◌, not, nat_lt, nat_le, Bool, true, false, List, [], ◌∷◌, ◌++◌, take, drop, Option, Some, None, is_some, encode_utf8, refl, ap, ◌∙◌, append-nil, arith, if◌then◌else◌}
+use Rattle.std.proofs.Common.{◌≡◌, ℕ, ◌+◌, ◌==◌, not, Bool, true, false, List, [], ◌∷◌, ◌++◌, take, drop, Option, Some, None, is_some, encode_utf8, refl, ap, ap₂, ◌∙◌, append-nil, arith, if◌then◌else◌}
 use Rattle.std.specs.Prelude.{length, slice_range}
 use Rattle.std.specs.List.{flat_map}
 use Rattle.std.proofs.lemmas.Bool.{and_parts, and_from, not-true, lt-ltb, ltb-true}
@@ -16,7 +16,7 @@ use Rattle.line_keys.specs.declared.command.Cmd.{Cmd}
 use Rattle.line_keys.specs.declared.command.Cmd.TheVariants.{SelfInsert}
 use Rattle.line_editor.specs.RenderCalls.{Marks}
 use Rattle.line_editor.specs.RenderCalls.Call.{Append}
-use Rattle.line_editor.specs.Drawing.{since, ask_anew_effect}
+use Rattle.line_editor.specs.Drawing.{Since, since, ask_anew_effect}
 use Rattle.line_keys.specs.Replies.{Reply, fails}
 use Rattle.line_editor.specs.Asks.{shown_in}
 use Rattle.line_editor.specs.Inserting.{is_bare, may_be_typed, may_be_appended, may_be_put_in, insertion_way, put_redraw, show_inserted_effect, insert_char}
@@ -25,12 +25,12 @@ use Rattle.line_editor.specs.declared.way.Way.TheVariants.{AtEnd, Alone, Inside,
 use Rattle.line_editor.specs.LineScripts.{Meets, LineState, turn_start, line_plan, made_from, meet_script, obey_script, phrase_script, played_from, steps_along, turn_script}
 use Rattle.line_editor.specs.Modal.{Modal, is_at_rest}
 use Rattle.line_editor.specs.NextCommand.{line_phrase}
-use Rattle.line_editor.specs.Redraws.{RedrawCalls, full, nothing_asked, move_call, char_call, append_call, erase_call, put_in_short, taken_out_short, fits_in_row, may_type, may_take, may_erase, may_put_in, may_take_out, write_over_call, may_write_over}
-use Rattle.line_editor.specs.Redraws.Redraw.{Drawn, Moved, Typed, Appended, Taken, Erased, PutIn, TakenOut, DrawnFrom, Bared, ToEnd, Beeped, Cleared, Rewritten}
+use Rattle.line_editor.specs.Redraws.{RedrawCalls, full, rest_call, nothing_asked, move_call, char_call, append_call, erase_call, put_in_short, taken_out_short, fits_in_row, may_type, may_take, may_erase, may_put_in, may_take_out, write_over_call, may_write_over}
+use Rattle.line_editor.specs.Redraws.Redraw.{Drawn, Moved, Typed, Appended, Taken, Erased, PutIn, TakenOut, DrawnFrom, Bared, ToEnd, Cleared, Rewritten}
 use Rattle.line_editor.specs.Sights.{Sight, sight, Fits}
 use Rattle.line_editor.specs.EditSteps.{one}
 use Rattle.line_editor.specs.Values.{shown_marks, Value, Setting, Effect, EditStep, help_steps, hint_reply, no_effect}
-use Rattle.line_editor.specs.Values.EditStep.{Draws, Helped, Edits, TakesBack, Takes}
+use Rattle.line_editor.specs.Values.EditStep.{Draws, Helped}
 use Rattle.line_editor.specs.declared.commands.Status.{Status}
 use Rattle.line_editor.proofs.PastLemmas.{plays_past, steps_past, phrase_keeps}
 use Rattle.line_editor.proofs.StopsLemmas.{asked_both}
@@ -41,77 +41,67 @@ use Rattle.line_screen.specs.Drawing.DrawnItem.{Letter}
 use Rattle.line_screen.specs.Laws.{widths}
 use Rattle.line_screen.specs.Measure.{in_row}
 use Rattle.line_screen.proofs.Items.{letter_items}
+use Rattle.keyline.proofs.ShowSteps.{if_none, small}
 use Rattle.keyline.specs.OneByte.{TellsSight, LayoutsTell, TypedAtEnd, OneByte, ReadAlone}
 use Rattle.keyline.specs.Shows.{calls_by_screen, bytes_for}
 
-small : (c : ℕ) → is_printable c ≡ true → c < 128
-small c h = let parts = and_parts (nat_le 32 c) (nat_lt c 127) h in let k = ltb-true c 127 parts.1 in omega arith
-
 -- ---- the layout that is kept
 
-moved_tells : (l : Layout) (x : Sight) (cursor : Position) (b : Bool) → TellsSight l x → TellsSight (if b then nothing_asked l else move_call l cursor).layout x
-moved_tells l x cursor true h = h
-moved_tells l x cursor false h = record { info_is = h.info_is; given_is = h.given_is }
+-- whether information is shown, and whether the session's own prompt is
+abbrev told : Layout → Bool × Bool
+told l = (l.has_info, l.default_prompt)
+
+abbrev seen : Sight → Bool × Bool
+seen x = (is_some x.info, x.given)
+
+moved_told : (l : Layout) (to : Position) (b : Bool) → told (if b then nothing_asked l else move_call l to).layout ≡ told l
+moved_told l to true = refl
+moved_told l to false = refl
+
+-- a short call is made only if there is no information
+short_told : (l : Layout) (short drawn : RedrawCalls) (b : Bool) → told short.layout ≡ told l → told drawn.layout ≡ (false, true) → (b ≡ true → not l.has_info ≡ true) → l.default_prompt ≡ true
+    → told (if b then short else drawn).layout ≡ (false, true)
+short_told l short drawn true same full none own = same ∙ ap₂ (λ a b. (a, b)) (not-true l.has_info (none refl)) own
+short_told l short drawn false same full none own = full
+
+one_told : (s : Screen) (own : List ℕ) (l : Layout) (x : Sight) (r : EditStep) → told l ≡ seen x → Fits own x r → told (one (ruler_of s) l r).layout ≡ seen (sight x r)
+one_told s own l x (Draws v m (Drawn prompt given text at info)) h fits = refl
+one_told s own l x (Draws v m (Moved text at)) h fits = let to = (ruler_of s).measure (take at text) l.prompt_size in moved_told l to (same_cell l.cursor to) ∙ h
+one_told s own l x (Draws v m (Typed prompt c text at)) h fits =
+    short_told l (char_call l c) (full (ruler_of s) (shown_marks v m) l prompt true text at None) (may_type (ruler_of s) l) refl refl (λ e. (and_parts (not l.has_info) _ e).0) (ap (λ t. t.1) h ∙ fits.0)
+one_told s own l x (Draws v m (Appended prompt c text at)) h fits =
+    let drawn = full (ruler_of s) (shown_marks v m) l prompt true text at None in
+    let short = append_call (ruler_of s) l c in
+    ap (λ (q : RedrawCalls). told q.layout) (if_none l.has_info drawn short) ∙ short_told l short drawn (not l.has_info) refl refl (λ e. e) (ap (λ t. t.1) h ∙ fits.0)
+one_told s own l x (Draws v m (Taken prompt count true text at)) h fits =
+    short_told l (erase_call l count) (rest_call (ruler_of s) (shown_marks v m) l at text at None) (may_take l count) refl refl (λ e. (and_parts (not l.has_info) _ e).0) (ap (λ t. t.1) h ∙ fits.0)
+one_told s own l x (Draws v m (Taken prompt count false text at)) h fits =
+    short_told l (erase_call l count) (full (ruler_of s) (shown_marks v m) l prompt true text at None) (may_take l count) refl refl (λ e. (and_parts (not l.has_info) _ e).0) (ap (λ t. t.1) h ∙ fits.0)
+one_told s own l x (Draws v m (Erased prompt c text at)) h fits =
+    let short = erase_call l ((ruler_of s).measure (encode_utf8 c) origin).col in
+    short_told l short (rest_call (ruler_of s) (shown_marks v m) l at text at None) (may_erase (ruler_of s) l c) refl refl (λ e. (and_parts (not l.has_info) _ e).0) (ap (λ t. t.1) h ∙ fits.0)
+one_told s own l x (Draws v m (PutIn prompt c text at)) h fits =
+    let rest = drop at text in
+    short_told l (put_in_short (ruler_of s) l c rest) (full (ruler_of s) (shown_marks v m) l prompt true text at None) (may_put_in (ruler_of s) l rest) refl refl (λ e. (and_parts (not l.has_info) _ e).0) (ap (λ t. t.1) h ∙ fits.0)
+one_told s own l x (Draws v m (TakenOut prompt count text at)) h fits =
+    let rest = drop at text in
+    let cell = (ruler_of s).measure (take at text) l.prompt_size in
+    short_told l (taken_out_short l cell count rest) (rest_call (ruler_of s) (shown_marks v m) l at text at None) (may_take_out (ruler_of s) l cell count rest) refl refl
+    (λ e. (and_parts (not l.has_info) _ e).0) (ap (λ t. t.1) h ∙ fits.0)
+one_told s own l x (Draws v m (DrawnFrom prompt from text at info)) h fits = refl
+one_told s own l x (Draws v m (Rewritten prompt from upto text at)) h fits =
+    let cell = (ruler_of s).measure (take from text) l.prompt_size in
+    let letters = slice_range text from upto in
+    short_told l (write_over_call l letters cell ((ruler_of s).measure (take at text) l.prompt_size)) (rest_call (ruler_of s) (shown_marks v m) l from text at None) (may_write_over (ruler_of s) l cell (length letters)) refl refl
+    (λ e. (and_parts (not l.has_info) _ e).0) (ap (λ t. t.1) h ∙ fits.0)
+one_told s own l x (Draws v m (Bared prompt text at)) h fits =
+    ap (λ b. told (if b then nothing_asked l else full (ruler_of s) (shown_marks v m) l prompt true text at None).layout) (ap (λ t. t.1) h ∙ fits) ∙ h
+one_told s own l x (Draws v m ToEnd) h fits = moved_told l l.end (same_cell l.cursor l.end) ∙ h
+one_told s own l x (Draws v m Cleared) h fits = refl
+one_told s own l x r h fits = h
 
 one_tells : (s : Screen) (own : List ℕ) (l : Layout) (x : Sight) (r : EditStep) → TellsSight l x → Fits own x r → TellsSight (one (ruler_of s) l r).layout (sight x r)
-one_tells s own l x (Draws v m (Drawn prompt given text at info)) h fits = record { info_is = refl; given_is = refl }
-one_tells s own l x (Draws v m (Moved text at)) h fits =
-    let cursor = (ruler_of s).measure (take at text) l.prompt_size in
-    let t = moved_tells l x cursor (same_cell l.cursor cursor) h in
-    record { info_is = t.info_is; given_is = t.given_is }
-one_tells s own l x (Draws v m (Typed prompt c text at)) h fits = by_test (may_type (ruler_of s) l) refl
-  where
-    by_test : (b : Bool) → may_type (ruler_of s) l ≡ b → TellsSight (if b then char_call l c else full (ruler_of s) (shown_marks v m) l prompt true text at None).layout (sight x (Draws v m (Typed prompt c text at)))
-    by_test true e = record { info_is = not-true l.has_info (and_parts (not l.has_info) _ e).0; given_is = h.given_is ∙ fits.0 }
-    by_test false e = record { info_is = refl; given_is = refl }
-one_tells s own l x (Draws v m (Appended prompt c text at)) h fits = by_test l.has_info refl
-  where
-    by_test : (b : Bool) → l.has_info ≡ b → TellsSight (if b then full (ruler_of s) (shown_marks v m) l prompt true text at None else append_call (ruler_of s) l c).layout (sight x (Draws v m (Appended prompt c text at)))
-    by_test true e = record { info_is = refl; given_is = refl }
-    by_test false e = record { info_is = e; given_is = h.given_is ∙ fits.0 }
-one_tells s own l x (Draws v m (Taken prompt count text at)) h fits = by_test (may_take l count) refl
-  where
-    by_test : (b : Bool) → may_take l count ≡ b → TellsSight (if b then erase_call l count else full (ruler_of s) (shown_marks v m) l prompt true text at None).layout (sight x (Draws v m (Taken prompt count text at)))
-    by_test true e = record { info_is = not-true l.has_info (and_parts (not l.has_info) _ e).0; given_is = h.given_is ∙ fits.0 }
-    by_test false e = record { info_is = refl; given_is = refl }
-one_tells s own l x (Draws v m (Erased prompt c text at)) h fits = by_test (may_erase (ruler_of s) l c) refl
-  where
-    by_test : (b : Bool) → may_erase (ruler_of s) l c ≡ b
-        → TellsSight (if b then erase_call l ((ruler_of s).measure (encode_utf8 c) origin).col else full (ruler_of s) (shown_marks v m) l prompt true text at None).layout (sight x (Draws v m (Erased prompt c text at)))
-    by_test true e = record { info_is = not-true l.has_info (and_parts (not l.has_info) _ e).0; given_is = h.given_is ∙ fits.0 }
-    by_test false e = record { info_is = refl; given_is = refl }
-one_tells s own l x (Draws v m (PutIn prompt c text at)) h fits = by_test (may_put_in (ruler_of s) l (drop at text)) refl
-  where
-    by_test : (b : Bool) → may_put_in (ruler_of s) l (drop at text) ≡ b → TellsSight (if b then put_in_short (ruler_of s) l c (drop at text) else full (ruler_of s) (shown_marks v m) l prompt true text at None).layout (sight x (Draws v m (PutIn prompt c text at)))
-    by_test true e = record { info_is = not-true l.has_info (and_parts (not l.has_info) _ e).0; given_is = h.given_is ∙ fits.0 }
-    by_test false e = record { info_is = refl; given_is = refl }
-one_tells s own l x (Draws v m (TakenOut prompt count text at)) h fits = by_test (may_take_out (ruler_of s) l ((ruler_of s).measure (take at text) l.prompt_size) count (drop at text)) refl
-  where
-    by_test : (b : Bool) → may_take_out (ruler_of s) l ((ruler_of s).measure (take at text) l.prompt_size) count (drop at text) ≡ b
-        → TellsSight (if b then taken_out_short l ((ruler_of s).measure (take at text) l.prompt_size) count (drop at text) else full (ruler_of s) (shown_marks v m) l prompt true text at None).layout (sight x (Draws v m (TakenOut prompt count text at)))
-    by_test true e = record { info_is = not-true l.has_info (and_parts (not l.has_info) _ e).0; given_is = h.given_is ∙ fits.0 }
-    by_test false e = record { info_is = refl; given_is = refl }
-one_tells s own l x (Draws v m (DrawnFrom prompt from text at info)) h fits = record { info_is = refl; given_is = refl }
-one_tells s own l x (Draws v m (Rewritten prompt from upto text at)) h fits = by_test (may_write_over (ruler_of s) l ((ruler_of s).measure (take from text) l.prompt_size) (length (slice_range text from upto))) refl
-  where
-    by_test : (b : Bool) → may_write_over (ruler_of s) l ((ruler_of s).measure (take from text) l.prompt_size) (length (slice_range text from upto)) ≡ b
-        → TellsSight (if b then write_over_call l (slice_range text from upto) ((ruler_of s).measure (take from text) l.prompt_size) ((ruler_of s).measure (take at text) l.prompt_size) else full (ruler_of s) (shown_marks v m) l prompt true text at None).layout (sight x (Draws v m (Rewritten prompt from upto text at)))
-    by_test true e = record { info_is = not-true l.has_info (and_parts (not l.has_info) _ e).0; given_is = h.given_is ∙ fits.0 }
-    by_test false e = record { info_is = refl; given_is = refl }
-one_tells s own l x (Draws v m (Bared prompt text at)) h fits = by_test l.default_prompt (h.given_is ∙ fits)
-  where
-    by_test : (b : Bool) → b ≡ true → TellsSight (if b then nothing_asked l else full (ruler_of s) (shown_marks v m) l prompt true text at None).layout x
-    by_test true e = h
-    by_test false e = cc
-one_tells s own l x (Draws v m ToEnd) h fits =
-    let t = moved_tells l x l.end (same_cell l.cursor l.end) h in
-    record { info_is = t.info_is; given_is = t.given_is }
-one_tells s own l x (Draws v m Beeped) h fits = h
-one_tells s own l x (Helped v fails takes) h fits = h
-one_tells s own l x (Edits v edit) h fits = h
-one_tells s own l x (TakesBack v count) h fits = h
-one_tells s own l x (Takes v) h fits = h
-one_tells s own l x (Draws v m Cleared) h fits = record { info_is = refl; given_is = refl }
+one_tells s own l x r h fits = let is = one_told s own l x r (ap₂ (λ a b. (a, b)) h.info_is h.given_is) fits in record { info_is = ap (λ t. t.0) is; given_is = ap (λ t. t.1) is }
 
 pub layouts_tell : LayoutsTell
 layouts_tell s own [] l x h fits = h
@@ -123,7 +113,7 @@ printed : (tabs : Bool) (v : Value) (c : ℕ) → may_be_typed tabs c 1 v ≡ tr
 printed tabs v c alone = (and_parts (is_printable c) _ (and_parts (is_bare v) (is_typed_at_end tabs c v.line.text v.line.place) alone).1).0
 
 -- its drawing goes this way, behind a step that sends nothing and what the helper is asked
-shown_short : (a : Setting) (u : Value) (step : EditStep) (c : ℕ) (b : Bool) (way : Way) (from : Option ℕ) → b ≡ true
+shown_short : (a : Setting) (u : Value) (step : EditStep) (c : ℕ) (b : Bool) (way : Way) (from : Option Since) → b ≡ true
     → (let shown = show_inserted_effect c way from a u in let e : Effect = if b then record { value = shown.value; steps = step ∷ shown.steps } else no_effect a u in
     is_bare e.value ≡ true → e.steps ≡ step ∷ (help_steps u (hint_reply a u) ++ (Draws e.value a.marks (put_redraw way c from a e.value) ∷ [])))
 shown_short a u step c true way from room after =
@@ -137,7 +127,7 @@ help_bytes : {A : Type 0} (s : Screen) (l : Layout) (u : Value) (step : EditStep
 help_bytes s l u step None steps nothing = ap (λ a. flat_map (bytes_of s) (a.calls ++ (calls_by_screen s a.layout steps).calls)) nothing
 help_bytes s l u step (Some reply) steps nothing = ap (λ a. flat_map (bytes_of s) (a.calls ++ (calls_by_screen s a.layout (Helped u (fails reply) reply.takes ∷ steps)).calls)) nothing
 
-sent_short : (s : Screen) (l : Layout) (a : Setting) (u : Value) (step : EditStep) (c : ℕ) (b : Bool) (way : Way) (from : Option ℕ) → b ≡ true
+sent_short : (s : Screen) (l : Layout) (a : Setting) (u : Value) (step : EditStep) (c : ℕ) (b : Bool) (way : Way) (from : Option Since) → b ≡ true
     → (let shown = show_inserted_effect c way from a u in let e : Effect = if b then record { value = shown.value; steps = step ∷ shown.steps } else no_effect a u in
     is_bare e.value ≡ true → one (ruler_of s) l step ≡ nothing_asked l → bytes_for s l e.steps ≡ bytes_for s l (Draws e.value a.marks (put_redraw way c from a e.value) ∷ []))
 sent_short s l a u step c b way from room after nothing =
@@ -182,7 +172,7 @@ alone_bytes s l v m prompt c text at printable may =
     ap (λ b. flat_map (bytes_of s) ((if b then full (ruler_of s) (shown_marks v m) l prompt true text at None else append_call (ruler_of s) l c).calls ++ [])) (not-true l.has_info parts.0)
     ∙ append-nil (bytes_of s (Append (encode_utf8 c) l.cursor)) ∙ letter_bytes s c l.cursor printable parts.1
 
-either_bytes : (s : Screen) (l : Layout) (a : Setting) (v : Value) (c : ℕ) (b : Bool) (from : Option ℕ) → is_printable c ≡ true → may_type (ruler_of s) l ≡ true
+either_bytes : (s : Screen) (l : Layout) (a : Setting) (v : Value) (c : ℕ) (b : Bool) (from : Option Since) → is_printable c ≡ true → may_type (ruler_of s) l ≡ true
     → bytes_for s l (Draws v a.marks (put_redraw (if b then Alone else AtEnd) c from a v) ∷ []) ≡ c ∷ []
 either_bytes s l a v c true from printable may = alone_bytes s l v a.marks a.prompt c v.line.text v.line.place printable may
 either_bytes s l a v c false from printable may = short_bytes s l v a.marks a.prompt c v.line.text v.line.place printable may

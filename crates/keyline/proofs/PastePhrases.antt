@@ -7,8 +7,7 @@ use Rattle.line_config.specs.declared.settings.EditMode.TheVariants.{Emacs, Vi}
 use Rattle.line_keys.specs.declared.command.Cmd.{Cmd}
 use Rattle.line_keys.specs.declared.command.Cmd.TheVariants.{Insert}
 use Rattle.line_keys.specs.declared.command.InputMode.{InputMode}
-use Rattle.line_keys.specs.declared.command.InputMode.TheVariants.{Command, Insert as Inserting, Replace as Overwriting}
-use Rattle.line_keys.specs.declared.events.Event.TheVariants.{Any}
+use Rattle.line_keys.specs.declared.command.InputMode.TheVariants.{Command}
 use Rattle.line_keys.specs.declared.key.KeyEvent.{KeyEvent}
 use Rattle.line_keys.specs.CustomBindings.{Custom, answer_by}
 use Rattle.script.specs.Played.{Played, play_with_first_ask}
@@ -28,27 +27,20 @@ use Rattle.line_keys.specs.Replies.{gives_at_once, with_memory}
 use Rattle.line_keys.specs.Vi.{with_last, change_part, insert_part, command_table, vi_counted, vi_command, insert_table, vi_insert}
 use Rattle.line_keys.specs.ViTables.{insert_action, action_of}
 use Rattle.line_editor.specs.Asks.{shown_in}
-use Rattle.line_editor.specs.Drawing.{refresh_effect_since}
 use Rattle.line_editor.specs.LineScripts.{Keys, LineState, LineAsk, turn_start, line_state, script_of_keys, phrase_script, played_from}
 use Rattle.line_editor.specs.NextCommand.{with_group_begun}
-use Rattle.line_editor.specs.Values.{Setting, Value, no_effect, then_do}
-use Rattle.line_editor.specs.Yanking.{value_after_yank, yank_effect}
-use Rattle.line_editor.specs.declared.modal_state.Standing.{Standing}
+use Rattle.line_editor.specs.Values.{Setting}
 use Rattle.line_screen.specs.KeyGrammar.{coming_of, marker, paste_start, with_newlines}
 use Rattle.line_screen.proofs.Pasting.{pasted_text_is_before_its_mark}
-use Rattle.keyline.specs.Pasting.{paste_bytes, IsPasteable}
+use Rattle.keyline.specs.Pasting.{paste_bytes, IsFree, IsPasteable}
 use Rattle.keyline.specs.Sessions.{coming_from}
 
 -- ---- what no binding answers, the tables do
 
--- no binding is for this key
-abbrev pub IsFree : Custom → KeyEvent → Type 0
-IsFree custom k = (custom.answers (single k) ≡ None) × (custom.answers Any ≡ None)
-
 unbound_answer : (s : Situation) (k : KeyEvent) → IsFree s.custom k → custom_answer s k ≡ gives_at_once None
 unbound_answer s k free =
-    ap (λ bound. answer_by (or_any s.custom bound) (handler_arguments_for s (single k))) free.0
-    ∙ ap (λ bound. answer_by (option_map (λ meaning s. with_memory (meaning s)) bound) (handler_arguments_for s (single k))) free.1
+    ap (λ bound. answer_by (or_any s.custom bound) (handler_arguments_for s (single k))) free.own
+    ∙ ap (λ bound. answer_by (option_map (λ meaning s. with_memory (meaning s)) bound) (handler_arguments_for s (single k))) free.any
 
 pub by_the_table : (new : Option ℕ) (s : Situation) (k : KeyEvent) (table : PhrasePart Cmd) (n : ℕ) → IsFree s.custom k → terminal_command s.shown k ≡ None
     → steps (decision_of new s k table) n ≡ steps table n
@@ -56,10 +48,6 @@ unfolding reply_then
 by_the_table new s k table n free none =
     ap (λ reply. steps (reply_then (binding_or new s (command_or table (terminal_command s.shown k))) reply) n) (unbound_answer s k free)
     ∙ ap (λ command. steps (command_or table command) n) none
-
--- what stands between commands
-abbrev pub at_rest : Standing → LineState → LineState
-at_rest at k = record k { modal = record k.modal { standing = at } }
 
 abbrev pub with_rest : LineState → Coming → LineState
 with_rest k c = record k { coming = c }
@@ -92,11 +80,8 @@ pastes Vi Command custom last search modal shown n free =
     let input = input_with Vi Command last search modal in
     let s = situation custom input shown 1 true in
     by_the_table None s paste_start (and_then input shown (command_table None s paste_start) change_part) (suc n) free refl
-pastes Vi Inserting custom last search modal shown n free =
-    let input = input_with Vi Inserting last search modal in
-    by_the_table None (situation custom input shown 0 true) paste_start (and_then input shown (insert_table custom input shown paste_start) insert_part) (suc n) free refl
-pastes Vi Overwriting custom last search modal shown n free =
-    let input = input_with Vi Overwriting last search modal in
+pastes Vi input_mode custom last search modal shown n free =
+    let input = input_with Vi input_mode last search modal in
     by_the_table None (situation custom input shown 0 true) paste_start (and_then input shown (insert_table custom input shown paste_start) insert_part) (suc n) free refl
 
 -- ---- the phrases, played
@@ -133,13 +118,6 @@ module _ (s : Setting) where
       let input = k.input in
       ap (behind_key (suc (suc n)) k (Pasted bytes text rest)) (pastes input.mode input.input_mode custom input.last input.search input.modal_commands (shown_in k.value) n free)
       ∙ plays_keeping (suc (suc n)) input.mode text k rest bytes
-
--- ---- a drawing leaves the line
-
-pub drawn_if : (b vi : Bool) (text : List ℕ) (n : ℕ) (from : Option ℕ) (s : Setting) (v : Value)
-    → (if b then then_do (yank_effect vi text n) (refresh_effect_since from) s v else no_effect s (value_after_yank vi text n v)).value.line ≡ (value_after_yank vi text n v).line
-drawn_if true vi text n from s v = refl
-drawn_if false vi text n from s v = refl
 
 -- ---- what the bytes read as
 

@@ -1,6 +1,6 @@
 -- A step leads from what is shown before it to what is to be shown after it.
-use Rattle.std.proofs.Common.{◌≡◌, ◌≢◌, ℕ, ◌+◌, ◌-◌, ◌==◌, not, ◌<◌, ◌≤◌, inl, inr, nat_lt, nat_le, Bool, true, false, List, [], ◌∷◌, ◌++◌, take, drop, take_all, ap₂, length, length-append, map, Option, Some, None, is_some, encode_utf8, refl, sym, ap, ◌∙◌, subst, append_assoc, append-nil, arith, if◌then◌else◌}
-use Rattle.std.specs.Prelude.{slice_range}
+use Rattle.std.proofs.Common.{◌≡◌, ◌≢◌, ℕ, zero, suc, ◌+◌, ◌-◌, ◌==◌, not, ◌<◌, ◌≤◌, inl, inr, nat_lt, nat_le, Bool, true, false, List, [], ◌∷◌, ◌++◌, take, drop, take_all, ap₂, length, length-append, map, Option, Some, None, is_some, encode_utf8, refl, sym, ap, ◌∙◌, subst, append_assoc, append-nil, arith, if◌then◌else◌}
+use Rattle.std.specs.Prelude.{slice_range, replicate}
 use Rattle.std.specs.List.{filter, flat_map}
 use Rattle.std.proofs.lemmas.Bool.{and_from, and_parts, not-true, eqb-true, lt-ltb, ltb-true}
 use Rattle.std.proofs.lemmas.Bool.Decides.{nat_tests}
@@ -14,25 +14,46 @@ use Rattle.line_editor.specs.RenderCalls.{Call, Marks}
 use Rattle.line_editor.specs.RenderCalls.Call.{Draw, Move, Write, Beep, ClearScreen, MoveAndClearToEol, InsertChar, MoveAndDelete, Append, DrawRest, Help, WriteOver}
 use Rattle.line_editor.specs.Redraws.{RedrawCalls, info_text, fresh, layout_of, full, nothing_asked, move_call, column_on, column_back, cell_on, char_call, append_call, erase_call, put_in_short, taken_out_short, rest_call, fits_in_row, may_type, may_take, may_erase, may_put_in, may_take_out, write_over_call, may_write_over}
 use Rattle.line_editor.specs.Redraws.Redraw.{Drawn, Moved, Typed, Appended, Taken, Erased, PutIn, TakenOut, DrawnFrom, Bared, ToEnd, Beeped, Cleared, Rewritten}
-use Rattle.line_editor.specs.Sights.{Sight, PartSpans, SameStyles, drawn_spans, sight_with, sight_as, no_sight, sight, ended_sight, TypedFits, AppendedFits, TakenFits, ErasedFits, PutInFits, TakenOutFits, DrawnFromFits, Fits, RewrittenFits}
+use Rattle.line_editor.specs.Sights.{Sight, PartSpans, SameStyles, drawn_spans, sight_with, sight_as, no_sight, sight, TypedFits, AppendedFits, TakenFits, ErasedFits, PutInFits, TakenOutFits, DrawnFromFits, Fits, RewrittenFits}
 use Rattle.line_editor.specs.EditSteps.{one}
 use Rattle.line_editor.specs.Values.{shown_marks, EditStep}
-use Rattle.line_editor.specs.Values.EditStep.{Draws, Helped, Edits, TakesBack, Takes}
-use Rattle.line_screen.specs.ScreenCalls.{Screen, bytes_of, ruler_of, styles_of, info_styles}
+use Rattle.line_editor.specs.Values.EditStep.{Draws, Helped}
+use Rattle.line_screen.specs.ScreenCalls.{Screen, bytes_of, ruler_of, styles_of, line_styles}
 use Rattle.line_screen.specs.Colours.{Styles, span_of}
-use Rattle.line_screen.specs.Chain.{View, Good, Inside, LeadsView, empty_view, Types, with_text, with_info_styles, Picture, shown_items, finish_of, cursor_of, above}
+use Rattle.line_screen.specs.Chain.{View, Good, Inside, LeadsView, empty_view, Types, with_text, with_line_styles, Picture, shown_items, finish_of, cursor_of, above}
 use Rattle.line_screen.specs.Display.{Placed}
 use Rattle.line_screen.specs.Drawing.{DrawnItem, row_break, text_items, place_after}
 use Rattle.line_screen.specs.Laws.{widths, TellsView}
 use Rattle.line_screen.specs.Measure.{measure_of, position_within_limit}
+use Rattle.line_screen.specs.StyledTexts.{first_styles, byte_styles}
+use Rattle.line_screen.specs.Styles.{numbers}
+use Rattle.line_editor.specs.SharedStyles.{span_styles, styles_to}
+use Rattle.line_help.specs.Paints.{plain}
+use Rattle.line_help.specs.declared.helpers.style.Span.{Span}
 use Rattle.line_screen.proofs.Fitting.{items_fit, fit_append, after_inside}
 use Rattle.line_screen.proofs.LawLemmas.{calls_lead, place_is_free, measures_go_on}
 use Rattle.line_screen.proofs.Items.{all_plain}
 use Rattle.line_screen.proofs.Leading.{line_cursor, line_end, line_finish, plain_parts, over_again}
 use Rattle.line_screen.proofs.ListLemmas.{filter_none, list_all_true}
 use Rattle.line_screen.proofs.ShortLemmas.{typing_leads, appending_leads, killing_leads, erasing_leads, putting_in_leads, taking_out_leads, drawing_rest_leads, part_above, writing_over_leads}
-use Rattle.std.proofs.lemmas.List.{take_at, drop_at}
+use Rattle.std.proofs.lemmas.List.{take_at, drop_at, take-map, map-append}
+use Rattle.keyline.proofs.RestFits.{taken_fits, erased_fits, taken_out_fits, rewritten_fits}
 use Rattle.keyline.specs.Shows.{picture, place_in, view_in, DisplayHolds, Low, LowStep, top_by, above_by}
+
+-- the styles of a line's front as a screen has them
+map_replicate : {A B : Type 0} (f : A → B) (n : ℕ) (x : A) → map f (replicate n x) ≡ replicate n (f x)
+map_replicate f zero x = refl
+map_replicate f (suc n) x = ap (λ xs. f x ∷ xs) (map_replicate f n x)
+
+styles_of_bytes : (spans : List Span) → byte_styles (map span_of spans) ≡ map numbers (span_styles spans)
+styles_of_bytes [] = refl
+styles_of_bytes (x ∷ spans) =
+    ap₂ (λ a b. a ++ b) (sym (map_replicate numbers x.len x.style)) (styles_of_bytes spans) ∙ sym (map-append numbers (replicate x.len x.style) (span_styles spans))
+
+first_styles_of : (n : ℕ) (spans : List Span) → first_styles n (map span_of spans) ≡ map numbers (styles_to n spans)
+first_styles_of n spans =
+    ap₂ (λ a b. take n (a ++ b)) (styles_of_bytes spans) (sym (map_replicate numbers n plain))
+    ∙ ap (take n) (sym (map-append numbers (span_styles spans) (replicate n plain))) ∙ take-map numbers n (span_styles spans ++ replicate n plain)
 
 same_if : (a b : Position) → same_cell a b ≡ true → a ≡ b
 same_if a b h =
@@ -47,10 +68,15 @@ no_info : (info : Option (List ℕ)) → is_some info ≡ false → info ≡ Non
 no_info None h = refl
 no_info (Some x) h = cc
 
+-- of two lists of calls, in the other order
+pub if_none : (b : Bool) (p q : RedrawCalls) → (if b then p else q) ≡ (if not b then q else p)
+if_none true p q = refl
+if_none false p q = refl
+
 not_break : (c : ℕ) → c ∷ [] ≡ row_break → ⊥
 not_break c h = let n = ap length h in absurd (omega arith)
 
-small : (c : ℕ) → is_printable c ≡ true → c < 128
+pub small : (c : ℕ) → is_printable c ≡ true → c < 128
 small c h = let parts = and_parts (nat_le 32 c) (nat_lt c 127) h in let k = ltb-true c 127 parts.1 in omega arith
 
 not_above_first : (p : Placed) → not (above 0 p) ≡ true
@@ -142,16 +168,16 @@ module _ (s : Screen) (low : 2 ≤ s.columns) (high : s.columns ≤ 1000) where
 
   -- ---- moves
 
-  abbrev moved_to : Sight → ℕ → Sight
-  moved_to x at = record x { place = at; ended = false }
+  abbrev goes_to : Sight → ℕ → Bool → Sight
+  goes_to x at ended = record x { place = at; ended = ended }
 
-  moved_if : (bytes : List ℕ) (over : List Placed) (top : ℕ) (l : Layout) (x : Sight) (at : ℕ) (cursor : Position) (b : Bool) → DisplayHolds s bytes over top l x
-      → (let y = moved_to x at in
-      cursor ≡ cursor_of s.columns (widths s) (picture y) → Low s y → same_cell l.cursor cursor ≡ b
-      → (let a = if b then nothing_asked l else move_call l cursor in DisplayHolds s (bytes ++ flat_map (bytes_of s) a.calls) over top a.layout y))
-  moved_if bytes over top l x at cursor true h is rows e =
-      let y = moved_to x at in
-      let here : place_in s x ≡ cursor_of s.columns (widths s) (picture y) = sym h.cursor ∙ same_if l.cursor cursor e ∙ is in
+  goes_if : (bytes : List ℕ) (over : List Placed) (top : ℕ) (l : Layout) (x : Sight) (at : ℕ) (ended : Bool) (to : Position) (b : Bool) → DisplayHolds s bytes over top l x
+      → (let y = goes_to x at ended in
+      to ≡ place_in s y → Inside s.columns (place_in s y) → same_cell l.cursor to ≡ b
+      → (let a = if b then nothing_asked l else move_call l to in DisplayHolds s (bytes ++ flat_map (bytes_of s) a.calls) over top a.layout y))
+  goes_if bytes over top l x at ended to true h is inside e =
+      let y = goes_to x at ended in
+      let here : place_in s x ≡ place_in s y = sym h.cursor ∙ same_if l.cursor to e ∙ is in
       record {
         good = subst (λ p. Good s.columns (widths s) (bytes ++ []) over (record { shown = picture y; top = top; place = p })) here (place_is_free s (bytes ++ []) over (view_in s top x) at (none_led bytes over (view_in s top x) h.good));
         cursor = h.cursor ∙ here;
@@ -160,41 +186,14 @@ module _ (s : Screen) (low : 2 ≤ s.columns) (high : s.columns ≤ 1000) where
         info_is = h.info_is;
         given_is = h.given_is;
       }
-  moved_if bytes over top l x at cursor false h is rows e =
-      let y = moved_to x at in
-      let there : View = record { shown = picture y; top = top; place = cursor } in
-      let inside : Inside s.columns cursor = subst (Inside s.columns) (sym is) (inside_cursor y rows) in
-      let new = bytes ++ flat_map (bytes_of s) (Move l.cursor cursor ∷ []) in
-      let good = one_led bytes over (view_in s top x) there (Move l.cursor cursor) h.good (record { old_is = h.cursor; inside = inside; at = at; view = refl }) refl (λ e. cc) in
+  goes_if bytes over top l x at ended to false h is inside e =
+      let y = goes_to x at ended in
+      let there : View = record { shown = picture y; top = top; place = to } in
+      let new = bytes ++ flat_map (bytes_of s) (Move l.cursor to ∷ []) in
+      let good = one_led bytes over (view_in s top x) there (Move l.cursor to) h.good (record { old_is = h.cursor; inside = subst (Inside s.columns) (sym is) inside; at = at; view = refl }) refl (λ e. cc) in
       record {
         good = subst (λ p. Good s.columns (widths s) new over (record { shown = picture y; top = top; place = p })) is good;
         cursor = is;
-        finish = h.finish;
-        prompt_size = h.prompt_size;
-        info_is = h.info_is;
-        given_is = h.given_is;
-      }
-
-  end_if : (bytes : List ℕ) (over : List Placed) (top : ℕ) (l : Layout) (x : Sight) (b : Bool) → DisplayHolds s bytes over top l x → Low s x → same_cell l.cursor l.end ≡ b
-      → (let a = if b then nothing_asked l else move_call l l.end in DisplayHolds s (bytes ++ flat_map (bytes_of s) a.calls) over top a.layout (ended_sight x))
-  end_if bytes over top l x true h rows e =
-      let here : place_in s x ≡ finish_of s.columns (widths s) (picture x) = sym h.cursor ∙ same_if l.cursor l.end e ∙ h.finish in
-      record {
-        good = subst (λ p. Good s.columns (widths s) (bytes ++ []) over (record { shown = picture x; top = top; place = p })) here (none_led bytes over (view_in s top x) h.good);
-        cursor = h.cursor ∙ here;
-        finish = h.finish;
-        prompt_size = h.prompt_size;
-        info_is = h.info_is;
-        given_is = h.given_is;
-      }
-  end_if bytes over top l x false h rows e =
-      let there : View = record { shown = picture x; top = top; place = l.end } in
-      let inside : Inside s.columns l.end = subst (Inside s.columns) (sym h.finish) (inside_finish x rows) in
-      let new = bytes ++ flat_map (bytes_of s) (Move l.cursor l.end ∷ []) in
-      let good = one_led bytes over (view_in s top x) there (Move l.cursor l.end) h.good (record { old_is = h.cursor; inside = inside; at = x.place; view = refl }) refl (λ e. cc) in
-      record {
-        good = subst (λ p. Good s.columns (widths s) new over (record { shown = picture x; top = top; place = p })) h.finish good;
-        cursor = h.finish;
         finish = h.finish;
         prompt_size = h.prompt_size;
         info_is = h.info_is;
@@ -228,267 +227,106 @@ module _ (s : Screen) (low : 2 ≤ s.columns) (high : s.columns ≤ 1000) where
   nothing_after : (bytes : List ℕ) (over : List Placed) (top : ℕ) (l : Layout) (x : Sight) → DisplayHolds s bytes over top l x → not l.has_info ≡ true → x.info ≡ None
   nothing_after bytes over top l x h none = no_info x.info (sym h.info_is ∙ not-true l.has_info none)
 
+  bare_is : (m : Option Marks) (x : Sight) (prompt text : List ℕ) (at : ℕ) (line : List ℕ) (place : ℕ) → SameStyles x m prompt text at → x.info ≡ None → prompt ≡ x.prompt → text ≡ line → at ≡ place
+      → sight_as m prompt text at None ≡ bare_sight x.spans x.prompt line place
+  bare_is m x prompt text at line place k none prompt_is text_is place_is =
+      ap (λ spans. bare_sight spans prompt text at) (k.same none)
+      ∙ ap (λ p. bare_sight x.spans p text at) prompt_is ∙ ap (λ t. bare_sight x.spans x.prompt t at) text_is ∙ ap (bare_sight x.spans x.prompt line) place_is
+
   no_styles_in : (x : Sight) → x.spans.line ≡ [] → (picture x).styles.line ≡ []
   no_styles_in x none = ap (map span_of) none
 
-  typed_is : (m : Option Marks) (x : Sight) (prompt : List ℕ) (c : ℕ) (text : List ℕ) (at : ℕ) → TypedFits x prompt c text at → SameStyles x m prompt text at → x.info ≡ None
-      → sight_as m prompt text at None ≡ bare_sight x.spans x.prompt (x.line ++ c ∷ []) (x.place + 1)
-  typed_is m x prompt c text at t k none =
-      ap (λ spans. bare_sight spans prompt text at) (k.same none)
-      ∙ ap (λ p. bare_sight x.spans p text at) t.prompt_is ∙ ap (λ p. bare_sight x.spans x.prompt p at) t.text_is ∙ ap (λ n. bare_sight x.spans x.prompt (x.line ++ c ∷ []) n) t.behind
-
-  typed_if : (bytes : List ℕ) (over : List Placed) (top : ℕ) (m : Option Marks) (l : Layout) (x : Sight) (prompt : List ℕ) (c : ℕ) (text : List ℕ) (at : ℕ) (b : Bool) → DisplayHolds s bytes over top l x
-      → x.given ≡ true → x.ended ≡ false → TypedFits x prompt c text at → SameStyles x m prompt text at → Low s (sight_as m prompt text at None) → may_type (ruler_of s) l ≡ b
-      → (let a = if b then char_call l c else full (ruler_of s) m l prompt true text at None in DisplayHolds s (bytes ++ flat_map (bytes_of s) a.calls) over top a.layout (sight_as m prompt text at None))
-  typed_if bytes over top m l x prompt c text at false h given unended t k rows e = drawn_holds bytes over top m l x prompt true text at None h.good h.cursor rows
-  typed_if bytes over top m l x prompt c text at true h given unended t k rows e =
-      let w = view_in s top x in
-      let letter = and_parts (is_printable c) (at_simple_end true x.line x.place) t.typed in
-      let none = nothing_after bytes over top l x h (and_parts (not l.has_info) (fits_in_row s.columns l.cursor) e).0 in
-      let last : x.place ≡ length x.line = eqb-true x.place (length x.line) (and_parts (x.place == length x.line) _ letter.1).0 in
-      let y = bare_sight x.spans x.prompt (x.line ++ c ∷ []) (x.place + 1) in
-      let there : View = record { shown = picture y; top = top; place = column_on l.cursor } in
-      let leads = typing_leads s low high l w c (tells bytes over top l x h) (place_if x unended) (no_styles_in x k.unstyled) t.typed e in
-      let plain = one_led bytes over w there (Write (c ∷ [])) h.good leads refl (λ e. cc) in
-      let new = bytes ++ flat_map (bytes_of s) (Write (encode_utf8 c) ∷ []) in
-      let good : Good s.columns (widths s) new over there =
-      subst (λ text. Good s.columns (widths s) (bytes ++ flat_map (bytes_of s) (Write text ∷ [])) over there) (sym (encode_ascii c (small c letter.0))) plain in
-      let cursor_is : column_on l.cursor ≡ cursor_of s.columns (widths s) (picture y) = typed_place w there c leads in
-      let end : y.place ≡ length y.line = let count = length-append x.line (c ∷ []) in omega arith in
-      let done : DisplayHolds s new over top (char_call l c).layout y = record {
-        good = subst (λ p. Good s.columns (widths s) new over (record { shown = picture y; top = top; place = p })) cursor_is good;
+  -- a call that leads to a bare line, and changes nothing of the layout but cursor and end
+  short_holds : (bytes : List ℕ) (over : List Placed) (top : ℕ) (m : Option Marks) (l : Layout) (x : Sight) (prompt text : List ℕ) (at : ℕ) (line : List ℕ) (place : ℕ) (call : Call) (cursor end : Position)
+      → DisplayHolds s bytes over top l x → x.given ≡ true → not l.has_info ≡ true → SameStyles x m prompt text at → prompt ≡ x.prompt → text ≡ line → at ≡ place
+      → (let y = bare_sight x.spans x.prompt line place in
+      LeadsView s.columns (widths s) (view_in s top x) call (record { shown = picture y; top = top; place = cursor }) → call ≢ ClearScreen
+      → cursor ≡ cursor_of s.columns (widths s) (picture y) → end ≡ finish_of s.columns (widths s) (picture y)
+      → DisplayHolds s (bytes ++ flat_map (bytes_of s) (call ∷ [])) over top (record l { cursor = cursor; end = end }) (sight_as m prompt text at None))
+  short_holds bytes over top m l x prompt text at line place call cursor end h given free k prompt_is text_is place_is leads other cursor_is end_is =
+      let y = bare_sight x.spans x.prompt line place in
+      let there : View = record { shown = picture y; top = top; place = cursor } in
+      let new = bytes ++ flat_map (bytes_of s) (call ∷ []) in
+      let now = record l { cursor = cursor; end = end } in
+      let done : DisplayHolds s new over top now y = record {
+        good = subst (λ p. Good s.columns (widths s) new over (record { shown = picture y; top = top; place = p })) cursor_is (one_led bytes over (view_in s top x) there call h.good leads refl other);
         cursor = cursor_is;
-        finish = cursor_is ∙ sym (end_is_cursor (picture y) refl end);
+        finish = end_is;
         prompt_size = h.prompt_size;
-        info_is = not-true l.has_info (and_parts (not l.has_info) (fits_in_row s.columns l.cursor) e).0;
+        info_is = not-true l.has_info free;
         given_is = h.given_is ∙ given;
       } in
-      subst (DisplayHolds s new over top (char_call l c).layout) (sym (typed_is m x prompt c text at t k none)) done
+      subst (DisplayHolds s new over top now) (sym (bare_is m x prompt text at line place k (nothing_after bytes over top l x h free) prompt_is text_is place_is)) done
+
+  -- or the line drawn whole
+  abbrev Shows : List ℕ → List Placed → ℕ → Sight → RedrawCalls → Type 0
+  Shows bytes over top y q = DisplayHolds s (bytes ++ flat_map (bytes_of s) q.calls) over top q.layout y
+
+  short_or : (bytes : List ℕ) (over : List Placed) (top : ℕ) (m : Option Marks) (l : Layout) (x : Sight) (prompt text : List ℕ) (at : ℕ) (short : RedrawCalls) (b : Bool) → DisplayHolds s bytes over top l x
+      → (let y = sight_as m prompt text at None in Low s y → (b ≡ true → Shows bytes over top y short) → Shows bytes over top y (if b then short else full (ruler_of s) m l prompt true text at None))
+  short_or bytes over top m l x prompt text at short true h rows holds = holds refl
+  short_or bytes over top m l x prompt text at short false h rows holds = drawn_holds bytes over top m l x prompt true text at None h.good h.cursor rows
+
+  typed_holds : (bytes : List ℕ) (over : List Placed) (top : ℕ) (m : Option Marks) (l : Layout) (x : Sight) (prompt : List ℕ) (c : ℕ) (text : List ℕ) (at : ℕ) → DisplayHolds s bytes over top l x
+      → x.given ≡ true → x.ended ≡ false → TypedFits x prompt c text at → SameStyles x m prompt text at → may_type (ruler_of s) l ≡ true → Shows bytes over top (sight_as m prompt text at None) (char_call l c)
+  typed_holds bytes over top m l x prompt c text at h given unended t k e =
+      let letter = and_parts (is_printable c) (at_simple_end true x.line x.place) t.typed in
+      let last : x.place ≡ length x.line = eqb-true x.place (length x.line) (and_parts (x.place == length x.line) _ letter.1).0 in
+      let line = x.line ++ c ∷ [] in
+      let y = bare_sight x.spans x.prompt line (x.place + 1) in
+      let to = column_on l.cursor in
+      let there : View = record { shown = picture y; top = top; place = to } in
+      let leads = typing_leads s low high l (view_in s top x) c (tells bytes over top l x h) (place_if x unended) (no_styles_in x k.unstyled) t.typed e in
+      let cursor_is : to ≡ cursor_of s.columns (widths s) (picture y) = typed_place (view_in s top x) there c leads in
+      let end : y.place ≡ length line = let count = length-append x.line (c ∷ []) in omega arith in
+      subst (λ xs. DisplayHolds s (bytes ++ flat_map (bytes_of s) (Write xs ∷ [])) over top (char_call l c).layout (sight_as m prompt text at None)) (sym (encode_ascii c (small c letter.0)))
+      (short_holds bytes over top m l x prompt text at line (x.place + 1) (Write (c ∷ [])) to to h given (and_parts (not l.has_info) (fits_in_row s.columns l.cursor) e).0 k t.prompt_is t.text_is t.behind
+      leads (λ e. cc) cursor_is (cursor_is ∙ sym (end_is_cursor (picture y) refl end)))
 
   -- ---- a character apart from the line's end
 
-  appended_is : (m : Option Marks) (x : Sight) (prompt : List ℕ) (c : ℕ) (text : List ℕ) (at : ℕ) → AppendedFits x prompt c text at → SameStyles x m prompt text at → x.info ≡ None
-      → sight_as m prompt text at None ≡ bare_sight x.spans x.prompt (x.line ++ encode_utf8 c) (length (x.line ++ encode_utf8 c))
-  appended_is m x prompt c text at t k none =
-      ap (λ spans. bare_sight spans prompt text at) (k.same none)
-      ∙ ap (λ p. bare_sight x.spans p text at) t.prompt_is ∙ ap (λ p. bare_sight x.spans x.prompt p at) t.text_is ∙ ap (λ n. bare_sight x.spans x.prompt (x.line ++ encode_utf8 c) n) t.behind
-
-  appended_if : (bytes : List ℕ) (over : List Placed) (top : ℕ) (m : Option Marks) (l : Layout) (x : Sight) (prompt : List ℕ) (c : ℕ) (text : List ℕ) (at : ℕ) (b : Bool) → DisplayHolds s bytes over top l x
-      → x.given ≡ true → x.ended ≡ false → AppendedFits x prompt c text at → SameStyles x m prompt text at → Low s (sight_as m prompt text at None) → l.has_info ≡ b
-      → (let a = if b then full (ruler_of s) m l prompt true text at None else append_call (ruler_of s) l c in DisplayHolds s (bytes ++ flat_map (bytes_of s) a.calls) over top a.layout (sight_as m prompt text at None))
-  appended_if bytes over top m l x prompt c text at true h given unended t k rows e = drawn_holds bytes over top m l x prompt true text at None h.good h.cursor rows
-  appended_if bytes over top m l x prompt c text at false h given unended t k rows e =
-      let w = view_in s top x in
-      let none = nothing_after bytes over top l x h (ap not e) in
+  appended_holds : (bytes : List ℕ) (over : List Placed) (top : ℕ) (m : Option Marks) (l : Layout) (x : Sight) (prompt : List ℕ) (c : ℕ) (text : List ℕ) (at : ℕ) → DisplayHolds s bytes over top l x
+      → x.given ≡ true → x.ended ≡ false → AppendedFits x prompt c text at → SameStyles x m prompt text at → (let y = sight_as m prompt text at None in Low s y → not l.has_info ≡ true → Shows bytes over top y (append_call (ruler_of s) l c))
+  appended_holds bytes over top m l x prompt c text at h given unended t k rows free =
       let tail = encode_utf8 c in
-      let y = bare_sight x.spans x.prompt (x.line ++ tail) (length (x.line ++ tail)) in
-      let same = appended_is m x prompt c text at t k none in
-      let low_y : Low s y = subst (Low s) same rows in
-      let there : View = record { shown = picture y; top = top; place = measure_of s.mode s.tab s.columns tail l.cursor } in
-      let leads = appending_leads s low high l w c (tells bytes over top l x h) (place_if x unended) (no_styles_in x k.unstyled) t.at t.apart e low_y.cursor in
-      let new = bytes ++ flat_map (bytes_of s) (Append tail l.cursor ∷ []) in
-      let good : Good s.columns (widths s) new over there = one_led bytes over w there (Append tail l.cursor) h.good leads.0 refl (λ e. cc) in
-      let done : DisplayHolds s new over top (append_call (ruler_of s) l c).layout y = record {
-        good = subst (λ p. Good s.columns (widths s) new over (record { shown = picture y; top = top; place = p })) leads.1 good;
-        cursor = leads.1;
-        finish = leads.2;
-        prompt_size = h.prompt_size;
-        info_is = e;
-        given_is = h.given_is ∙ given;
-      } in
-      subst (DisplayHolds s new over top (append_call (ruler_of s) l c).layout) (sym same) done
-
-  -- ---- a kill at the line's end
-
-  killed_place : (a b : View) (old new : Position) → LeadsView s.columns (widths s) a (MoveAndClearToEol old new) b → b.place ≡ cursor_of s.columns (widths s) b.shown
-  killed_place a b old new f =
-      let k = f.2 in
-      ap (λ (x : View). x.place) k.view ∙ k.place_is ∙ ap (λ (x : View). cursor_of s.columns (widths s) x.shown) (sym k.view)
-
-  taken_is : (m : Option Marks) (x : Sight) (prompt : List ℕ) (count : ℕ) (text : List ℕ) (at : ℕ) → TakenFits x prompt count text at → SameStyles x m prompt text at → x.info ≡ None
-      → sight_as m prompt text at None ≡ bare_sight x.spans x.prompt text (length text)
-  taken_is m x prompt count text at t k none =
-      ap (λ spans. bare_sight spans prompt text at) (k.same none)
-      ∙ ap (λ p. bare_sight x.spans p text at) t.prompt_is ∙ ap (λ n. bare_sight x.spans x.prompt text n) (eqb-true at (length text) (and_parts (at == length text) _ t.end).0)
-
-  taken_if : (bytes : List ℕ) (over : List Placed) (top : ℕ) (m : Option Marks) (l : Layout) (x : Sight) (prompt : List ℕ) (count : ℕ) (text : List ℕ) (at : ℕ) (b : Bool) → DisplayHolds s bytes over top l x
-      → x.given ≡ true → TakenFits x prompt count text at → SameStyles x m prompt text at → Low s (sight_as m prompt text at None) → may_take l count ≡ b
-      → (let a = if b then erase_call l count else full (ruler_of s) m l prompt true text at None in DisplayHolds s (bytes ++ flat_map (bytes_of s) a.calls) over top a.layout (sight_as m prompt text at None))
-  taken_if bytes over top m l x prompt count text at false h given t k rows e = drawn_holds bytes over top m l x prompt true text at None h.good h.cursor rows
-  taken_if bytes over top m l x prompt count text at true h given t k rows e =
-      let w = view_in s top x in
-      let none = nothing_after bytes over top l x h (and_parts (not l.has_info) _ e).0 in
-      let to = column_back (length t.killed) l.end in
-      let y = bare_sight x.spans x.prompt text (length text) in
-      let there : View = record { shown = picture y; top = top; place = to } in
-      let plain = (and_parts (at == length text) (is_plain text) t.end).1 in
-      let leads = killing_leads s low high l w text t.killed (tells bytes over top l x h) h.good.inside (no_styles_in x k.unstyled) t.whole plain t.printable (subst (λ n. may_take l n ≡ true) t.count_is e) in
-      let good = one_led bytes over w there (MoveAndClearToEol w.place to) h.good leads refl (λ e. cc) in
-      let place_is : to ≡ cursor_of s.columns (widths s) (picture y) = killed_place w there w.place to leads in
-      let back : column_back count l.end ≡ to = ap (λ n. column_back n l.end) t.count_is in
-      let new = bytes ++ flat_map (bytes_of s) (MoveAndClearToEol l.cursor (column_back count l.end) ∷ []) in
-      let same : bytes ++ flat_map (bytes_of s) (MoveAndClearToEol w.place to ∷ []) ≡ new =
-      ap (λ p. bytes ++ flat_map (bytes_of s) (MoveAndClearToEol p to ∷ [])) (sym h.cursor) ∙ ap (λ p. bytes ++ flat_map (bytes_of s) (MoveAndClearToEol l.cursor p ∷ [])) (sym back) in
-      let cursor_is : column_back count l.end ≡ cursor_of s.columns (widths s) (picture y) = back ∙ place_is in
-      let done : DisplayHolds s new over top (erase_call l count).layout y = record {
-        good = subst (λ p. Good s.columns (widths s) new over (record { shown = picture y; top = top; place = p })) place_is (subst (λ b. Good s.columns (widths s) b over there) same good);
-        cursor = cursor_is;
-        finish = cursor_is ∙ sym (end_is_cursor (picture y) refl refl);
-        prompt_size = h.prompt_size;
-        info_is = not-true l.has_info (and_parts (not l.has_info) _ e).0;
-        given_is = h.given_is ∙ given;
-      } in
-      subst (DisplayHolds s new over top (erase_call l count).layout) (sym (taken_is m x prompt count text at t k none)) done
-
-  -- ---- a character apart, deleted at the line's end
-
-  erased_is : (m : Option Marks) (x : Sight) (prompt : List ℕ) (c : ℕ) (text : List ℕ) (at : ℕ) → ErasedFits x prompt c text at → SameStyles x m prompt text at → x.info ≡ None
-      → sight_as m prompt text at None ≡ bare_sight x.spans x.prompt text (length text)
-  erased_is m x prompt c text at t k none =
-      ap (λ spans. bare_sight spans prompt text at) (k.same none)
-      ∙ ap (λ p. bare_sight x.spans p text at) t.prompt_is ∙ ap (λ n. bare_sight x.spans x.prompt text n) t.end
-
-  erased_if : (bytes : List ℕ) (over : List Placed) (top : ℕ) (m : Option Marks) (l : Layout) (x : Sight) (prompt : List ℕ) (c : ℕ) (text : List ℕ) (at : ℕ) (b : Bool) → DisplayHolds s bytes over top l x
-      → x.given ≡ true → ErasedFits x prompt c text at → SameStyles x m prompt text at → Low s (sight_as m prompt text at None) → may_erase (ruler_of s) l c ≡ b
-      → (let a = if b then erase_call l (measure_of s.mode s.tab s.columns (encode_utf8 c) origin).col else full (ruler_of s) m l prompt true text at None in
-      DisplayHolds s (bytes ++ flat_map (bytes_of s) a.calls) over top a.layout (sight_as m prompt text at None))
-  erased_if bytes over top m l x prompt c text at false h given t k rows e = drawn_holds bytes over top m l x prompt true text at None h.good h.cursor rows
-  erased_if bytes over top m l x prompt c text at true h given t k rows e =
-      let w = view_in s top x in
-      let free = (and_parts (not l.has_info) _ e).0 in
-      let none = nothing_after bytes over top l x h free in
-      let count = (measure_of s.mode s.tab s.columns (encode_utf8 c) origin).col in
-      let to = column_back count l.end in
-      let y = bare_sight x.spans x.prompt text (length text) in
-      let same = erased_is m x prompt c text at t k none in
-      let few = (inside_cursor y (subst (Low s) same rows)).row in
-      let there : View = record { shown = picture y; top = top; place = to } in
-      let leads = erasing_leads s low high l w text c (tells bytes over top l x h) (no_styles_in x k.unstyled) t.whole t.apart e few in
-      let made = one_led bytes over w there (MoveAndClearToEol w.place to) h.good leads refl (λ e. cc) in
-      let place_is : to ≡ cursor_of s.columns (widths s) (picture y) = killed_place w there w.place to leads in
-      let new = bytes ++ flat_map (bytes_of s) (MoveAndClearToEol l.cursor to ∷ []) in
-      let bytes_are : bytes ++ flat_map (bytes_of s) (MoveAndClearToEol w.place to ∷ []) ≡ new = ap (λ p. bytes ++ flat_map (bytes_of s) (MoveAndClearToEol p to ∷ [])) (sym h.cursor) in
-      let done : DisplayHolds s new over top (erase_call l count).layout y = record {
-        good = subst (λ p. Good s.columns (widths s) new over (record { shown = picture y; top = top; place = p })) place_is (subst (λ b. Good s.columns (widths s) b over there) bytes_are made);
-        cursor = place_is;
-        finish = place_is ∙ sym (end_is_cursor (picture y) refl refl);
-        prompt_size = h.prompt_size;
-        info_is = not-true l.has_info free;
-        given_is = h.given_is ∙ given;
-      } in
-      subst (DisplayHolds s new over top (erase_call l count).layout) (sym same) done
-
-  -- ---- a character put in
-
-  put_in_is : (m : Option Marks) (x : Sight) (prompt : List ℕ) (c : ℕ) (text : List ℕ) (at : ℕ) → (t : PutInFits x prompt c text at) → SameStyles x m prompt text at → x.info ≡ None
-      → sight_as m prompt text at None ≡ bare_sight x.spans x.prompt (t.before ++ c ∷ t.rest) (length t.before + 1)
-  put_in_is m x prompt c text at t k none =
-      ap (λ spans. bare_sight spans prompt text at) (k.same none)
-      ∙ ap (λ p. bare_sight x.spans p text at) t.prompt_is ∙ ap (λ p. bare_sight x.spans x.prompt p at) t.text_is ∙ ap (λ n. bare_sight x.spans x.prompt (t.before ++ c ∷ t.rest) n) t.behind
-
-  put_in_rest : (x : Sight) (prompt : List ℕ) (c : ℕ) (text : List ℕ) (at : ℕ) → (t : PutInFits x prompt c text at) → drop at text ≡ t.rest
-  put_in_rest x prompt c text at t =
-      let count = length-append t.before (c ∷ []) in
-      ap₂ drop t.behind (t.text_is ∙ sym (append_assoc t.before (c ∷ []) t.rest)) ∙ drop_at (t.before ++ c ∷ []) t.rest (length t.before + 1) (omega arith)
-
-  put_in_if : (bytes : List ℕ) (over : List Placed) (top : ℕ) (m : Option Marks) (l : Layout) (x : Sight) (prompt : List ℕ) (c : ℕ) (text : List ℕ) (at : ℕ) (b : Bool) → DisplayHolds s bytes over top l x
-      → x.given ≡ true → x.ended ≡ false → PutInFits x prompt c text at → SameStyles x m prompt text at → Low s (sight_as m prompt text at None) → may_put_in (ruler_of s) l (drop at text) ≡ b
-      → (let a = if b then put_in_short (ruler_of s) l c (drop at text) else full (ruler_of s) m l prompt true text at None in DisplayHolds s (bytes ++ flat_map (bytes_of s) a.calls) over top a.layout (sight_as m prompt text at None))
-  put_in_if bytes over top m l x prompt c text at false h given unended t k rows e = drawn_holds bytes over top m l x prompt true text at None h.good h.cursor rows
-  put_in_if bytes over top m l x prompt c text at true h given unended t k rows e =
-      let w = view_in s top x in
-      let free = (and_parts (not l.has_info) _ e).0 in
-      let none = nothing_after bytes over top l x h free in
-      let y = bare_sight x.spans x.prompt (t.before ++ c ∷ t.rest) (length t.before + 1) in
-      let cursor = cell_on s.columns l.cursor in
-      let there : View = record { shown = picture y; top = top; place = cursor } in
-      let after : List ℕ → RedrawCalls = put_in_short (ruler_of s) l c in
-      let rest_is = put_in_rest x prompt c text at t in
-      let leads = putting_in_leads s low high l w t.before t.rest c (tells bytes over top l x h) (place_if x unended) (no_styles_in x k.unstyled) t.plain t.printable t.whole t.at (subst (λ r. may_put_in (ruler_of s) l r ≡ true) rest_is e) in
-      let call = InsertChar c t.rest l.cursor cursor (cell_on s.columns l.end) in
-      let new = bytes ++ flat_map (bytes_of s) (call ∷ []) in
-      let good : Good s.columns (widths s) new over there = one_led bytes over w there call h.good leads.0 refl (λ e. cc) in
-      let done : DisplayHolds s new over top (after t.rest).layout y = record {
-        good = subst (λ p. Good s.columns (widths s) new over (record { shown = picture y; top = top; place = p })) leads.1 good;
-        cursor = leads.1;
-        finish = leads.2;
-        prompt_size = h.prompt_size;
-        info_is = not-true l.has_info free;
-        given_is = h.given_is ∙ given;
-      } in
-      subst (λ r. DisplayHolds s (bytes ++ flat_map (bytes_of s) (after r).calls) over top (after r).layout (sight_as m prompt text at None)) (sym rest_is)
-      (subst (DisplayHolds s new over top (after t.rest).layout) (sym (put_in_is m x prompt c text at t k none)) done)
-
-  -- ---- characters taken out
-
-  taken_out_is : (m : Option Marks) (x : Sight) (prompt : List ℕ) (count : ℕ) (text : List ℕ) (at : ℕ) → (t : TakenOutFits x prompt count text at) → SameStyles x m prompt text at → x.info ≡ None
-      → sight_as m prompt text at None ≡ bare_sight x.spans x.prompt (t.before ++ t.rest) (length t.before)
-  taken_out_is m x prompt count text at t k none =
-      ap (λ spans. bare_sight spans prompt text at) (k.same none)
-      ∙ ap (λ p. bare_sight x.spans p text at) t.prompt_is ∙ ap (λ p. bare_sight x.spans x.prompt p at) t.text_is ∙ ap (λ n. bare_sight x.spans x.prompt (t.before ++ t.rest) n) t.at
-
-  taken_out_rest : (x : Sight) (prompt : List ℕ) (count : ℕ) (text : List ℕ) (at : ℕ) → (t : TakenOutFits x prompt count text at) → drop at text ≡ t.rest
-  taken_out_rest x prompt count text at t = ap₂ drop t.at t.text_is ∙ drop_at t.before t.rest (length t.before) refl
-
-  taken_out_if : (bytes : List ℕ) (over : List Placed) (top : ℕ) (m : Option Marks) (l : Layout) (x : Sight) (prompt : List ℕ) (count : ℕ) (text : List ℕ) (at : ℕ) (b : Bool) → DisplayHolds s bytes over top l x
-      → x.given ≡ true → TakenOutFits x prompt count text at → SameStyles x m prompt text at → Low s (sight_as m prompt text at None)
-      → (let cell = measure_of s.mode s.tab s.columns (take at text) l.prompt_size in may_take_out (ruler_of s) l cell count (drop at text) ≡ b
-      → (let a = if b then taken_out_short l cell count (drop at text) else full (ruler_of s) m l prompt true text at None in DisplayHolds s (bytes ++ flat_map (bytes_of s) a.calls) over top a.layout (sight_as m prompt text at None)))
-  taken_out_if bytes over top m l x prompt count text at false h given t k rows e = drawn_holds bytes over top m l x prompt true text at None h.good h.cursor rows
-  taken_out_if bytes over top m l x prompt count text at true h given t k rows e =
-      let w = view_in s top x in
-      let cell = measure_of s.mode s.tab s.columns (take at text) l.prompt_size in
-      let free = (and_parts (not l.has_info) _ e).0 in
-      let none = nothing_after bytes over top l x h free in
-      let y = bare_sight x.spans x.prompt (t.before ++ t.rest) (length t.before) in
-      let same = taken_out_is m x prompt count text at t k none in
-      let low_y : Low s y = subst (Low s) same rows in
-      let first : take at text ≡ take (length t.before) (t.before ++ t.rest) = ap₂ take t.at t.text_is in
-      let cell_is : cell ≡ cursor_of s.columns (widths s) (picture y) =
-      ap₂ (measure_of s.mode s.tab s.columns) first h.prompt_size ∙ (measures_go_on s some (picture y)).0 low_y.cursor in
-      let cut : take (length t.before) (t.before ++ t.rest) ≡ take (length t.before) t.before = take_at t.before t.rest (length t.before) refl ∙ sym (take_all (length t.before) t.before (omega arith)) in
-      let at_is : cell ≡ cursor_of s.columns (widths s) (with_text w.shown t.before (length t.before)) =
-      cell_is ∙ ap (λ xs. place_after s.columns (text_of x.prompt ++ text_of xs) origin) cut in
-      let there : View = record { shown = picture y; top = top; place = cell } in
-      let gone = length t.killed in
-      let rest_is = taken_out_rest x prompt count text at t in
-      let may : may_take_out (ruler_of s) l cell gone t.rest ≡ true =
-      subst (λ n. may_take_out (ruler_of s) l cell n t.rest ≡ true) t.count_is (subst (λ r. may_take_out (ruler_of s) l cell count r ≡ true) rest_is e) in
-      let leads = taking_out_leads s low high l w t.before t.killed t.rest cell (tells bytes over top l x h) h.good.inside (no_styles_in x k.unstyled) t.plain t.whole t.printable at_is may (inside_finish y low_y).row in
-      let call : Position → Call = λ p. MoveAndDelete p cell gone t.rest (column_back gone l.end) in
-      let made = one_led bytes over w there (call w.place) h.good leads.0 refl (λ e. cc) in
-      let new = bytes ++ flat_map (bytes_of s) (call l.cursor ∷ []) in
-      let bytes_are : bytes ++ flat_map (bytes_of s) (call w.place ∷ []) ≡ new = ap (λ p. bytes ++ flat_map (bytes_of s) (call p ∷ [])) (sym h.cursor) in
-      let after : ℕ → List ℕ → RedrawCalls = taken_out_short l cell in
-      let done : DisplayHolds s new over top (after gone t.rest).layout y = record {
-        good = subst (λ p. Good s.columns (widths s) new over (record { shown = picture y; top = top; place = p })) leads.1 (subst (λ b. Good s.columns (widths s) b over there) bytes_are made);
-        cursor = leads.1;
-        finish = leads.2;
-        prompt_size = h.prompt_size;
-        info_is = not-true l.has_info free;
-        given_is = h.given_is ∙ given;
-      } in
-      subst (λ r. DisplayHolds s (bytes ++ flat_map (bytes_of s) (after count r).calls) over top (after count r).layout (sight_as m prompt text at None)) (sym rest_is)
-      (subst (λ n. DisplayHolds s (bytes ++ flat_map (bytes_of s) (after n t.rest).calls) over top (after n t.rest).layout (sight_as m prompt text at None)) (sym t.count_is)
-      (subst (DisplayHolds s new over top (after gone t.rest).layout) (sym same) done))
+      let line = x.line ++ tail in
+      let same = bare_is m x prompt text at line (length line) k (nothing_after bytes over top l x h free) t.prompt_is t.text_is t.behind in
+      let low_y : Low s (bare_sight x.spans x.prompt line (length line)) = subst (Low s) same rows in
+      let to = measure_of s.mode s.tab s.columns tail l.cursor in
+      let leads = appending_leads s low high l (view_in s top x) c (tells bytes over top l x h) (place_if x unended) (no_styles_in x k.unstyled) t.at t.apart (not-true l.has_info free) low_y.cursor in
+      short_holds bytes over top m l x prompt text at line (length line) (Append tail l.cursor) to to h given free k t.prompt_is t.text_is t.behind leads.0 (λ e. cc) leads.1 leads.2
 
   -- ---- the rest of a line, and what stands after it
 
-  same_info : (m : Option Marks) (prompt text : List ℕ) (at : ℕ) (info : List ℕ) → (drawn_spans m true [] [] 0 info).info ≡ (drawn_spans m true prompt text at info).info
+  same_line : (m : Option Marks) (prompt text : List ℕ) (at : ℕ) (info : List ℕ) → (drawn_spans m true [] text at info).line ≡ (drawn_spans m true prompt text at info).line
+  same_line None prompt text at info = refl
+  same_line (Some m) prompt text at info = refl
+
+  same_info : (m : Option Marks) (prompt text : List ℕ) (at : ℕ) (info : List ℕ) → (drawn_spans m true [] text at info).info ≡ (drawn_spans m true prompt text at info).info
   same_info None prompt text at info = refl
   same_info (Some m) prompt text at info = refl
 
+  abbrev rest_given : Option Marks → Sight → List ℕ → ℕ → Option (List ℕ) → Styles
+  rest_given m x text at info = with_line_styles (styles_of x.spans) (line_styles m text at (info_text info))
+
   rest_styles : (m : Option Marks) (x : Sight) (prompt : List ℕ) (from : ℕ) (text : List ℕ) (at : ℕ) (info : Option (List ℕ)) → DrawnFromFits x m prompt from text at info
-      → with_info_styles (styles_of x.spans) (info_styles m (info_text info)) ≡ styles_of (drawn_spans m true prompt text at (info_text info))
+      → rest_given m x text at info ≡ styles_of (drawn_spans m true prompt text at (info_text info))
   rest_styles m x prompt from text at info t =
       let spans = drawn_spans m true prompt text at (info_text info) in
-      let alone = (drawn_spans m true [] [] 0 (info_text info)).info in
-      ap (λ p. styles_of (record { prompt = p; line = x.spans.line; info = alone })) (sym t.prompt_styles)
-      ∙ ap (λ p. styles_of (record { prompt = spans.prompt; line = p; info = alone })) (t.unstyled ∙ sym t.still_unstyled)
+      let alone = drawn_spans m true [] text at (info_text info) in
+      ap (λ p. styles_of (record { prompt = p; line = alone.line; info = alone.info })) (sym t.prompt_styles)
+      ∙ ap (λ p. styles_of (record { prompt = spans.prompt; line = p; info = alone.info })) (same_line m prompt text at (info_text info))
       ∙ ap (λ p. styles_of (record { prompt = spans.prompt; line = spans.line; info = p })) (same_info m prompt text at (info_text info))
 
+  rest_same_styles : (m : Option Marks) (x : Sight) (prompt : List ℕ) (from : ℕ) (text : List ℕ) (at : ℕ) (info : Option (List ℕ)) → DrawnFromFits x m prompt from text at info
+      → first_styles from (line_styles m text at (info_text info)).line ≡ first_styles from (styles_of x.spans).line
+  rest_same_styles m x prompt from text at info t =
+      let spans = drawn_spans m true prompt text at (info_text info) in
+      ap (λ p. first_styles from (map span_of p)) (same_line m prompt text at (info_text info))
+      ∙ first_styles_of from spans.line ∙ ap (map numbers) t.same_styles ∙ sym (first_styles_of from x.spans.line)
+
   drawn_from_is : (m : Option Marks) (x : Sight) (prompt : List ℕ) (from : ℕ) (text : List ℕ) (at : ℕ) (info : Option (List ℕ)) → DrawnFromFits x m prompt from text at info
-      → (let v : Picture = record { prompt = x.prompt; line = text; place = at; info = info_text info; styles = with_info_styles (styles_of x.spans) (info_styles m (info_text info)) } in v ≡ picture (sight_as m prompt text at info))
+      → (let v : Picture = record { prompt = x.prompt; line = text; place = at; info = info_text info; styles = rest_given m x text at info } in v ≡ picture (sight_as m prompt text at info))
   drawn_from_is m x prompt from text at info t =
       ap₂ (λ p (styles : Styles). let v : Picture = record { prompt = p; line = text; place = at; info = info_text info; styles = styles } in v) (sym t.prompt_is) (rest_styles m x prompt from text at info t)
 
@@ -499,24 +337,26 @@ module _ (s : Screen) (low : 2 ≤ s.columns) (high : s.columns ≤ 1000) where
       let w = view_in s top x in
       let y = sight_as m prompt text at info in
       let line = t.before ++ t.rest in
-      let v : List ℕ → Picture = λ line. record { prompt = x.prompt; line = line; place = at; info = info_text info; styles = with_info_styles (styles_of x.spans) (info_styles m (info_text info)) } in
+      let v : List ℕ → Picture = λ line. record { prompt = x.prompt; line = line; place = at; info = info_text info; styles = rest_given m x line at info } in
       let new : List ℕ → Layout = λ line. layout_of (ruler_of s) l.prompt_size true line at info in
-      let call : List ℕ → List ℕ → List ℕ → Call = λ before rest line. DrawRest rest info l.cursor (measure_of s.mode s.tab s.columns before l.prompt_size) (new line) m in
+      let call : List ℕ → ℕ → List ℕ → Call = λ before from line. DrawRest line from at info l.cursor (measure_of s.mode s.tab s.columns before l.prompt_size) (new line) m in
       let same : v line ≡ picture y = ap v (sym t.text_is) ∙ drawn_from_is m x prompt from text at info t in
       let cursor_low = subst (λ p. (cursor_of s.columns (widths s) p).row ≤ 65535) (sym same) rows.cursor in
       let finish_low = subst (λ p. (finish_of s.columns (widths s) p).row ≤ 65535) (sym same) rows.finish in
-      let leads = drawing_rest_leads s low high l w t.before t.gone t.rest at info m (tells bytes over top l x h) (no_styles_in x t.unstyled) t.whole t.gone_apart t.rest_apart h.prompt_size cursor_low finish_low in
+      let styled : ℕ → List ℕ → Type 0 = λ n line. first_styles n (line_styles m line at (info_text info)).line ≡ first_styles n (styles_of x.spans).line in
+      let same_styles : styled (length t.before) line = subst (λ n. styled n line) t.from_is (subst (styled from) t.text_is (rest_same_styles m x prompt from text at info t)) in
+      let leads = drawing_rest_leads s low high l w t.before t.gone t.rest at info m (tells bytes over top l x h) t.whole t.gone_apart t.rest_apart h.prompt_size same_styles cursor_low finish_low in
       let there : View = record { shown = v line; top = top; place = (new line).cursor } in
-      let good : Good s.columns (widths s) (bytes ++ flat_map (bytes_of s) (call t.before t.rest line ∷ [])) over there = one_led bytes over w there (call t.before t.rest line) h.good leads.0 refl (λ e. cc) in
+      let first = call t.before (length t.before) line in
+      let good : Good s.columns (widths s) (bytes ++ flat_map (bytes_of s) (first ∷ [])) over there = one_led bytes over w there first h.good leads.0 refl (λ e. cc) in
       let before_is : t.before ≡ take from text = sym (ap₂ take t.from_is t.text_is ∙ take_at t.before t.rest (length t.before) refl) in
-      let rest_is : t.rest ≡ drop from text = sym (ap₂ drop t.from_is t.text_is ∙ drop_at t.before t.rest (length t.before) refl) in
-      let bytes_are : bytes ++ flat_map (bytes_of s) (call t.before t.rest line ∷ []) ≡ bytes ++ flat_map (bytes_of s) (call (take from text) (drop from text) text ∷ []) =
-      ap₂ (λ before rest. bytes ++ flat_map (bytes_of s) (call before rest line ∷ [])) before_is rest_is
-      ∙ ap (λ line. bytes ++ flat_map (bytes_of s) (call (take from text) (drop from text) line ∷ [])) (sym t.text_is) in
+      let bytes_are : bytes ++ flat_map (bytes_of s) (first ∷ []) ≡ bytes ++ flat_map (bytes_of s) (call (take from text) from text ∷ []) =
+      ap₂ (λ before from. bytes ++ flat_map (bytes_of s) (call before from line ∷ [])) before_is (sym t.from_is)
+      ∙ ap (λ line. bytes ++ flat_map (bytes_of s) (call (take from text) from line ∷ [])) (sym t.text_is) in
       let cursor_is : (new line).cursor ≡ cursor_of s.columns (widths s) (picture y) = leads.1 ∙ ap (cursor_of s.columns (widths s)) same in
       let at_place : there ≡ view_in s top y = ap₂ (λ (p : Picture) q. let b : View = record { shown = p; top = top; place = q } in b) same cursor_is in
       record {
-        good = subst (λ z. Good s.columns (widths s) z over (view_in s top y)) bytes_are (subst (Good s.columns (widths s) (bytes ++ flat_map (bytes_of s) (call t.before t.rest line ∷ [])) over) at_place good);
+        good = subst (λ z. Good s.columns (widths s) z over (view_in s top y)) bytes_are (subst (Good s.columns (widths s) (bytes ++ flat_map (bytes_of s) (first ∷ [])) over) at_place good);
         cursor = ap (λ line. (new line).cursor) t.text_is ∙ cursor_is;
         finish = ap (λ line. (new line).end) t.text_is ∙ leads.2 ∙ ap (finish_of s.columns (widths s)) same;
         prompt_size = h.prompt_size ∙ ap (λ p. measure_of s.mode s.tab s.columns p origin) (sym t.prompt_is);
@@ -524,12 +364,106 @@ module _ (s : Screen) (low : 2 ≤ s.columns) (high : s.columns ≤ 1000) where
         given_is = refl;
       }
 
-  -- ---- characters replaced by as many
+  -- or the line drawn from a place on
+  short_or_rest : (bytes : List ℕ) (over : List Placed) (top : ℕ) (m : Option Marks) (l : Layout) (x : Sight) (prompt : List ℕ) (from : ℕ) (text : List ℕ) (at : ℕ) (short : RedrawCalls) (b : Bool) → DisplayHolds s bytes over top l x
+      → DrawnFromFits x m prompt from text at None
+      → (let y = sight_as m prompt text at None in Low s y → (b ≡ true → Shows bytes over top y short) → Shows bytes over top y (if b then short else rest_call (ruler_of s) m l from text at None))
+  short_or_rest bytes over top m l x prompt from text at short true h t rows holds = holds refl
+  short_or_rest bytes over top m l x prompt from text at short false h t rows holds = drawn_from_holds bytes over top m l x prompt from text at None h t rows
 
-  rewritten_is : (m : Option Marks) (x : Sight) (prompt : List ℕ) (from upto : ℕ) (text : List ℕ) (at : ℕ) → (t : RewrittenFits x prompt from upto text at) → SameStyles x m prompt text at → x.info ≡ None
-      → sight_as m prompt text at None ≡ bare_sight x.spans x.prompt (t.before ++ (t.letters ++ t.rest)) at
-  rewritten_is m x prompt from upto text at t k none =
-      ap (λ spans. bare_sight spans prompt text at) (k.same none) ∙ ap (λ p. bare_sight x.spans p text at) t.prompt_is ∙ ap (λ p. bare_sight x.spans x.prompt p at) t.text_is
+  -- ---- a kill at the line's end
+
+  killed_place : (a b : View) (old new : Position) → LeadsView s.columns (widths s) a (MoveAndClearToEol old new) b → b.place ≡ cursor_of s.columns (widths s) b.shown
+  killed_place a b old new f =
+      let k = f.2 in
+      ap (λ (x : View). x.place) k.view ∙ k.place_is ∙ ap (λ (x : View). cursor_of s.columns (widths s) x.shown) (sym k.view)
+
+  taken_holds : (bytes : List ℕ) (over : List Placed) (top : ℕ) (m : Option Marks) (l : Layout) (x : Sight) (prompt : List ℕ) (count : ℕ) (text : List ℕ) (at : ℕ) → DisplayHolds s bytes over top l x
+      → x.given ≡ true → TakenFits x prompt count text at → SameStyles x m prompt text at → may_take l count ≡ true → Shows bytes over top (sight_as m prompt text at None) (erase_call l count)
+  taken_holds bytes over top m l x prompt count text at h given t k e =
+      let w = view_in s top x in
+      let y = bare_sight x.spans x.prompt text (length text) in
+      let ends = and_parts (at == length text) (is_plain text) t.end in
+      let to = column_back (length t.killed) l.end in
+      let there : View = record { shown = picture y; top = top; place = to } in
+      let leads = killing_leads s low high l w text t.killed (tells bytes over top l x h) h.good.inside (no_styles_in x k.unstyled) t.whole ends.1 t.printable (subst (λ n. may_take l n ≡ true) t.count_is e) in
+      let cursor_is : to ≡ cursor_of s.columns (widths s) (picture y) = killed_place w there w.place to leads in
+      subst (λ n. Shows bytes over top (sight_as m prompt text at None) (erase_call l n)) (sym t.count_is)
+      (short_holds bytes over top m l x prompt text at text (length text) (MoveAndClearToEol l.cursor to) to to h given (and_parts (not l.has_info) _ e).0 k t.prompt_is refl (eqb-true at (length text) ends.0)
+      (subst (λ p. LeadsView s.columns (widths s) w (MoveAndClearToEol p to) there) (sym h.cursor) leads) (λ e. cc) cursor_is (cursor_is ∙ sym (end_is_cursor (picture y) refl refl)))
+
+  -- ---- a character apart, deleted at the line's end
+
+  erased_holds : (bytes : List ℕ) (over : List Placed) (top : ℕ) (m : Option Marks) (l : Layout) (x : Sight) (prompt : List ℕ) (c : ℕ) (text : List ℕ) (at : ℕ) → DisplayHolds s bytes over top l x
+      → x.given ≡ true → ErasedFits x prompt c text at → SameStyles x m prompt text at → (let y = sight_as m prompt text at None in Low s y → may_erase (ruler_of s) l c ≡ true
+      → Shows bytes over top y (erase_call l (measure_of s.mode s.tab s.columns (encode_utf8 c) origin).col))
+  erased_holds bytes over top m l x prompt c text at h given t k rows e =
+      let w = view_in s top x in
+      let free = (and_parts (not l.has_info) _ e).0 in
+      let to = column_back (measure_of s.mode s.tab s.columns (encode_utf8 c) origin).col l.end in
+      let y = bare_sight x.spans x.prompt text (length text) in
+      let same = bare_is m x prompt text at text (length text) k (nothing_after bytes over top l x h free) t.prompt_is refl t.end in
+      let there : View = record { shown = picture y; top = top; place = to } in
+      let leads = erasing_leads s low high l w text c (tells bytes over top l x h) (no_styles_in x k.unstyled) t.whole t.apart e (inside_cursor y (subst (Low s) same rows)).row in
+      let cursor_is : to ≡ cursor_of s.columns (widths s) (picture y) = killed_place w there w.place to leads in
+      short_holds bytes over top m l x prompt text at text (length text) (MoveAndClearToEol l.cursor to) to to h given free k t.prompt_is refl t.end
+      (subst (λ p. LeadsView s.columns (widths s) w (MoveAndClearToEol p to) there) (sym h.cursor) leads) (λ e. cc) cursor_is (cursor_is ∙ sym (end_is_cursor (picture y) refl refl))
+
+  -- ---- a character put in
+
+  put_in_rest : (x : Sight) (prompt : List ℕ) (c : ℕ) (text : List ℕ) (at : ℕ) → (t : PutInFits x prompt c text at) → drop at text ≡ t.rest
+  put_in_rest x prompt c text at t =
+      let count = length-append t.before (c ∷ []) in
+      ap₂ drop t.behind (t.text_is ∙ sym (append_assoc t.before (c ∷ []) t.rest)) ∙ drop_at (t.before ++ c ∷ []) t.rest (length t.before + 1) (omega arith)
+
+  put_in_holds : (bytes : List ℕ) (over : List Placed) (top : ℕ) (m : Option Marks) (l : Layout) (x : Sight) (prompt : List ℕ) (c : ℕ) (text : List ℕ) (at : ℕ) → DisplayHolds s bytes over top l x
+      → x.given ≡ true → x.ended ≡ false → PutInFits x prompt c text at → SameStyles x m prompt text at → may_put_in (ruler_of s) l (drop at text) ≡ true
+      → Shows bytes over top (sight_as m prompt text at None) (put_in_short (ruler_of s) l c (drop at text))
+  put_in_holds bytes over top m l x prompt c text at h given unended t k e =
+      let rest_is = put_in_rest x prompt c text at t in
+      let line = t.before ++ c ∷ t.rest in
+      let cursor = cell_on s.columns l.cursor in
+      let end = cell_on s.columns l.end in
+      let leads = putting_in_leads s low high l (view_in s top x) t.before t.rest c (tells bytes over top l x h) (place_if x unended) (no_styles_in x k.unstyled) t.plain t.printable t.whole t.at
+      (subst (λ r. may_put_in (ruler_of s) l r ≡ true) rest_is e) in
+      subst (λ r. Shows bytes over top (sight_as m prompt text at None) (put_in_short (ruler_of s) l c r)) (sym rest_is)
+      (short_holds bytes over top m l x prompt text at line (length t.before + 1) (InsertChar c t.rest l.cursor cursor end) cursor end h given (and_parts (not l.has_info) _ e).0 k t.prompt_is t.text_is t.behind
+      leads.0 (λ e. cc) leads.1 leads.2)
+
+  -- ---- characters taken out
+
+  taken_out_rest : (x : Sight) (prompt : List ℕ) (count : ℕ) (text : List ℕ) (at : ℕ) → (t : TakenOutFits x prompt count text at) → drop at text ≡ t.rest
+  taken_out_rest x prompt count text at t = ap₂ drop t.at t.text_is ∙ drop_at t.before t.rest (length t.before) refl
+
+  taken_out_holds : (bytes : List ℕ) (over : List Placed) (top : ℕ) (m : Option Marks) (l : Layout) (x : Sight) (prompt : List ℕ) (count : ℕ) (text : List ℕ) (at : ℕ) → DisplayHolds s bytes over top l x
+      → x.given ≡ true → TakenOutFits x prompt count text at → SameStyles x m prompt text at
+      → (let y = sight_as m prompt text at None in let cell = measure_of s.mode s.tab s.columns (take at text) l.prompt_size in Low s y → may_take_out (ruler_of s) l cell count (drop at text) ≡ true
+      → Shows bytes over top y (taken_out_short l cell count (drop at text)))
+  taken_out_holds bytes over top m l x prompt count text at h given t k rows e =
+      let w = view_in s top x in
+      let cell = measure_of s.mode s.tab s.columns (take at text) l.prompt_size in
+      let free = (and_parts (not l.has_info) _ e).0 in
+      let line = t.before ++ t.rest in
+      let y = bare_sight x.spans x.prompt line (length t.before) in
+      let low_y : Low s y = subst (Low s) (bare_is m x prompt text at line (length t.before) k (nothing_after bytes over top l x h free) t.prompt_is t.text_is t.at) rows in
+      let cell_is : cell ≡ cursor_of s.columns (widths s) (picture y) =
+      ap₂ (measure_of s.mode s.tab s.columns) (ap₂ take t.at t.text_is) h.prompt_size ∙ (measures_go_on s some (picture y)).0 low_y.cursor in
+      let cut : take (length t.before) line ≡ take (length t.before) t.before = take_at t.before t.rest (length t.before) refl ∙ sym (take_all (length t.before) t.before (omega arith)) in
+      let at_is : cell ≡ cursor_of s.columns (widths s) (with_text w.shown t.before (length t.before)) =
+      cell_is ∙ ap (λ xs. place_after s.columns (text_of x.prompt ++ text_of xs) origin) cut in
+      let gone = length t.killed in
+      let end = column_back gone l.end in
+      let there : View = record { shown = picture y; top = top; place = cell } in
+      let rest_is = taken_out_rest x prompt count text at t in
+      let may : may_take_out (ruler_of s) l cell gone t.rest ≡ true =
+      subst (λ n. may_take_out (ruler_of s) l cell n t.rest ≡ true) t.count_is (subst (λ r. may_take_out (ruler_of s) l cell count r ≡ true) rest_is e) in
+      let leads = taking_out_leads s low high l w t.before t.killed t.rest cell (tells bytes over top l x h) h.good.inside (no_styles_in x k.unstyled) t.plain t.whole t.printable at_is may (inside_finish y low_y).row in
+      let shown : ℕ → List ℕ → Type 0 = λ n r. Shows bytes over top (sight_as m prompt text at None) (taken_out_short l cell n r) in
+      subst (shown count) (sym rest_is) (subst (λ n. shown n t.rest) (sym t.count_is)
+      (short_holds bytes over top m l x prompt text at line (length t.before) (MoveAndDelete l.cursor cell gone t.rest end) cell end h given free k t.prompt_is t.text_is t.at
+      (subst (λ p. LeadsView s.columns (widths s) w (MoveAndDelete p cell gone t.rest end) there) (sym h.cursor) leads.0) (λ e. cc) leads.1 leads.2))
+
+  -- ---- characters replaced by as many
 
   pub rewritten_letters : (x : Sight) (prompt : List ℕ) (from upto : ℕ) (text : List ℕ) (at : ℕ) → (t : RewrittenFits x prompt from upto text at) → slice_range text from upto ≡ t.letters
   rewritten_letters x prompt from upto text at t =
@@ -538,23 +472,22 @@ module _ (s : Screen) (low : 2 ≤ s.columns) (high : s.columns ≤ 1000) where
       let count : upto - from ≡ length t.letters = omega arith in
       ap₂ take count (ap₂ drop t.from_is t.text_is ∙ drop_at t.before (t.letters ++ t.rest) (length t.before) refl) ∙ take_at t.letters t.rest (length t.letters) refl
 
-  rewritten_if : (bytes : List ℕ) (over : List Placed) (top : ℕ) (m : Option Marks) (l : Layout) (x : Sight) (prompt : List ℕ) (from upto : ℕ) (text : List ℕ) (at : ℕ) (b : Bool) → DisplayHolds s bytes over top l x
-      → x.given ≡ true → RewrittenFits x prompt from upto text at → SameStyles x m prompt text at → Low s (sight_as m prompt text at None)
-      → (let cell = measure_of s.mode s.tab s.columns (take from text) l.prompt_size in let letters = slice_range text from upto in may_write_over (ruler_of s) l cell (length letters) ≡ b
-      → (let a = if b then write_over_call l letters cell (measure_of s.mode s.tab s.columns (take at text) l.prompt_size) else full (ruler_of s) m l prompt true text at None in
-      DisplayHolds s (bytes ++ flat_map (bytes_of s) a.calls) over top a.layout (sight_as m prompt text at None)))
-  rewritten_if bytes over top m l x prompt from upto text at false h given t k rows e = drawn_holds bytes over top m l x prompt true text at None h.good h.cursor rows
-  rewritten_if bytes over top m l x prompt from upto text at true h given t k rows e =
+  rewritten_holds : (bytes : List ℕ) (over : List Placed) (top : ℕ) (m : Option Marks) (l : Layout) (x : Sight) (prompt : List ℕ) (from upto : ℕ) (text : List ℕ) (at : ℕ) → DisplayHolds s bytes over top l x
+      → x.given ≡ true → RewrittenFits x prompt from upto text at → SameStyles x m prompt text at
+      → (let y = sight_as m prompt text at None in
+      let cell = measure_of s.mode s.tab s.columns (take from text) l.prompt_size in
+      let letters = slice_range text from upto in
+      Low s y → may_write_over (ruler_of s) l cell (length letters) ≡ true → Shows bytes over top y (write_over_call l letters cell (measure_of s.mode s.tab s.columns (take at text) l.prompt_size)))
+  rewritten_holds bytes over top m l x prompt from upto text at h given t k rows e =
       let w = view_in s top x in
       let measure = measure_of s.mode s.tab s.columns in
       let cell = measure (take from text) l.prompt_size in
       let cursor = measure (take at text) l.prompt_size in
       let free = (and_parts (not l.has_info) _ e).0 in
-      let none = nothing_after bytes over top l x h free in
       let tail = t.letters ++ t.rest in
-      let y = bare_sight x.spans x.prompt (t.before ++ tail) at in
-      let same = rewritten_is m x prompt from upto text at t k none in
-      let low_y : Low s y = subst (Low s) same rows in
+      let line = t.before ++ tail in
+      let y = bare_sight x.spans x.prompt line at in
+      let low_y : Low s y = subst (Low s) (bare_is m x prompt text at line at k (nothing_after bytes over top l x h free) t.prompt_is t.text_is refl) rows in
       -- the cells of the letters and of the cursor
       let cursor_is : cursor ≡ cursor_of s.columns (widths s) (picture y) = ap₂ measure (ap (take at) t.text_is) h.prompt_size ∙ (measures_go_on s some (picture y)).0 low_y.cursor in
       let parts = plain_parts s.columns (widths s) (picture x) t.before (t.gone ++ t.rest) t.whole t.plain in
@@ -573,21 +506,9 @@ module _ (s : Screen) (low : 2 ≤ s.columns) (high : s.columns ≤ 1000) where
       let there : View = record { shown = picture y; top = top; place = cursor } in
       let leads = writing_over_leads s low high l w t.before t.gone t.letters t.rest at cell cursor (tells bytes over top l x h) (no_styles_in x k.unstyled) t.plain t.whole t.as_many t.gone_printable t.printable cell_is
       (subst (λ xs. may_write_over (ruler_of s) l cell (length xs) ≡ true) letters_are e) inside (inside_finish y low_y).row in
-      let call : Position → Call = λ p. WriteOver t.letters p cell cursor in
-      let made = one_led bytes over w there (call w.place) h.good leads.0 refl (λ e. cc) in
-      let new = bytes ++ flat_map (bytes_of s) (call l.cursor ∷ []) in
-      let bytes_are : bytes ++ flat_map (bytes_of s) (call w.place ∷ []) ≡ new = ap (λ p. bytes ++ flat_map (bytes_of s) (call p ∷ [])) (sym h.cursor) in
-      let after : List ℕ → RedrawCalls = λ xs. write_over_call l xs cell cursor in
-      let done : DisplayHolds s new over top (after t.letters).layout y = record {
-        good = subst (λ p. Good s.columns (widths s) new over (record { shown = picture y; top = top; place = p })) cursor_is (subst (λ b. Good s.columns (widths s) b over there) bytes_are made);
-        cursor = cursor_is;
-        finish = h.finish ∙ sym leads.1;
-        prompt_size = h.prompt_size;
-        info_is = not-true l.has_info free;
-        given_is = h.given_is ∙ given;
-      } in
-      subst (λ xs. DisplayHolds s (bytes ++ flat_map (bytes_of s) (after xs).calls) over top (after xs).layout (sight_as m prompt text at None)) (sym letters_are)
-      (subst (DisplayHolds s new over top (after t.letters).layout) (sym same) done)
+      subst (λ xs. Shows bytes over top (sight_as m prompt text at None) (write_over_call l xs cell cursor)) (sym letters_are)
+      (short_holds bytes over top m l x prompt text at line at (WriteOver t.letters l.cursor cell cursor) cursor l.end h given free k t.prompt_is t.text_is refl
+      (subst (λ p. LeadsView s.columns (widths s) w (WriteOver t.letters p cell cursor) there) (sym h.cursor) leads.0) (λ e. cc) cursor_is (h.finish ∙ sym leads.1))
 
   -- ---- no call, also if the session's own prompt stands
 
@@ -617,27 +538,49 @@ module _ (s : Screen) (low : 2 ≤ s.columns) (high : s.columns ≤ 1000) where
       → DisplayHolds s (bytes ++ flat_map (bytes_of s) (one (ruler_of s) l r).calls) (above_by r over) (top_by r top) (one (ruler_of s) l r).layout (sight x r)
   step own bytes over top l x (Draws v m (Drawn prompt given text at info)) h fits rows = drawn_holds bytes over top (shown_marks v m) l x prompt given text at info h.good h.cursor rows
   step own bytes over top l x (Draws v m (Moved text at)) h fits rows =
-      let y = moved_to x at in
+      let y = goes_to x at false in
       let cursor = measure_of s.mode s.tab s.columns (take at text) l.prompt_size in
       let measured = measures_go_on s some (picture y) in
       let is : cursor ≡ cursor_of s.columns (widths s) (picture y) =
       ap (measure_of s.mode s.tab s.columns (take at text)) h.prompt_size ∙ ap (λ t. measure_of s.mode s.tab s.columns (take at t) (measure_of s.mode s.tab s.columns x.prompt origin)) fits ∙ measured.0 rows.cursor in
-      moved_if bytes over top l x at cursor (same_cell l.cursor cursor) h is rows refl
-  step own bytes over top l x (Draws v m (Typed prompt c text at)) h fits rows = typed_if bytes over top (shown_marks v m) l x prompt c text at (may_type (ruler_of s) l) h fits.0 fits.2 fits.3 fits.4 rows refl
-  step own bytes over top l x (Draws v m (Appended prompt c text at)) h fits rows = appended_if bytes over top (shown_marks v m) l x prompt c text at l.has_info h fits.0 fits.2 fits.3 fits.4 rows refl
-  step own bytes over top l x (Draws v m (Taken prompt count text at)) h fits rows = taken_if bytes over top (shown_marks v m) l x prompt count text at (may_take l count) h fits.0 fits.2 fits.3 rows refl
-  step own bytes over top l x (Draws v m (Erased prompt c text at)) h fits rows = erased_if bytes over top (shown_marks v m) l x prompt c text at (may_erase (ruler_of s) l c) h fits.0 fits.2 fits.3 rows refl
-  step own bytes over top l x (Draws v m (PutIn prompt c text at)) h fits rows = put_in_if bytes over top (shown_marks v m) l x prompt c text at (may_put_in (ruler_of s) l (drop at text)) h fits.0 fits.2 fits.3 fits.4 rows refl
+      goes_if bytes over top l x at false cursor (same_cell l.cursor cursor) h is (inside_cursor y rows) refl
+  step own bytes over top l x (Draws v m (Typed prompt c text at)) h fits rows =
+      short_or bytes over top (shown_marks v m) l x prompt text at (char_call l c) (may_type (ruler_of s) l) h rows (typed_holds bytes over top (shown_marks v m) l x prompt c text at h fits.0 fits.2 fits.3 fits.4)
+  step own bytes over top l x (Draws v m (Appended prompt c text at)) h fits rows =
+      let marks = shown_marks v m in
+      let short = append_call (ruler_of s) l c in
+      subst (Shows bytes over top (sight_as marks prompt text at None)) (sym (if_none l.has_info (full (ruler_of s) marks l prompt true text at None) short))
+      (short_or bytes over top marks l x prompt text at short (not l.has_info) h rows (appended_holds bytes over top marks l x prompt c text at h fits.0 fits.2 fits.3 fits.4 rows))
+  step own bytes over top l x (Draws v m (Taken prompt count true text at)) h fits rows =
+      let marks = shown_marks v m in
+      short_or_rest bytes over top marks l x prompt at text at (erase_call l count) (may_take l count) h (taken_fits x marks prompt text at fits.3 count fits.2) rows
+      (taken_holds bytes over top marks l x prompt count text at h fits.0 fits.2 fits.3)
+  step own bytes over top l x (Draws v m (Taken prompt count false text at)) h fits rows =
+      short_or bytes over top (shown_marks v m) l x prompt text at (erase_call l count) (may_take l count) h rows (taken_holds bytes over top (shown_marks v m) l x prompt count text at h fits.0 fits.2 fits.3)
+  step own bytes over top l x (Draws v m (Erased prompt c text at)) h fits rows =
+      let marks = shown_marks v m in
+      short_or_rest bytes over top marks l x prompt at text at (erase_call l (measure_of s.mode s.tab s.columns (encode_utf8 c) origin).col) (may_erase (ruler_of s) l c) h
+      (erased_fits x marks prompt text at fits.3 c fits.2) rows (erased_holds bytes over top marks l x prompt c text at h fits.0 fits.2 fits.3 rows)
+  step own bytes over top l x (Draws v m (PutIn prompt c text at)) h fits rows =
+      let rest = drop at text in
+      short_or bytes over top (shown_marks v m) l x prompt text at (put_in_short (ruler_of s) l c rest) (may_put_in (ruler_of s) l rest) h rows
+      (put_in_holds bytes over top (shown_marks v m) l x prompt c text at h fits.0 fits.2 fits.3 fits.4)
   step own bytes over top l x (Draws v m (TakenOut prompt count text at)) h fits rows =
-      taken_out_if bytes over top (shown_marks v m) l x prompt count text at (may_take_out (ruler_of s) l (measure_of s.mode s.tab s.columns (take at text) l.prompt_size) count (drop at text)) h fits.0 fits.2 fits.3 rows refl
+      let marks = shown_marks v m in
+      let rest = drop at text in
+      let cell = measure_of s.mode s.tab s.columns (take at text) l.prompt_size in
+      short_or_rest bytes over top marks l x prompt at text at (taken_out_short l cell count rest) (may_take_out (ruler_of s) l cell count rest) h
+      (taken_out_fits x marks prompt text at fits.3 count fits.2) rows (taken_out_holds bytes over top marks l x prompt count text at h fits.0 fits.2 fits.3 rows)
   step own bytes over top l x (Draws v m (DrawnFrom prompt from text at info)) h fits rows = drawn_from_holds bytes over top (shown_marks v m) l x prompt from text at info h fits.2 rows
   step own bytes over top l x (Draws v m (Rewritten prompt from upto text at)) h fits rows =
-      rewritten_if bytes over top (shown_marks v m) l x prompt from upto text at (may_write_over (ruler_of s) l (measure_of s.mode s.tab s.columns (take from text) l.prompt_size) (length (slice_range text from upto))) h fits.0 fits.2 fits.3 rows refl
+      let marks = shown_marks v m in
+      let cell = measure_of s.mode s.tab s.columns (take from text) l.prompt_size in
+      let letters = slice_range text from upto in
+      short_or_rest bytes over top marks l x prompt from text at (write_over_call l letters cell (measure_of s.mode s.tab s.columns (take at text) l.prompt_size)) (may_write_over (ruler_of s) l cell (length letters)) h
+      (rewritten_fits x marks prompt text at fits.3 from upto fits.2) rows (rewritten_holds bytes over top marks l x prompt from upto text at h fits.0 fits.2 fits.3 rows)
   step own bytes over top l x (Draws v m (Bared prompt text at)) h fits rows = bared_if bytes over top (shown_marks v m) l x prompt text at l.default_prompt h (h.given_is ∙ fits)
-  step own bytes over top l x (Draws v m ToEnd) h fits rows = end_if bytes over top l x (same_cell l.cursor l.end) h (record { finish = rows.finish; cursor = rows.cursor }) refl
+  step own bytes over top l x (Draws v m ToEnd) h fits rows = goes_if bytes over top l x x.place true l.end (same_cell l.cursor l.end) h h.finish (inside_finish x (record { finish = rows.finish; cursor = rows.cursor })) refl
   step own bytes over top l x (Draws v m Beeped) h fits rows = same_holds bytes over top l x Beep h refl (λ e. cc)
   step own bytes over top l x (Draws v m Cleared) h fits rows = fresh_holds (bytes ++ flat_map (bytes_of s) (ClearScreen ∷ [])) [] 0 l (cleared_led bytes over (view_in s top x) h.good)
   step own bytes over top l x (Helped v fails takes) h fits rows = same_holds bytes over top l x (Help fails) h refl (λ e. cc)
-  step own bytes over top l x (Edits v edit) h fits rows = still_holds bytes over top l x h
-  step own bytes over top l x (TakesBack v count) h fits rows = still_holds bytes over top l x h
-  step own bytes over top l x (Takes v) h fits rows = still_holds bytes over top l x h
+  step own bytes over top l x r h fits rows = still_holds bytes over top l x h

@@ -1,16 +1,24 @@
--- A text that is pasted and then entered.
-use Rattle.std.specs.Prelude.{◌≡◌, ◌≢◌, ℕ, suc, true, List, [], ◌∷◌, ◌++◌, None, Ok}
+-- A text that is pasted, and one that is then entered.
+use Rattle.std.specs.Prelude.{◌≡◌, ◌≢◌, ℕ, suc, Bool, true, List, [], ◌∷◌, ◌++◌, None, Ok}
 use Rattle.std.specs.Str.{IsUtf8}
+use Rattle.line_buffer.specs.Insertions.{with_text_at_cursor}
+use Rattle.line_buffer.specs.Line.{Line}
 use Rattle.line_config.specs.declared.device.Last.{Last}
 use Rattle.script.specs.Played.{Played}
 use Rattle.line_config.specs.declared.errors.ReadlineError.{ReadlineError}
 use Rattle.line_keys.specs.declared.events.Event.{Event}
+use Rattle.line_keys.specs.declared.events.Event.TheVariants.{Any}
+use Rattle.line_keys.specs.declared.key.KeyEvent.{KeyEvent}
 use Rattle.line_keys.specs.CustomBindings.{Custom}
 use Rattle.line_keys.specs.Coming.{Coming}
-use Rattle.line_editor.specs.LineScripts.{LineAsk, LineState, played_from, turns_script}
+use Rattle.line_keys.specs.Events.{single}
+use Rattle.line_editor.specs.Commands.{in_vi_command, means_of}
+use Rattle.line_editor.specs.LineScripts.{LineAsk, LineState, played_from, turn_script, turns_script}
 use Rattle.line_editor.specs.Modal.{is_at_rest}
 use Rattle.line_editor.specs.Values.{Setting, Value}
-use Rattle.line_screen.specs.KeyGrammar.{marker, start_marker, HaveNoMarker}
+use Rattle.line_editor.specs.Yanking.{behind_yank}
+use Rattle.line_editor.specs.declared.commands.Status.TheVariants.{Proceed}
+use Rattle.line_screen.specs.KeyGrammar.{marker, paste_start, start_marker, HaveNoMarker}
 use Rattle.keyline.specs.Events.{line_play_in}
 use Rattle.keyline.specs.Sessions.{Given, SessionState, coming_from}
 
@@ -23,6 +31,34 @@ pub record IsPasteable (text : List ℕ) : Type 0 where
   pub utf8 : IsUtf8 text
   pub no_return : (before after : List ℕ) → text ≢ before ++ 0x0D ∷ after
   pub no_marker : HaveNoMarker text
+
+-- ---- between two phrases
+
+-- a text goes to the cursor, and the cursor after it; in Vi's command mode onto its last cluster
+abbrev pub line_with_paste : Bool → List ℕ → Line → Line
+line_with_paste vi [] l = l
+line_with_paste vi (byte ∷ bytes) l = behind_yank vi (with_text_at_cursor (byte ∷ bytes) l)
+
+-- no binding is for this key
+pub record IsFree (custom : Custom) (k : KeyEvent) : Type 0 where
+  pub own : custom.answers (single k) ≡ None
+  pub any : custom.answers Any ≡ None
+
+-- a text that is pasted between two phrases goes to the cursor of the line, if no binding is for it
+-- and no search stands. Everything that follows it remains
+abbrev pub PastesGoIn : Type 0
+PastesGoIn =
+    (n : ℕ) (s : Setting) (custom : Custom) (k : LineState) (text more : List ℕ)
+    (last : Last)
+    → IsFree custom paste_start → k.value.line.growth ≡ true
+    → is_at_rest k.modal.standing ≡ true → IsPasteable text
+    → k.coming ≡ coming_from k.input.mode (paste_bytes text ++ more) last
+    → let p = played_from s (turn_script (suc (suc n)) custom) k in
+    let vi = in_vi_command (means_of k.input k.ring) in
+    (p.answer ≡ Ok Proceed) × (p.rest.coming ≡ coming_from k.input.mode more last)
+    × (p.rest.value.line ≡ line_with_paste vi text k.value.line)
+
+-- ---- a whole line
 
 abbrev pub IsUnbound : Custom → Type 0
 IsUnbound custom = (event : Event) → custom.answers event ≡ None

@@ -2,7 +2,7 @@
 
 ghost use Rattle.std.specs.Prelude.{◌≡◌, ◌≤◌, IfErr, IfOk, Some, [], false, true};
 ghost use Rattle.line_config.specs.Adapters.{IsUnread, IsUnused, gave, bytes_taken};
-ghost use Rattle.keyline.specs.Builders.{HasDefaults};
+ghost use Rattle.keyline.specs.Builders.{HasDefaults, builder_with};
 ghost use Rattle.keyline.specs.Columns.{ColumnsBy};
 ghost use Rattle.keyline.specs.Program.{IsByEnvironment, profile_of, standard_config};
 ghost use Rattle.keyline.specs.Opened.{HasGiven, desk_of};
@@ -201,19 +201,8 @@ where
         self,
         bindings: EventMap<C>,
     ) -> SessionBuilder<'p, F, S, H, D, L, T, C>
-        ensures { result ≡ record {
-          alloc = self.entry.alloc;
-          config = self.entry.config;
-          bindings = bindings;
-          history = self.entry.history;
-          helper = self.entry.helper;
-          prompt = self.entry.prompt;
-          source = self.entry.source;
-          columns = self.entry.columns;
-          display = self.entry.display;
-          lines = self.entry.lines;
-          text = self.entry.text;
-        } }
+        ensures { let b = self.entry in
+            result ≡ builder_with b b.history b.helper bindings b.lines b.text }
     {
         SessionBuilder {
             alloc: self.alloc,
@@ -232,19 +221,8 @@ where
 
     /// Sets the helper.
     pub fn helper<G: Helper + Drop>(self, helper: G) -> SessionBuilder<'p, F, S, G, D, L, T, B>
-        ensures { result ≡ record {
-          alloc = self.entry.alloc;
-          config = self.entry.config;
-          bindings = self.entry.bindings;
-          history = self.entry.history;
-          helper = Some helper;
-          prompt = self.entry.prompt;
-          source = self.entry.source;
-          columns = self.entry.columns;
-          display = self.entry.display;
-          lines = self.entry.lines;
-          text = self.entry.text;
-        } }
+        ensures { let b = self.entry in
+            result ≡ builder_with b b.history (Some helper) b.bindings b.lines b.text }
     {
         SessionBuilder {
             alloc: self.alloc,
@@ -263,19 +241,8 @@ where
 
     /// Sets the sink of accepted lines.
     pub fn lines<M: Sink + Drop>(self, lines: M) -> SessionBuilder<'p, F, S, H, D, M, T, B>
-        ensures { result ≡ record {
-          alloc = self.entry.alloc;
-          config = self.entry.config;
-          bindings = self.entry.bindings;
-          history = self.entry.history;
-          helper = self.entry.helper;
-          prompt = self.entry.prompt;
-          source = self.entry.source;
-          columns = self.entry.columns;
-          display = self.entry.display;
-          lines = lines;
-          text = self.entry.text;
-        } }
+        ensures { let b = self.entry in
+            result ≡ builder_with b b.history b.helper b.bindings lines b.text }
     {
         SessionBuilder {
             alloc: self.alloc,
@@ -299,19 +266,8 @@ where
         history: G,
         text: U,
     ) -> SessionBuilder<'p, G, S, H, D, L, U, B>
-        ensures { result ≡ record {
-          alloc = self.entry.alloc;
-          config = self.entry.config;
-          bindings = self.entry.bindings;
-          history = history;
-          helper = self.entry.helper;
-          prompt = self.entry.prompt;
-          source = self.entry.source;
-          columns = self.entry.columns;
-          display = self.entry.display;
-          lines = self.entry.lines;
-          text = text;
-        } }
+        ensures { let b = self.entry in
+            result ≡ builder_with b history b.helper b.bindings b.lines text }
     {
         SessionBuilder {
             alloc: self.alloc,

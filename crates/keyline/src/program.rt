@@ -146,6 +146,7 @@ pub fn edit<F: Source + Drop, S: Source + Drop, D: Sink + Drop, L: Sink + Drop, 
 {
     edit_with(
         alloc,
+        true,
         config_of(options),
         options,
         words,
@@ -157,7 +158,8 @@ pub fn edit<F: Source + Drop, S: Source + Drop, D: Sink + Drop, L: Sink + Drop, 
     )
 }
 
-/// The same with other settings, such as those of [`invoked_config`].
+/// The same with other settings, such as those of [`invoked_config`]. The history is saved only if
+/// that is asked for.
 pub fn edit_with<
     F: Source + Drop,
     S: Source + Drop,
@@ -165,35 +167,6 @@ pub fn edit_with<
     L: Sink + Drop,
     T: Sink + Drop,
 >(
-    alloc: Global,
-    config: Config,
-    options: &Options,
-    words: Option<Vec<String>>,
-    history: F,
-    source: S,
-    display: D,
-    lines: L,
-    text: T,
-) -> Result<Ended<S, D, L, T>, Unopened<F, S, D, L, T>>
-    requires columns { (2 ≤ options.now.columns) × (options.now.columns ≤ 1000) }
-    requires history { (F.feed history).failed ≡ false }
-    requires source { (S.feed source).failed ≡ false }
-    requires display { D.has_failed display ≡ false }
-    requires lines { L.has_failed lines ≡ false }
-    requires text { T.has_failed text ≡ false }
-    ensures edits { IfOk result (EditsBy F.feed
-        (devices_by S.feed D.held D.waits D.has_failed L.held L.waits L.has_failed) T.held
-        T.has_failed
-        true config options.now (word_texts words) history source display lines text) }
-    ensures refused { IfErr result (Unopens F.feed config history source display lines text) }
-{
-    edit_to_end(
-        alloc, true, config, options, words, history, source, display, lines, text,
-    )
-}
-
-/// The same, but the history is saved only if that is asked for.
-fn edit_to_end<F: Source + Drop, S: Source + Drop, D: Sink + Drop, L: Sink + Drop, T: Sink + Drop>(
     alloc: Global,
     saves: bool,
     config: Config,
@@ -322,7 +295,7 @@ pub fn play_with<'a, K: Foretold<R>, R: Read + Drop, E: Write + Drop, W: Write +
             VecSink::new(alloc),
         )),
     };
-    let mut played = match edit_to_end::<_, Boxed<ReadSource<R, K>>, _, _, _>(
+    let mut played = match edit_with::<_, Boxed<ReadSource<R, K>>, _, _, _>(
         alloc,
         options.history.is_some(),
         config,

@@ -1,5 +1,5 @@
 -- Two displays that show the same have the same cells, and the same styles if the highlighter gives the same.
-use Rattle.std.proofs.Common.{◌≡◌, ℕ, ◌+◌, ◌-◌, ◌<◌, ◌==◌, nat_lt, nat_le, Bool, true, false, cond, ◌&&◌, List, [], ◌∷◌, ◌++◌, map, take, Option, Some, refl, sym, ap, ◌∙◌, subst, arith, if◌then◌else◌}
+use Rattle.std.proofs.Common.{◌≡◌, ℕ, ◌+◌, ◌-◌, ◌<◌, ◌==◌, nat_lt, nat_le, Bool, true, false, cond, ◌&&◌, List, [], ◌∷◌, ◌++◌, map, Option, Some, refl, sym, ap, ◌∙◌, subst, arith, if◌then◌else◌}
 use Rattle.std.specs.List.{filter}
 use Rattle.std.proofs.lemmas.Bool.Decides.{nat_tests}
 use Rattle.std.proofs.lemmas.List.{map-append}
@@ -13,8 +13,8 @@ use Rattle.line_screen.specs.ScreenCalls.{Screen, styles_of}
 use Rattle.line_screen.specs.Chain.{Picture, Shows, above, cells_of, cursor_of, down, shown_items, styled_items}
 use Rattle.line_screen.specs.Display.{Cell, Display, Placed, cell_at, meaning, cluster_placed_at, right, style_at}
 use Rattle.line_screen.specs.Display.Cell.{Head, Tail}
-use Rattle.line_screen.specs.Drawing.{DrawnItem, Widths, after_one, blanks, lay_one, lay_run, place_after, text_items}
-use Rattle.line_screen.specs.Drawing.DrawnItem.{Cluster, Letter, NewRow, Tab}
+use Rattle.line_screen.specs.Drawing.{DrawnItem, Widths, after_one, blanks, lay_one, lay_run}
+use Rattle.line_screen.specs.Drawing.DrawnItem.{Tab}
 use Rattle.line_screen.specs.Laws.{widths}
 use Rattle.line_screen.specs.StyledTexts.{StyledItem, lay}
 use Rattle.line_screen.proofs.LawLemmas.{cells_are_shown}
@@ -38,10 +38,8 @@ run_bare style [] at = refl
 run_bare style (c ∷ cs) at = ap (λ ps. cluster_placed_at [] (c ∷ []) 1 at ∷ ps) (run_bare style cs (right 1 at))
 
 one_bare : (columns : ℕ) (style : List ℕ) (item : DrawnItem) (at : Position) → map bare (lay_one columns style item at) ≡ lay_one columns [] item at
-one_bare columns style NewRow at = refl
-one_bare columns style (Letter c) at = refl
-one_bare columns style (Cluster bytes width) at = refl
 one_bare columns style (Tab apart) at = run_bare style (blanks (tab_width columns apart at.col)) at
+one_bare columns style item at = refl
 
 lay_is_bare : (columns : ℕ) (xs : List StyledItem) (at : Position) → map bare (lay columns xs at) ≡ bare_lay columns (map (λ (x : StyledItem). x.item) xs) at
 lay_is_bare columns [] at = refl
@@ -102,16 +100,10 @@ pub record SameTexts (v w : Picture) : Type 0 where
   pub info : v.info ≡ w.info
 
 same_items : (wide : Widths) (v w : Picture) → SameTexts v w → shown_items wide v ≡ shown_items wide w
-same_items wide v w same =
-    ap (λ t. text_items wide t ++ (text_items wide v.line ++ text_items wide v.info)) same.prompt
-    ∙ ap (λ t. text_items wide w.prompt ++ (text_items wide t ++ text_items wide v.info)) same.line
-    ∙ ap (λ t. text_items wide w.prompt ++ (text_items wide w.line ++ text_items wide t)) same.info
+same_items wide v w same = rw (same.prompt, same.line, same.info) refl
 
 same_cursor : (columns : ℕ) (wide : Widths) (v w : Picture) → SameTexts v w → cursor_of columns wide v ≡ cursor_of columns wide w
-same_cursor columns wide v w same =
-    ap (λ t. place_after columns (text_items wide t ++ text_items wide (take v.place v.line)) origin) same.prompt
-    ∙ ap (λ t. place_after columns (text_items wide w.prompt ++ text_items wide (take v.place t)) origin) same.line
-    ∙ ap (λ n. place_after columns (text_items wide w.prompt ++ text_items wide (take n w.line)) origin) same.place
+same_cursor columns wide v w same = rw (same.prompt, same.line, same.place) refl
 
 same_picture : (v w : Picture) → SameTexts v w → v.styles ≡ w.styles → v ≡ w
 same_picture v w same styles =

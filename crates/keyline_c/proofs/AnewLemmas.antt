@@ -1,31 +1,32 @@
 -- From the last whole drawing on, the bytes of a line's steps show by themselves what all of them show.
-use Rattle.std.proofs.Common.{◌≡◌, ◌⊎◌, inl, inr, ℕ, zero, suc, ◌+◌, ◌-◌, ◌/◌, ◌%◌, ◌<◌, ◌≤◌, ◌==◌, nat_lt, nat_le, Bool, true, false, not, ◌&&◌, ◌||◌, List, [], ◌∷◌, ◌++◌, take, drop, decimal, Option, None, Some, refl, sym, ap, ◌∙◌, subst, append_assoc, append-nil, arith, true≢false, if◌then◌else◌}
+use Rattle.std.proofs.Common.{◌≡◌, ◌⊎◌, inl, inr, ℕ, zero, suc, ◌+◌, ◌-◌, ◌/◌, ◌%◌, ◌≤◌, ◌==◌, nat_lt, nat_le, Bool, true, false, not, ◌&&◌, ◌||◌, List, [], ◌∷◌, ◌++◌, take, drop, decimal, Option, None, Some, refl, sym, ap, ◌∙◌, subst, append_assoc, append-nil, arith, true≢false, if◌then◌else◌}
 use Rattle.std.specs.Prelude.{⊤, codes, encode_utf8, length, replicate, slice_range}
 use Rattle.std.specs.Fmt.{digits, digit_glyph, digits_onto}
 use Rattle.std.specs.List.{flat_map, list_all}
 use Rattle.std.specs.Option.{option_or}
-use Rattle.std.proofs.lemmas.Bool.{and_parts, and_from, ltb-true}
+use Rattle.std.proofs.lemmas.Bool.{and_parts, and_from}
 use Rattle.std.proofs.lemmas.Bool.Decides.{nat_tests}
 use Rattle.std.proofs.lemmas.Str.{encode_ascii}
 use Rattle.std.proofs.lemmas.Grind.{flat_map-append}
 use Rattle.line_buffer.specs.Cells.{origin, same_cell}
 use Rattle.line_buffer.specs.Printable.{is_printable, at_simple_end}
 use Rattle.line_buffer.specs.Tabs.{tab_width}
+use Rattle.line_buffer.specs.declared.layout.GraphemeClusterMode.{GraphemeClusterMode}
 use Rattle.line_buffer.specs.declared.layout.Layout.{Layout}
 use Rattle.line_buffer.specs.declared.layout.Position.{Position}
 use Rattle.line_buffer.specs.declared.layout.TabStops.{TabStops}
 use Rattle.line_config.specs.declared.settings.BellStyle.{BellStyle}
 use Rattle.line_config.specs.declared.settings.BellStyle.TheVariants as Bell
 use Rattle.line_editor.specs.RenderCalls.{Marks, Ruler}
-use Rattle.line_editor.specs.Redraws.{info_text, fresh, full, nothing_asked, move_call, char_call, append_call, erase_call, put_in_short, taken_out_short, rest_call, layout_of, cell_on, column_back, may_type, may_take, may_erase, may_put_in, may_take_out, write_over_call, may_write_over}
+use Rattle.line_editor.specs.Redraws.{RedrawCalls, info_text, fresh, full, nothing_asked, move_call, char_call, append_call, erase_call, put_in_short, taken_out_short, rest_call, layout_of, cell_on, column_back, may_type, may_take, may_erase, may_put_in, may_take_out, write_over_call, may_write_over}
 use Rattle.line_editor.specs.Redraws.Redraw.{Drawn, Moved, Typed, Appended, Taken, Erased, PutIn, TakenOut, DrawnFrom, Bared, ToEnd, Beeped, Cleared, Rewritten}
-use Rattle.line_editor.specs.Sights.{Sight, sight_with, sight_as, no_sight, sight, sight_all, spans_by, drawn_spans, Fits, FitsAll, TypedFits, PutInFits, RewrittenFits}
+use Rattle.line_editor.specs.Sights.{Sight, sight_with, no_sight, sight, sight_all, spans_by, drawn_spans, Fits, FitsAll, TypedFits, PutInFits, RewrittenFits}
 use Rattle.line_editor.specs.EditSteps.{one}
 use Rattle.line_editor.specs.Values.{EditStep, Value, shown_marks}
-use Rattle.line_editor.specs.Values.EditStep.{Draws, Helped, Edits, TakesBack, Takes}
-use Rattle.line_screen.specs.ScreenCalls.{Screen, bell_bytes, bytes_of, ruler_of, styles_by, info_styles}
+use Rattle.line_editor.specs.Values.EditStep.{Draws}
+use Rattle.line_screen.specs.ScreenCalls.{Screen, bell_bytes, bytes_of, ruler_of, styles_by, line_styles}
 use Rattle.line_screen.specs.Chain.{Good, empty_view}
-use Rattle.line_screen.specs.Colours.{AreStyles, PaintedItem, Styles, all_unpainted, is_style, bytes_of_all_painted, painted_drawing, bytes_of_painted, bytes_of_painted_texts, painted_text, shaded_break, style_bytes, items_without_style}
+use Rattle.line_screen.specs.Colours.{AreStyles, PaintedItem, Styles, all_unpainted, skip, is_style, bytes_of_all_painted, painted_drawing, bytes_of_painted, bytes_of_painted_texts, painted_text, shaded_break, style_bytes, items_without_style}
 use Rattle.line_screen.specs.Colours.PaintedItem.{Bare as Plain, Begins, Shaded, Fenced, Padded}
 use Rattle.line_screen.specs.Display.{Placed, is_parameter, is_text, right}
 use Rattle.line_screen.specs.Drawing.{DrawnItem, Widths, blanks, text_items, no_style, break_if, break_unless, cluster_in_fence, fitted_col, bytes_of_item, bytes_of_items, col_after_one, col_after, control_sequence, erase_to_end, erase_to_row_end, in_fence, open_cell, take_cells_out, row_break, row_move, col_move, move_bytes, left_col, pushed_on, insertion_bytes, pulled_back, deletion_bytes, place_after_insertion, place_after_deletion, shown_text, drawing, is_step_back, short_move, writing_bytes, begin_inserting, end_inserting, put_in, put_and_pushed, begins_two_rows}
@@ -36,9 +37,9 @@ use Rattle.line_screen.proofs.Draws.{AllFit, AllPainted, Fits as ItemFits, FitsP
 use Rattle.line_screen.proofs.Fitting.{items_fit}
 use Rattle.line_screen.proofs.LawLemmas.{start_is_empty}
 use Rattle.line_screen.proofs.StyleLemmas.{styles_are}
-use Rattle.line_screen.proofs.StyledTextLemmas.{text_painted}
-use Rattle.keyline.specs.Shows.{DisplayHolds, Low, LowStep, LowAll, bytes_for, calls_by_screen}
-use Rattle.keyline.proofs.ShowSteps.{drawn_holds, fresh_holds, rewritten_letters, step}
+use Rattle.line_screen.proofs.StyledTextLemmas.{skip_styles, text_painted}
+use Rattle.keyline.specs.Shows.{DisplayHolds, Low, LowStep, LowAll, above_by, bytes_for, calls_by_screen, top_by}
+use Rattle.keyline.proofs.ShowSteps.{drawn_holds, fresh_holds, if_none, rewritten_letters, small, step}
 use Rattle.keyline_c.specs.Laws.{drawing_start, begins_drawing, last_drawing}
 
 -- ---- bytes in which no drawing begins: each CR is before an LF
@@ -317,23 +318,12 @@ pub record Bare (x : Sight) : Type 0 where
 
 cleared_or : (r : EditStep) → NotCleared r ⊎ ((x : Sight) → Bare (sight x r))
 cleared_or (Draws v m Cleared) = inr (λ x. record { given = refl; prompt = refl })
-cleared_or (Draws v m (Drawn prompt given text at info)) = inl tt
-cleared_or (Draws v m (Moved text at)) = inl tt
-cleared_or (Draws v m (Typed prompt c text at)) = inl tt
-cleared_or (Draws v m (Appended prompt c text at)) = inl tt
-cleared_or (Draws v m (Taken prompt count text at)) = inl tt
-cleared_or (Draws v m (Erased prompt c text at)) = inl tt
-cleared_or (Draws v m (PutIn prompt c text at)) = inl tt
-cleared_or (Draws v m (TakenOut prompt count text at)) = inl tt
-cleared_or (Draws v m (DrawnFrom prompt from text at info)) = inl tt
-cleared_or (Draws v m (Rewritten prompt from upto text at)) = inl tt
-cleared_or (Draws v m (Bared prompt text at)) = inl tt
-cleared_or (Draws v m ToEnd) = inl tt
-cleared_or (Draws v m Beeped) = inl tt
-cleared_or (Helped v fails takes) = inl tt
-cleared_or (Edits v edit) = inl tt
-cleared_or (TakesBack v count) = inl tt
-cleared_or (Takes v) = inl tt
+cleared_or r = inl tt
+
+-- without it the rows above stay
+rows_stay : (r : EditStep) → NotCleared r → (over : List Placed) (top : ℕ) → (above_by r over ≡ over) × (top_by r top ≡ top)
+rows_stay (Draws v m Cleared) none over top = absurd none
+rows_stay r none over top = (refl, refl)
 
 module _ (s : Screen) (low : 2 ≤ s.columns) (high : s.columns ≤ 1000) (own : List ℕ) where
   some : 1 ≤ s.columns
@@ -342,8 +332,12 @@ module _ (s : Screen) (low : 2 ≤ s.columns) (high : s.columns ≤ 1000) (own :
   abbrev wide : Widths
   wide = widths s
 
-  abbrev tabs : Option TabStops
-  tabs = (ruler_of s).tabs
+  -- what a layout is measured by
+  abbrev pub measured_by : Layout → Option TabStops × GraphemeClusterMode
+  measured_by l = (l.tab_stops, l.grapheme_cluster_mode)
+
+  abbrev measure : Option TabStops × GraphemeClusterMode
+  measure = ((ruler_of s).tabs, s.mode)
 
   calm_texts : (prompt line info : List ℕ) → calm (shown_text s.columns wide prompt line info) ≡ true
   calm_texts prompt line info =
@@ -376,16 +370,16 @@ module _ (s : Screen) (low : 2 ≤ s.columns) (high : s.columns ≤ 1000) (own :
     pub calm_is : calm later ≡ true
     pub holds : (before : List ℕ) (over : List Placed) (top : ℕ) → Good s.columns wide before over (empty_view top)
         → DisplayHolds s (before ++ (drawing_start ++ later)) over top l x
-    pub tabs_are : l.tab_stops ≡ tabs
+    pub measure_is : measured_by l ≡ measure
 
   pub anew_last : (bytes : List ℕ) (l : Layout) (x : Sight) (a : Anew bytes l x) → last_drawing bytes ≡ Some (drawing_start ++ a.later)
   anew_last bytes l x a = ap last_drawing a.bytes_are ∙ last_behind a.earlier (drawing_start ++ a.later) (drawing_start ++ a.later) (last_here a.later a.calm_is)
 
   -- a whole drawing of these texts, whatever came before
-  drawn_anew : (bytes : List ℕ) (row : ℕ) (l : Layout) (x : Sight) (texts : List ℕ) → l.tab_stops ≡ tabs → calm texts ≡ true
+  drawn_anew : (bytes : List ℕ) (row : ℕ) (l : Layout) (x : Sight) (texts : List ℕ) → measured_by l ≡ measure → calm texts ≡ true
       → ((before : List ℕ) (over : List Placed) (top : ℕ) → Good s.columns wide before over (empty_view top) → DisplayHolds s (before ++ (drawing_start ++ texts ++ [])) over top l x)
       → Anew (bytes ++ (control_sequence row 0x41 ++ drawing_start ++ texts ++ [])) l x
-  drawn_anew bytes row l x texts stops quiet on =
+  drawn_anew bytes row l x texts same quiet on =
       let up = control_sequence row 0x41 in
       record {
         earlier = bytes ++ up;
@@ -393,7 +387,7 @@ module _ (s : Screen) (low : 2 ≤ s.columns) (high : s.columns ≤ 1000) (own :
         bytes_are = ap (λ z. bytes ++ z) (append-nil (up ++ drawing_start ++ texts) ∙ append_assoc up drawing_start texts) ∙ sym (append_assoc bytes up (drawing_start ++ texts));
         calm_is = quiet;
         holds = λ before over top good. subst (λ z. DisplayHolds s (before ++ z) over top l x) (append-nil (drawing_start ++ texts)) (on before over top good);
-        tabs_are = stops;
+        measure_is = same;
       }
 
   whole : (bytes : List ℕ) (m : Option Marks) (l : Layout) (prompt : List ℕ) (given : Bool) (text : List ℕ) (at : ℕ) (info : Option (List ℕ)) → Low s (sight_with m given prompt text at info)
@@ -414,25 +408,25 @@ module _ (s : Screen) (low : 2 ≤ s.columns) (high : s.columns ≤ 1000) (own :
       (λ before over top good. (let h = fresh_holds s low high before over top (fresh s.mode) good in drawn_holds s low high before over top (Some m) (fresh s.mode) no_sight prompt given text at info h.good h.cursor rows))
 
   -- what follows it
-  kept_on : (bytes : List ℕ) (l : Layout) (x : Sight) (more : List ℕ) (l' : Layout) (x' : Sight) → l'.tab_stops ≡ l.tab_stops → Anew bytes l x → calm more ≡ true
+  kept_on : (bytes : List ℕ) (l : Layout) (x : Sight) (more : List ℕ) (l' : Layout) (x' : Sight) → measured_by l' ≡ measured_by l → Anew bytes l x → calm more ≡ true
       → ((before : List ℕ) (over : List Placed) (top : ℕ) → DisplayHolds s before over top l x → DisplayHolds s (before ++ more) over top l' x') → Anew (bytes ++ more) l' x'
-  kept_on bytes l x more l' x' stops a quiet on = record {
+  kept_on bytes l x more l' x' same a quiet on = record {
     earlier = a.earlier;
     later = a.later ++ more;
     bytes_are = ap (λ z. z ++ more) a.bytes_are ∙ append_assoc a.earlier (drawing_start ++ a.later) more;
     calm_is = calm_both a.later more a.calm_is quiet;
     holds = λ before over top good.
         subst (λ z. DisplayHolds s z over top l' x') (append_assoc before (drawing_start ++ a.later) more) (on (before ++ (drawing_start ++ a.later)) over top (a.holds before over top good));
-    tabs_are = stops ∙ a.tabs_are;
+    measure_is = same ∙ a.measure_is;
   }
 
   calm_moved : (l : Layout) (to : Position) (b : Bool) → calm (flat_map (bytes_of s) (if b then nothing_asked l else move_call l to).calls) ≡ true
   calm_moved l to true = refl
   calm_moved l to false = calm_both (move_bytes l.cursor to) [] (calm_move l.cursor to) refl
 
-  moved_tabs : (l : Layout) (to : Position) (b : Bool) → (if b then nothing_asked l else move_call l to).layout.tab_stops ≡ l.tab_stops
-  moved_tabs l to true = refl
-  moved_tabs l to false = refl
+  moved_measure : (l : Layout) (to : Position) (b : Bool) → measured_by (if b then nothing_asked l else move_call l to).layout ≡ measured_by l
+  moved_measure l to true = refl
+  moved_measure l to false = refl
 
   calm_bell : (b : BellStyle) → calm (bell_bytes b ++ []) ≡ true
   calm_bell Bell.Audible = refl
@@ -440,8 +434,7 @@ module _ (s : Screen) (low : 2 ≤ s.columns) (high : s.columns ≤ 1000) (own :
 
   calm_typed : (l : Layout) (c : ℕ) → is_printable c ≡ true → calm (flat_map (bytes_of s) (char_call l c).calls) ≡ true
   calm_typed l c h =
-      let small : c < 128 = (let k = ltb-true c 0x7F (and_parts (nat_le 0x20 c) (nat_lt c 0x7F) h).1 in omega arith) in
-      subst (λ xs. calm (xs ++ []) ≡ true) (sym (encode_ascii c small)) (calm_byte c [] (letter_plain c h) refl)
+      subst (λ xs. calm (xs ++ []) ≡ true) (sym (encode_ascii c (small c h))) (calm_letter c h)
 
   calm_appended : (l : Layout) (c : ℕ) → calm (flat_map (bytes_of s) (append_call (ruler_of s) l c).calls) ≡ true
   calm_appended l c =
@@ -456,8 +449,7 @@ module _ (s : Screen) (low : 2 ≤ s.columns) (high : s.columns ≤ 1000) (own :
 
   calm_put_in : (l : Layout) (c : ℕ) (rest : List ℕ) → is_printable c ≡ true → list_all is_printable rest ≡ true → calm (flat_map (bytes_of s) (put_in_short (ruler_of s) l c rest).calls) ≡ true
   calm_put_in l c rest h k =
-      let small : c < 128 = (let k = ltb-true c 0x7F (and_parts (nat_le 0x20 c) (nat_lt c 0x7F) h).1 in omega arith) in
-      let letter : calm (encode_utf8 c) ≡ true = subst (λ xs. calm xs ≡ true) (sym (encode_ascii c small)) (calm_letter c h) in
+      let letter : calm (encode_utf8 c) ≡ true = subst (λ xs. calm xs ≡ true) (sym (encode_ascii c (small c h))) (calm_letter c h) in
       let new = cell_on s.columns l.cursor in
       let from = place_after_insertion l.cursor new (cell_on s.columns l.end) in
       let put = insertion_bytes s.columns l.cursor.col (encode_utf8 c) rest in
@@ -479,17 +471,21 @@ module _ (s : Screen) (low : 2 ≤ s.columns) (high : s.columns ≤ 1000) (own :
   calm_rest l m from text at info =
       let rest = drop from text in
       let behind = info_text info in
-      let spans = info_styles m behind in
+      let styles = line_styles m text at behind in
+      let are = styles_are (drawn_spans m true [] text at behind) in
+      let left = skip from styles.line in
       let cell = (ruler_of s).measure (take from text) l.prompt_size in
       let new = layout_of (ruler_of s) l.prompt_size true text at info in
-      let items = text_items wide rest in
+      let items = painted_text wide left rest in
       let col = (in_row s.columns cell).col in
-      let end = col_after s.columns items col in
+      let end = col_after s.columns (all_unpainted items) col in
       let fits = items_fit s.mode s.tab s.columns some in
-      let painted = bytes_of_all_painted s.columns (painted_text wide spans behind) end in
-      let calm_painted_behind = calm_painted s.columns wide.cluster (painted_text wide spans behind) end (text_painted s.columns wide spans behind (styles_are (drawn_spans m true [] [] 0 behind)).info (fits behind)) in
-      let drawn = bytes_of_items s.columns items col ++ in_fence behind painted in
-      let calm_drawn = calm_both (bytes_of_items s.columns items col) (in_fence behind painted) (calm_sent s.columns wide.cluster items col (fits rest)) (calm_in_fence behind painted calm_painted_behind) in
+      let shown = bytes_of_all_painted s.columns items col in
+      let painted = bytes_of_all_painted s.columns (painted_text wide styles.info behind) end in
+      let calm_shown = calm_painted s.columns wide.cluster items col (text_painted s.columns wide left rest (skip_styles from styles.line are.line) (fits rest)) in
+      let calm_behind = calm_painted s.columns wide.cluster (painted_text wide styles.info behind) end (text_painted s.columns wide styles.info behind are.info (fits behind)) in
+      let drawn = shown ++ in_fence behind painted in
+      let calm_drawn = calm_both shown (in_fence behind painted) calm_shown (calm_in_fence behind painted calm_behind) in
       let first = move_bytes l.cursor cell ++ (erase_to_end ++ drawn) in
       let calm_first = calm_both (move_bytes l.cursor cell) (erase_to_end ++ drawn) (calm_move l.cursor cell) (calm_both erase_to_end drawn refl calm_drawn) in
       let back = move_bytes new.end new.cursor in
@@ -498,140 +494,92 @@ module _ (s : Screen) (low : 2 ≤ s.columns) (high : s.columns ≤ 1000) (own :
   abbrev After : List ℕ → Layout → EditStep → Sight → Type 0
   After bytes l r x = Anew (bytes ++ flat_map (bytes_of s) (one (ruler_of s) l r).calls) (one (ruler_of s) l r).layout (sight x r)
 
-  typed_by : (v : Value) (bytes : List ℕ) (m : Option Marks) (l : Layout) (x : Sight) (prompt : List ℕ) (c : ℕ) (text : List ℕ) (at : ℕ) (b : Bool) → may_type (ruler_of s) l ≡ b
-      → (let r = Draws v m (Typed prompt c text at) in Anew bytes l x → Fits own x r → LowStep s x r → After bytes l r x)
-  typed_by v bytes m l x prompt c text at true e a fits rows =
-      let r = Draws v m (Typed prompt c text at) in
-      let printable = (and_parts (is_printable c) (at_simple_end true x.line x.place) (let t : TypedFits x prompt c text at = fits.3 in t.typed)).0 in
-      kept_on bytes l x (flat_map (bytes_of s) (one (ruler_of s) l r).calls) (one (ruler_of s) l r).layout (sight x r)
-      (subst (λ t. (if t then char_call l c else full (ruler_of s) (shown_marks v m) l prompt true text at None).layout.tab_stops ≡ l.tab_stops) (sym e) refl) a
-      (subst (λ t. calm (flat_map (bytes_of s) (if t then char_call l c else full (ruler_of s) (shown_marks v m) l prompt true text at None).calls) ≡ true) (sym e) (calm_typed l c printable))
-      (λ before over top h. step s low high own before over top l x r h fits rows)
-  typed_by v bytes m l x prompt c text at false e a fits rows =
-      subst (λ t. (let q = if t then char_call l c else full (ruler_of s) (shown_marks v m) l prompt true text at None in Anew (bytes ++ flat_map (bytes_of s) q.calls) q.layout (sight_as (shown_marks v m) prompt text at None))) (sym e) (whole bytes (shown_marks v m) l prompt true text at None rows)
+  -- a step whose bytes begin no drawing
+  kept_on_step : (r : EditStep) (bytes : List ℕ) (l : Layout) (x : Sight) → (let q = one (ruler_of s) l r in measured_by q.layout ≡ measured_by l → calm (flat_map (bytes_of s) q.calls) ≡ true
+      → Anew bytes l x → Fits own x r → LowStep s x r → NotCleared r → After bytes l r x)
+  kept_on_step r bytes l x same quiet a fits rows none =
+      let q = one (ruler_of s) l r in
+      let more = flat_map (bytes_of s) q.calls in
+      let y = sight x r in
+      kept_on bytes l x more q.layout y same a quiet (λ before over top h.
+      (let stay = rows_stay r none over top in
+      subst (λ t. DisplayHolds s (before ++ more) over t q.layout y) stay.1
+      (subst (λ ps. DisplayHolds s (before ++ more) ps (top_by r top) q.layout y) stay.0 (step s low high own before over top l x r h fits rows))))
 
-  appended_by : (v : Value) (bytes : List ℕ) (m : Option Marks) (l : Layout) (x : Sight) (prompt : List ℕ) (c : ℕ) (text : List ℕ) (at : ℕ) (b : Bool) → l.has_info ≡ b
-      → (let r = Draws v m (Appended prompt c text at) in Anew bytes l x → Fits own x r → LowStep s x r → After bytes l r x)
-  appended_by v bytes m l x prompt c text at false e a fits rows =
-      let r = Draws v m (Appended prompt c text at) in
-      kept_on bytes l x (flat_map (bytes_of s) (one (ruler_of s) l r).calls) (one (ruler_of s) l r).layout (sight x r)
-      (subst (λ t. (if t then full (ruler_of s) (shown_marks v m) l prompt true text at None else append_call (ruler_of s) l c).layout.tab_stops ≡ l.tab_stops) (sym e) refl) a
-      (subst (λ t. calm (flat_map (bytes_of s) (if t then full (ruler_of s) (shown_marks v m) l prompt true text at None else append_call (ruler_of s) l c).calls) ≡ true) (sym e) (calm_appended l c))
-      (λ before over top h. step s low high own before over top l x r h fits rows)
-  appended_by v bytes m l x prompt c text at true e a fits rows =
-      subst (λ t. (let q = if t then full (ruler_of s) (shown_marks v m) l prompt true text at None else append_call (ruler_of s) l c in Anew (bytes ++ flat_map (bytes_of s) q.calls) q.layout (sight_as (shown_marks v m) prompt text at None))) (sym e) (whole bytes (shown_marks v m) l prompt true text at None rows)
+  moved : (bytes : List ℕ) (l : Layout) (x : Sight) (r : EditStep) (to : Position) (b : Bool) → one (ruler_of s) l r ≡ (if b then nothing_asked l else move_call l to)
+      → Anew bytes l x → Fits own x r → LowStep s x r → NotCleared r → After bytes l r x
+  moved bytes l x r to b is a fits rows none =
+      kept_on_step r bytes l x (ap (λ q. measured_by q.layout) is ∙ moved_measure l to b) (ap (λ q. calm (flat_map (bytes_of s) q.calls)) is ∙ calm_moved l to b) a fits rows none
 
-  taken_by : (v : Value) (bytes : List ℕ) (m : Option Marks) (l : Layout) (x : Sight) (prompt : List ℕ) (count : ℕ) (text : List ℕ) (at : ℕ) (b : Bool) → may_take l count ≡ b
-      → (let r = Draws v m (Taken prompt count text at) in Anew bytes l x → Fits own x r → LowStep s x r → After bytes l r x)
-  taken_by v bytes m l x prompt count text at true e a fits rows =
-      let r = Draws v m (Taken prompt count text at) in
-      kept_on bytes l x (flat_map (bytes_of s) (one (ruler_of s) l r).calls) (one (ruler_of s) l r).layout (sight x r)
-      (subst (λ t. (if t then erase_call l count else full (ruler_of s) (shown_marks v m) l prompt true text at None).layout.tab_stops ≡ l.tab_stops) (sym e) refl) a
-      (subst (λ t. calm (flat_map (bytes_of s) (if t then erase_call l count else full (ruler_of s) (shown_marks v m) l prompt true text at None).calls) ≡ true) (sym e) (calm_taken l count))
-      (λ before over top h. step s low high own before over top l x r h fits rows)
-  taken_by v bytes m l x prompt count text at false e a fits rows =
-      subst (λ t. (let q = if t then erase_call l count else full (ruler_of s) (shown_marks v m) l prompt true text at None in Anew (bytes ++ flat_map (bytes_of s) q.calls) q.layout (sight_as (shown_marks v m) prompt text at None))) (sym e) (whole bytes (shown_marks v m) l prompt true text at None rows)
+  abbrev by_whole : Value → Option Marks → Layout → List ℕ → List ℕ → ℕ → RedrawCalls
+  by_whole v m l prompt text at = full (ruler_of s) (shown_marks v m) l prompt true text at None
 
-  erased_by : (v : Value) (bytes : List ℕ) (m : Option Marks) (l : Layout) (x : Sight) (prompt : List ℕ) (c : ℕ) (text : List ℕ) (at : ℕ) (b : Bool) → may_erase (ruler_of s) l c ≡ b
-      → (let r = Draws v m (Erased prompt c text at) in Anew bytes l x → Fits own x r → LowStep s x r → After bytes l r x)
-  erased_by v bytes m l x prompt c text at true e a fits rows =
-      let r = Draws v m (Erased prompt c text at) in
-      let count = ((ruler_of s).measure (encode_utf8 c) origin).col in
-      kept_on bytes l x (flat_map (bytes_of s) (one (ruler_of s) l r).calls) (one (ruler_of s) l r).layout (sight x r)
-      (subst (λ t. (if t then erase_call l count else full (ruler_of s) (shown_marks v m) l prompt true text at None).layout.tab_stops ≡ l.tab_stops) (sym e) refl) a
-      (subst (λ t. calm (flat_map (bytes_of s) (if t then erase_call l count else full (ruler_of s) (shown_marks v m) l prompt true text at None).calls) ≡ true) (sym e) (calm_taken l count))
-      (λ before over top h. step s low high own before over top l x r h fits rows)
-  erased_by v bytes m l x prompt c text at false e a fits rows =
-      let count = ((ruler_of s).measure (encode_utf8 c) origin).col in
-      subst (λ t. (let q = if t then erase_call l count else full (ruler_of s) (shown_marks v m) l prompt true text at None in Anew (bytes ++ flat_map (bytes_of s) q.calls) q.layout (sight_as (shown_marks v m) prompt text at None))) (sym e) (whole bytes (shown_marks v m) l prompt true text at None rows)
+  -- a step of one call, or drawn whole
+  short_or : (r : EditStep) (bytes : List ℕ) (l : Layout) (x : Sight) (short drawn : RedrawCalls) (b : Bool) → one (ruler_of s) l r ≡ (if b then short else drawn)
+      → measured_by short.layout ≡ measured_by l → (b ≡ true → calm (flat_map (bytes_of s) short.calls) ≡ true) → Anew (bytes ++ flat_map (bytes_of s) drawn.calls) drawn.layout (sight x r)
+      → Anew bytes l x → Fits own x r → LowStep s x r → NotCleared r → After bytes l r x
+  short_or r bytes l x short drawn true is same quiet w a fits rows none =
+      kept_on_step r bytes l x (ap (λ q. measured_by q.layout) is ∙ same) (ap (λ q. calm (flat_map (bytes_of s) q.calls)) is ∙ quiet refl) a fits rows none
+  short_or r bytes l x short drawn false is same quiet w a fits rows none = subst (λ (q : RedrawCalls). Anew (bytes ++ flat_map (bytes_of s) q.calls) q.layout (sight x r)) (sym is) w
 
-  put_in_by : (v : Value) (bytes : List ℕ) (m : Option Marks) (l : Layout) (x : Sight) (prompt : List ℕ) (c : ℕ) (text : List ℕ) (at : ℕ) (b : Bool) → may_put_in (ruler_of s) l (drop at text) ≡ b
-      → (let r = Draws v m (PutIn prompt c text at) in Anew bytes l x → Fits own x r → LowStep s x r → After bytes l r x)
-  put_in_by v bytes m l x prompt c text at true e a fits rows =
-      let r = Draws v m (PutIn prompt c text at) in
-      let printable : is_printable c ≡ true = (let t : PutInFits x prompt c text at = fits.3 in t.printable) in
-      kept_on bytes l x (flat_map (bytes_of s) (one (ruler_of s) l r).calls) (one (ruler_of s) l r).layout (sight x r)
-      (subst (λ t. (if t then put_in_short (ruler_of s) l c (drop at text) else full (ruler_of s) (shown_marks v m) l prompt true text at None).layout.tab_stops ≡ l.tab_stops) (sym e) refl) a
-      (subst (λ t. calm (flat_map (bytes_of s) (if t then put_in_short (ruler_of s) l c (drop at text) else full (ruler_of s) (shown_marks v m) l prompt true text at None).calls) ≡ true) (sym e) (calm_put_in l c (drop at text) printable (pushed_printable (ruler_of s) l (drop at text) e)))
-      (λ before over top h. step s low high own before over top l x r h fits rows)
-  put_in_by v bytes m l x prompt c text at false e a fits rows =
-      subst (λ t. (let q = if t then put_in_short (ruler_of s) l c (drop at text) else full (ruler_of s) (shown_marks v m) l prompt true text at None in Anew (bytes ++ flat_map (bytes_of s) q.calls) q.layout (sight_as (shown_marks v m) prompt text at None))) (sym e) (whole bytes (shown_marks v m) l prompt true text at None rows)
-
-  taken_out_by : (v : Value) (bytes : List ℕ) (m : Option Marks) (l : Layout) (x : Sight) (prompt : List ℕ) (count : ℕ) (text : List ℕ) (at : ℕ) (b : Bool)
-      → (let cell = (ruler_of s).measure (take at text) l.prompt_size in let r = Draws v m (TakenOut prompt count text at) in may_take_out (ruler_of s) l cell count (drop at text) ≡ b → Anew bytes l x → Fits own x r → LowStep s x r → After bytes l r x)
-  taken_out_by v bytes m l x prompt count text at true e a fits rows =
-      let r = Draws v m (TakenOut prompt count text at) in
-      let cell = (ruler_of s).measure (take at text) l.prompt_size in
-      kept_on bytes l x (flat_map (bytes_of s) (one (ruler_of s) l r).calls) (one (ruler_of s) l r).layout (sight x r)
-      (subst (λ t. (if t then taken_out_short l cell count (drop at text) else full (ruler_of s) (shown_marks v m) l prompt true text at None).layout.tab_stops ≡ l.tab_stops) (sym e) refl) a
-      (subst (λ t. calm (flat_map (bytes_of s) (if t then taken_out_short l cell count (drop at text) else full (ruler_of s) (shown_marks v m) l prompt true text at None).calls) ≡ true) (sym e) (calm_taken_out l cell count (drop at text) (pulled_printable (ruler_of s) l cell count (drop at text) e)))
-      (λ before over top h. step s low high own before over top l x r h fits rows)
-  taken_out_by v bytes m l x prompt count text at false e a fits rows =
-      let cell = (ruler_of s).measure (take at text) l.prompt_size in
-      subst (λ t. (let q = if t then taken_out_short l cell count (drop at text) else full (ruler_of s) (shown_marks v m) l prompt true text at None in Anew (bytes ++ flat_map (bytes_of s) q.calls) q.layout (sight_as (shown_marks v m) prompt text at None))) (sym e) (whole bytes (shown_marks v m) l prompt true text at None rows)
-
-  rewritten_by : (v : Value) (bytes : List ℕ) (m : Option Marks) (l : Layout) (x : Sight) (prompt : List ℕ) (from upto : ℕ) (text : List ℕ) (at : ℕ) (b : Bool)
-      → (let cell = (ruler_of s).measure (take from text) l.prompt_size in let letters = slice_range text from upto in let r = Draws v m (Rewritten prompt from upto text at) in
-      may_write_over (ruler_of s) l cell (length letters) ≡ b → Anew bytes l x → Fits own x r → LowStep s x r → After bytes l r x)
-  rewritten_by v bytes m l x prompt from upto text at true e a fits rows =
-      let r = Draws v m (Rewritten prompt from upto text at) in
-      let cell = (ruler_of s).measure (take from text) l.prompt_size in
-      let letters = slice_range text from upto in
-      let cursor = (ruler_of s).measure (take at text) l.prompt_size in
-      let printable : list_all is_printable letters ≡ true = (let t : RewrittenFits x prompt from upto text at = fits.2 in ap (list_all is_printable) (rewritten_letters s low high x prompt from upto text at t) ∙ t.printable) in
-      kept_on bytes l x (flat_map (bytes_of s) (one (ruler_of s) l r).calls) (one (ruler_of s) l r).layout (sight x r)
-      (subst (λ t. (if t then write_over_call l letters cell cursor else full (ruler_of s) (shown_marks v m) l prompt true text at None).layout.tab_stops ≡ l.tab_stops) (sym e) refl) a
-      (subst (λ t. calm (flat_map (bytes_of s) (if t then write_over_call l letters cell cursor else full (ruler_of s) (shown_marks v m) l prompt true text at None).calls) ≡ true) (sym e)
-      (calm_both (writing_bytes letters l.cursor cell cursor) [] (calm_written letters l.cursor cell cursor printable) refl))
-      (λ before over top h. step s low high own before over top l x r h fits rows)
-  rewritten_by v bytes m l x prompt from upto text at false e a fits rows =
-      let cell = (ruler_of s).measure (take from text) l.prompt_size in
-      let letters = slice_range text from upto in
-      let cursor = (ruler_of s).measure (take at text) l.prompt_size in
-      subst (λ t. (let q = if t then write_over_call l letters cell cursor else full (ruler_of s) (shown_marks v m) l prompt true text at None in Anew (bytes ++ flat_map (bytes_of s) q.calls) q.layout (sight_as (shown_marks v m) prompt text at None))) (sym e) (whole bytes (shown_marks v m) l prompt true text at None rows)
-
-  bared_by : (v : Value) (bytes : List ℕ) (m : Option Marks) (l : Layout) (x : Sight) (prompt text : List ℕ) (at : ℕ) (b : Bool) → l.default_prompt ≡ b
-      → (let r = Draws v m (Bared prompt text at) in Anew bytes l x → Fits own x r → LowStep s x r → After bytes l r x)
-  bared_by v bytes m l x prompt text at true e a fits rows =
-      let r = Draws v m (Bared prompt text at) in
-      kept_on bytes l x (flat_map (bytes_of s) (one (ruler_of s) l r).calls) (one (ruler_of s) l r).layout (sight x r)
-      (subst (λ t. (if t then nothing_asked l else full (ruler_of s) (shown_marks v m) l prompt true text at None).layout.tab_stops ≡ l.tab_stops) (sym e) refl) a
-      (subst (λ t. calm (flat_map (bytes_of s) (if t then nothing_asked l else full (ruler_of s) (shown_marks v m) l prompt true text at None).calls) ≡ true) (sym e) refl)
-      (λ before over top h. step s low high own before over top l x r h fits rows)
-  bared_by v bytes m l x prompt text at false e a fits rows =
-      let h : DisplayHolds s ([] ++ (drawing_start ++ a.later)) [] 0 l x = a.holds [] [] 0 (start_is_empty s low high) in
-      absurd (true≢false (sym (sym e ∙ h.given_is ∙ fits)))
+  -- or drawn from a place on
+  short_or_rest : (r : EditStep) (bytes : List ℕ) (l : Layout) (x : Sight) (short : RedrawCalls) (m : Option Marks) (from : ℕ) (text : List ℕ) (at : ℕ) (b : Bool)
+      → one (ruler_of s) l r ≡ (if b then short else rest_call (ruler_of s) m l from text at None) → measured_by short.layout ≡ measured_by l → (b ≡ true → calm (flat_map (bytes_of s) short.calls) ≡ true)
+      → Anew bytes l x → Fits own x r → LowStep s x r → NotCleared r → After bytes l r x
+  short_or_rest r bytes l x short m from text at true is same quiet a fits rows none =
+      kept_on_step r bytes l x (ap (λ q. measured_by q.layout) is ∙ same) (ap (λ q. calm (flat_map (bytes_of s) q.calls)) is ∙ quiet refl) a fits rows none
+  short_or_rest r bytes l x short m from text at false is same quiet a fits rows none =
+      kept_on_step r bytes l x (ap (λ q. measured_by q.layout) is ∙ sym a.measure_is) (ap (λ q. calm (flat_map (bytes_of s) q.calls)) is ∙ calm_rest l m from text at None) a fits rows none
 
   -- a step with no clearing of the screen
   step_anew : (r : EditStep) (bytes : List ℕ) (l : Layout) (x : Sight) → Anew bytes l x → Fits own x r → LowStep s x r → NotCleared r → After bytes l r x
   step_anew (Draws v m (Drawn prompt given text at info)) bytes l x a fits rows none = whole bytes (shown_marks v m) l prompt given text at info rows
   step_anew (Draws v m (Moved text at)) bytes l x a fits rows none =
-      let r = Draws v m (Moved text at) in
-      let to = (ruler_of s).measure (take at text) l.prompt_size in
-      kept_on bytes l x (flat_map (bytes_of s) (one (ruler_of s) l r).calls) (one (ruler_of s) l r).layout (sight x r) (moved_tabs l to (same_cell l.cursor to)) a (calm_moved l to (same_cell l.cursor to)) (λ before over top h. step s low high own before over top l x r h fits rows)
-  step_anew (Draws v m (Typed prompt c text at)) bytes l x a fits rows none = typed_by v bytes m l x prompt c text at (may_type (ruler_of s) l) refl a fits rows
-  step_anew (Draws v m (Appended prompt c text at)) bytes l x a fits rows none = appended_by v bytes m l x prompt c text at l.has_info refl a fits rows
-  step_anew (Draws v m (Taken prompt count text at)) bytes l x a fits rows none = taken_by v bytes m l x prompt count text at (may_take l count) refl a fits rows
-  step_anew (Draws v m (Erased prompt c text at)) bytes l x a fits rows none = erased_by v bytes m l x prompt c text at (may_erase (ruler_of s) l c) refl a fits rows
-  step_anew (Draws v m (PutIn prompt c text at)) bytes l x a fits rows none = put_in_by v bytes m l x prompt c text at (may_put_in (ruler_of s) l (drop at text)) refl a fits rows
+      let to = (ruler_of s).measure (take at text) l.prompt_size in moved bytes l x (Draws v m (Moved text at)) to (same_cell l.cursor to) refl a fits rows none
+  step_anew (Draws v m (Typed prompt c text at)) bytes l x a fits rows none =
+      let typed = (let t : TypedFits x prompt c text at = fits.3 in t.typed) in
+      short_or (Draws v m (Typed prompt c text at)) bytes l x (char_call l c) (by_whole v m l prompt text at) (may_type (ruler_of s) l) refl refl
+      (λ is. calm_typed l c (and_parts (is_printable c) (at_simple_end true x.line x.place) typed).0) (whole bytes (shown_marks v m) l prompt true text at None rows) a fits rows none
+  step_anew (Draws v m (Appended prompt c text at)) bytes l x a fits rows none =
+      let drawn = by_whole v m l prompt text at in
+      short_or (Draws v m (Appended prompt c text at)) bytes l x (append_call (ruler_of s) l c) drawn (not l.has_info) (if_none l.has_info drawn (append_call (ruler_of s) l c)) refl
+      (λ is. calm_appended l c) (whole bytes (shown_marks v m) l prompt true text at None rows) a fits rows none
+  step_anew (Draws v m (Taken prompt count true text at)) bytes l x a fits rows none =
+      short_or_rest (Draws v m (Taken prompt count true text at)) bytes l x (erase_call l count) (shown_marks v m) at text at (may_take l count) refl refl (λ is. calm_taken l count) a fits rows none
+  step_anew (Draws v m (Taken prompt count false text at)) bytes l x a fits rows none =
+      short_or (Draws v m (Taken prompt count false text at)) bytes l x (erase_call l count) (by_whole v m l prompt text at) (may_take l count) refl refl
+      (λ is. calm_taken l count) (whole bytes (shown_marks v m) l prompt true text at None rows) a fits rows none
+  step_anew (Draws v m (Erased prompt c text at)) bytes l x a fits rows none =
+      let count = ((ruler_of s).measure (encode_utf8 c) origin).col in
+      short_or_rest (Draws v m (Erased prompt c text at)) bytes l x (erase_call l count) (shown_marks v m) at text at (may_erase (ruler_of s) l c) refl refl (λ is. calm_taken l count) a fits rows none
+  step_anew (Draws v m (PutIn prompt c text at)) bytes l x a fits rows none =
+      let rest = drop at text in
+      let printable : is_printable c ≡ true = (let t : PutInFits x prompt c text at = fits.3 in t.printable) in
+      short_or (Draws v m (PutIn prompt c text at)) bytes l x (put_in_short (ruler_of s) l c rest) (by_whole v m l prompt text at) (may_put_in (ruler_of s) l rest) refl refl
+      (λ is. calm_put_in l c rest printable (pushed_printable (ruler_of s) l rest is)) (whole bytes (shown_marks v m) l prompt true text at None rows) a fits rows none
   step_anew (Draws v m (TakenOut prompt count text at)) bytes l x a fits rows none =
-      taken_out_by v bytes m l x prompt count text at (may_take_out (ruler_of s) l ((ruler_of s).measure (take at text) l.prompt_size) count (drop at text)) refl a fits rows
+      let rest = drop at text in
+      let cell = (ruler_of s).measure (take at text) l.prompt_size in
+      short_or_rest (Draws v m (TakenOut prompt count text at)) bytes l x (taken_out_short l cell count rest) (shown_marks v m) at text at (may_take_out (ruler_of s) l cell count rest) refl refl
+      (λ is. calm_taken_out l cell count rest (pulled_printable (ruler_of s) l cell count rest is)) a fits rows none
   step_anew (Draws v m (DrawnFrom prompt from text at info)) bytes l x a fits rows none =
-      let r = Draws v m (DrawnFrom prompt from text at info) in
-      kept_on bytes l x (flat_map (bytes_of s) (one (ruler_of s) l r).calls) (one (ruler_of s) l r).layout (sight x r) (sym a.tabs_are) a (calm_rest l (shown_marks v m) from text at info) (λ before over top h. step s low high own before over top l x r h fits rows)
+      kept_on_step (Draws v m (DrawnFrom prompt from text at info)) bytes l x (sym a.measure_is) (calm_rest l (shown_marks v m) from text at info) a fits rows none
   step_anew (Draws v m (Rewritten prompt from upto text at)) bytes l x a fits rows none =
-      rewritten_by v bytes m l x prompt from upto text at (may_write_over (ruler_of s) l ((ruler_of s).measure (take from text) l.prompt_size) (length (slice_range text from upto))) refl a fits rows
-  step_anew (Draws v m (Bared prompt text at)) bytes l x a fits rows none = bared_by v bytes m l x prompt text at l.default_prompt refl a fits rows
-  step_anew (Draws v m ToEnd) bytes l x a fits rows none =
-      let r = Draws v m ToEnd in
-      kept_on bytes l x (flat_map (bytes_of s) (one (ruler_of s) l r).calls) (one (ruler_of s) l r).layout (sight x r) (moved_tabs l l.end (same_cell l.cursor l.end)) a (calm_moved l l.end (same_cell l.cursor l.end)) (λ before over top h. step s low high own before over top l x r h fits rows)
-  step_anew (Draws v m Beeped) bytes l x a fits rows none =
-      kept_on bytes l x (bell_bytes s.bell ++ []) l x refl a (calm_bell s.bell) (λ before over top h. step s low high own before over top l x (Draws v m Beeped) h fits rows)
+      let cell = (ruler_of s).measure (take from text) l.prompt_size in
+      let cursor = (ruler_of s).measure (take at text) l.prompt_size in
+      let letters = slice_range text from upto in
+      let t : RewrittenFits x prompt from upto text at = fits.2 in
+      let printable = ap (list_all is_printable) (rewritten_letters s low high x prompt from upto text at t) ∙ t.printable in
+      short_or_rest (Draws v m (Rewritten prompt from upto text at)) bytes l x (write_over_call l letters cell cursor) (shown_marks v m) from text at (may_write_over (ruler_of s) l cell (length letters)) refl refl
+      (λ is. calm_both (writing_bytes letters l.cursor cell cursor) [] (calm_written letters l.cursor cell cursor printable) refl) a fits rows none
+  step_anew (Draws v m (Bared prompt text at)) bytes l x a fits rows none =
+      let h : DisplayHolds s ([] ++ (drawing_start ++ a.later)) [] 0 l x = a.holds [] [] 0 (start_is_empty s low high) in
+      let is = ap (λ b. if b then nothing_asked l else by_whole v m l prompt text at) (h.given_is ∙ fits) in
+      kept_on_step (Draws v m (Bared prompt text at)) bytes l x (ap (λ q. measured_by q.layout) is) (ap (λ q. calm (flat_map (bytes_of s) q.calls)) is) a fits rows none
+  step_anew (Draws v m ToEnd) bytes l x a fits rows none = moved bytes l x (Draws v m ToEnd) l.end (same_cell l.cursor l.end) refl a fits rows none
+  step_anew (Draws v m Beeped) bytes l x a fits rows none = kept_on_step (Draws v m Beeped) bytes l x refl (calm_bell s.bell) a fits rows none
   step_anew (Draws v m Cleared) bytes l x a fits rows none = absurd none
-  step_anew (Helped v fails takes) bytes l x a fits rows none = kept_on bytes l x [] l x refl a refl (λ before over top h. step s low high own before over top l x (Helped v fails takes) h fits rows)
-  step_anew (Edits v edit) bytes l x a fits rows none = kept_on bytes l x [] l x refl a refl (λ before over top h. step s low high own before over top l x (Edits v edit) h fits rows)
-  step_anew (TakesBack v count) bytes l x a fits rows none = kept_on bytes l x [] l x refl a refl (λ before over top h. step s low high own before over top l x (TakesBack v count) h fits rows)
-  step_anew (Takes v) bytes l x a fits rows none = kept_on bytes l x [] l x refl a refl (λ before over top h. step s low high own before over top l x (Takes v) h fits rows)
+  step_anew r bytes l x a fits rows none = kept_on_step r bytes l x refl refl a fits rows none
 
   -- they show it so, or nothing is shown
   abbrev pub Either : List ℕ → Layout → Sight → Type 0
@@ -646,22 +594,12 @@ module _ (s : Screen) (low : 2 ≤ s.columns) (high : s.columns ≤ 1000) (own :
   step_bare : (r : EditStep) (bytes : List ℕ) (l : Layout) (x : Sight) → Bare x → Fits own x r → LowStep s x r → EitherAfter bytes l r x
   step_bare (Draws v m (Drawn prompt given text at info)) bytes l x b fits rows = inl (whole bytes (shown_marks v m) l prompt given text at info rows)
   step_bare (Draws v m (Moved text at)) bytes l x b fits rows = inr (record { given = b.given; prompt = b.prompt })
-  step_bare (Draws v m (Typed prompt c text at)) bytes l x b fits rows = absurd (not_given x b fits.0)
-  step_bare (Draws v m (Appended prompt c text at)) bytes l x b fits rows = absurd (not_given x b fits.0)
-  step_bare (Draws v m (Taken prompt count text at)) bytes l x b fits rows = absurd (not_given x b fits.0)
-  step_bare (Draws v m (Erased prompt c text at)) bytes l x b fits rows = absurd (not_given x b fits.0)
-  step_bare (Draws v m (PutIn prompt c text at)) bytes l x b fits rows = absurd (not_given x b fits.0)
-  step_bare (Draws v m (TakenOut prompt count text at)) bytes l x b fits rows = absurd (not_given x b fits.0)
-  step_bare (Draws v m (DrawnFrom prompt from text at info)) bytes l x b fits rows = absurd (not_given x b fits.0)
-  step_bare (Draws v m (Rewritten prompt from upto text at)) bytes l x b fits rows = absurd (not_given x b fits.0)
   step_bare (Draws v m (Bared prompt text at)) bytes l x b fits rows = absurd (not_given x b fits)
   step_bare (Draws v m ToEnd) bytes l x b fits rows = inr (record { given = b.given; prompt = b.prompt })
-  step_bare (Draws v m Beeped) bytes l x b fits rows = inr b
   step_bare (Draws v m Cleared) bytes l x b fits rows = inr (record { given = refl; prompt = refl })
-  step_bare (Helped v fails takes) bytes l x b fits rows = inr b
-  step_bare (Edits v edit) bytes l x b fits rows = inr b
-  step_bare (TakesBack v count) bytes l x b fits rows = inr b
-  step_bare (Takes v) bytes l x b fits rows = inr b
+  step_bare (Draws v m Beeped) bytes l x b fits rows = inr b
+  step_bare (Draws v m redraw) bytes l x b fits rows = absurd (not_given x b fits.0)
+  step_bare r bytes l x b fits rows = inr b
 
   step_either : (r : EditStep) (bytes : List ℕ) (l : Layout) (x : Sight) → Either bytes l x → Fits own x r → LowStep s x r → EitherAfter bytes l r x
   step_either r bytes l x (inr b) fits rows = step_bare r bytes l x b fits rows

@@ -122,12 +122,10 @@ put_one e named asking o = by (same_event named e)
 -- the keys of a row are bound
 pub row_bound : (e : Event) (keys : List KeyEvent) (row : Option (List KeyEvent)) (asking : Asking) (old new : List (Event × Asking)) → Some keys ≡ row
     → find e new ≡ map_with (normal_event (KeySeq keys)) asking (λ o. find o old) e → is_some (find e new) ≡ (is_event e row || is_some (find e old))
-row_bound e keys row asking old new is put =
-    subst (λ (r : Option (List KeyEvent)). is_some (find e new) ≡ (is_event e r || is_some (find e old))) is
-    (ap (λ (o : Option Asking). is_some o) put ∙ put_one e (normal_event (KeySeq keys)) asking (find e old))
+row_bound e keys row asking old new is put = rw (put, sym is) (put_one e (normal_event (KeySeq keys)) asking (find e old))
 
 pub row_passed : (e : Event) (row : Option (List KeyEvent)) (bound : Bool) → None ≡ row → bound ≡ (is_event e row || bound)
-row_passed e row bound is = subst (λ (r : Option (List KeyEvent)). bound ≡ (is_event e r || bound)) is refl
+row_passed e row bound is = rw (sym is) refl
 
 or_moved : (a b c : Bool) → (a || (b || c)) ≡ ((b || a) || c)
 or_moved true true c = refl
@@ -135,17 +133,13 @@ or_moved true false c = refl
 or_moved false true c = refl
 or_moved false false c = refl
 
-or_more : (a : Bool) (P : List ℕ → Bool) (row : List ℕ) (rows rows' : List (List ℕ)) (b : Bool) → rows ≡ row ∷ rows' → b ≡ (P row || a) → (a || list_any P rows) ≡ (b || list_any P rows')
-or_more a P row rows rows' b is more =
-    ap (λ (x : List (List ℕ)). a || list_any P x) is ∙ (or_moved a (P row) (list_any P rows') ∙ ap (λ (x : Bool). x || list_any P rows') (sym more))
-
 -- a row more is bound
 pub one_row : (all a : Bool) (P : List ℕ → Bool) (row : List ℕ) (rows rows' : List (List ℕ)) (b : Bool) → all ≡ (a || list_any P rows) → rows ≡ row ∷ rows' → b ≡ (P row || a) → all ≡ (b || list_any P rows')
-one_row all a P row rows rows' b is cut more = is ∙ or_more a P row rows rows' b cut more
+one_row all a P row rows rows' b is cut more = rw (is, cut, more) (or_moved a (P row) (list_any P rows'))
 
 or_false : (a : Bool) → (a || false) ≡ a
 or_false true = refl
 or_false false = refl
 
 pub all_bound : (all a : Bool) (P : List ℕ → Bool) (rest : List ℕ) → all ≡ (a || list_any P (rows_of rest)) → rest ≡ [] → a ≡ all
-all_bound all a P rest is none = sym (is ∙ (ap (λ (x : List ℕ). a || list_any P (rows_of x)) none ∙ or_false a))
+all_bound all a P rest is none = rw (is, none) (sym (or_false a))

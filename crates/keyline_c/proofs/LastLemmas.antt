@@ -1,5 +1,5 @@
 -- What a program draws anew shows the open line.
-use Rattle.std.proofs.Common.{◌≡◌, inr, ℕ, ◌≤◌, true, false, List, [], ◌++◌, Option, Some, Result, Err, refl, sym, ap, ◌∙◌, subst, append-nil, if◌then◌else◌}
+use Rattle.std.proofs.Common.{◌≡◌, inr, ℕ, ◌≤◌, true, false, List, [], ◌++◌, Option, Some, Result, Err, refl, sym, ap, ◌∙◌, subst, append-nil}
 use Rattle.std.specs.Prelude.{string_bytes}
 use Rattle.std.specs.List.{filter, flat_map}
 use Rattle.std.proofs.lemmas.Grind.{flat_map-append}
@@ -15,13 +15,15 @@ use Rattle.line_editor.specs.LineRun.{IsOpen, first_line_state}
 use Rattle.line_editor.specs.Sights.{Sight, drawn_spans, no_sight, sight_with}
 use Rattle.line_editor.specs.Values.{Setting, Value}
 use Rattle.line_editor.proofs.LineLeads.{lines_lead}
+use Rattle.line_editor.proofs.ToldLemmas.{rest_along}
 use Rattle.line_keys.specs.Coming.{answer_map}
 use Rattle.line_keys.specs.InputStates.{new_input}
 use Rattle.line_screen.specs.ScreenCalls.{Screen}
-use Rattle.line_screen.specs.Chain.{Shows, above, cursor_of, finish_of}
+use Rattle.line_screen.specs.Chain.{Shows, above, cursor_of}
 use Rattle.line_screen.specs.Display.{Display, Placed, meaning}
 use Rattle.line_screen.specs.Laws.{widths}
 use Rattle.line_screen.proofs.LawLemmas.{shown_is_meant}
+use Rattle.keyline.proofs.EventLemmas.{asks_bytes}
 use Rattle.keyline.specs.Events.{asks_events, bytes_drawn, end_events, line_course, line_play_in}
 use Rattle.keyline.specs.SessionLaws.{steps_in}
 use Rattle.keyline.specs.Sessions.{Given, SessionState, setting_in}
@@ -32,7 +34,7 @@ use Rattle.keyline_c.specs.Statuses.{status_of_ending, is_open}
 use Rattle.keyline_c.specs.CallSteps.{open_place, open_text}
 use Rattle.keyline_c.specs.declared.line.Left.{Left}
 use Rattle.keyline_c.proofs.AnewLemmas.{Anew, anew_last}
-use Rattle.keyline_c.proofs.OpenLemmas.{At, IsOfPhrase, Seen, asks_bytes, in_phrase, line_ends, rest_by, walk}
+use Rattle.keyline_c.proofs.OpenLemmas.{At, IsOfPhrase, Seen, in_phrase, line_ends, walk}
 
 -- a line continues only if an error of a phrase cut it, which draws nothing
 pub record CutShort {X : Type 0} (o : Result X ReadlineError) : Type 0 where
@@ -72,23 +74,13 @@ module _ (n : ℕ) (g : Given) (x : SessionState) where
       ∙ append-nil (flat_map bytes_drawn asks)
       ∙ asks_bytes s a (fresh s.mode) first p.asks
 
--- the open line's text and place are those of the value
-text_of : (it : Option Line) (line : Line) → it ≡ Some line → open_text it ≡ line.text
-text_of it line is = ap open_text is
-
-place_of : (it : Option Line) (line : Line) → it ≡ Some line → open_place it ≡ line.place
-place_of it line is = ap open_place is
-
 -- the picture with the open line, drawn with these marks
 seen_is : (m : Option Marks) (x : Sight) (text : List ℕ) (place : ℕ) → x.line ≡ text → x.place ≡ place → x.spans ≡ drawn_spans m x.given x.prompt x.line x.place (info_text x.info)
     → picture x ≡ picture (sight_with m x.given x.prompt text place x.info)
-seen_is m x text place line_is place_is spans_are =
-    ap (λ p. let y : Sight = record x { spans = p } in picture y) spans_are
-    ∙ ap (λ t. picture (sight_with m x.given x.prompt t x.place x.info)) line_is
-    ∙ ap (λ t. picture (sight_with m x.given x.prompt text t x.info)) place_is
+seen_is m x text place line_is place_is spans_are = rw (spans_are, line_is, place_is) refl
 
 place_open : (s : Screen) (x : Sight) → x.ended ≡ false → place_in s x ≡ cursor_of s.columns (widths s) (picture x)
-place_open s x e = ap (λ b. if b then finish_of s.columns (widths s) (picture x) else cursor_of s.columns (widths s) (picture x)) e
+place_open s x e = rw e refl
 
 -- these bytes show it on any blank rows
 pub record ShownBy (s : Screen) (before bytes : List ℕ) (over : List Placed) (top : ℕ) (x : Sight) : Type 0 where
@@ -101,9 +93,6 @@ shown_by : (s : Screen) (before bytes : List ℕ) (over : List Placed) (top : �
 shown_by s before bytes over top l x h rests =
     let m = shown_is_meant s (before ++ bytes) over (view_in s top x) h.good in
     record { display = m.0; means = m.1; shows = m.4 (place_open s x rests); over_is = m.3 }
-
-drawn_last : (drawn bytes last : List ℕ) → drawn ≡ bytes → last_drawing bytes ≡ Some last → last_drawing drawn ≡ Some last
-drawn_last drawn bytes last is h = ap last_drawing is ∙ h
 
 -- a line that continues shows its value, also by the bytes from its last drawing on
 pub record StandsAnew (n : ℕ) (g : Given) (x : SessionState) (low : 2 ≤ g.screen.columns) (high : g.screen.columns ≤ 1000) : Type 0 where
@@ -122,7 +111,7 @@ stands_anew n g x low high cut rows =
     let ends : in_phrase false p.asks ≡ true = line_ends a n g.custom k cut.error cut.is cut.of_phrase in
     let at : At s low high a (in_phrase false p.asks) ([] ++ bytes_for s (fresh s.mode) steps) (layout_in n g x) (sight_in n g x) _ =
     walk s low high a p.answer p.asks k false [] (fresh s.mode) no_sight (record { either = inr (record { given = refl; prompt = refl }); anew = λ e. cc; seen = λ e. cc }) lead rows in
-    record { anew = at.anew ends; seen = subst (λ (j : LineState). Seen a j.value (sight_in n g x)) (rest_by s low high a (line_script n g.custom) k) (at.seen ends) }
+    record { anew = at.anew ends; seen = subst (λ (j : LineState). Seen a j.value (sight_in n g x)) (rest_along a (line_script n g.custom) k) (at.seen ends) }
 
 module _ (held : VecSink → List ℕ) where
   pub is_cut : (n : ℕ) (g : Given) (x : SessionState) (left : Left) → IsOpenAt held n g x left → CutShort (line_play_in n g x).answer
@@ -133,10 +122,10 @@ module _ (held : VecSink → List ℕ) where
 
   -- what is shown is the open line
   pub line_shown : (n : ℕ) (g : Given) (x : SessionState) (left : Left) → IsOpenAt held n g x left → Seen (setting_in g x.history.kept.entries) (line_play_in n g x).rest.value (sight_in n g x) → (sight_in n g x).line ≡ open_text left.open_line
-  line_shown n g x left w seen = seen.line ∙ sym (text_of left.open_line (line_at_end n g x) (stands_open n g x left w))
+  line_shown n g x left w seen = seen.line ∙ sym (ap open_text (stands_open n g x left w))
 
   pub place_shown : (n : ℕ) (g : Given) (x : SessionState) (left : Left) → IsOpenAt held n g x left → Seen (setting_in g x.history.kept.entries) (line_play_in n g x).rest.value (sight_in n g x) → (sight_in n g x).place ≡ open_place left.open_line
-  place_shown n g x left w seen = seen.place ∙ sym (place_of left.open_line (line_at_end n g x) (stands_open n g x left w))
+  place_shown n g x left w seen = seen.place ∙ sym (ap open_place (stands_open n g x left w))
 
   -- its last drawing, and that this shows it
   pub record LastShows (n : ℕ) (g : Given) (x : SessionState) (left : Left) (before : List ℕ) (over : List Placed) (top : ℕ) : Type 0 where
@@ -160,7 +149,7 @@ module _ (held : VecSink → List ℕ) where
       let steps = bytes_for s (fresh s.mode) (steps_in n g x) in
       record {
         bytes = bytes;
-        last = drawn_last (held left.display) steps bytes (w.reads.drawn ∙ line_bytes n g x cut) (anew_last s low high g.prompt steps l y a);
+        last = ap last_drawing (w.reads.drawn ∙ line_bytes n g x cut) ∙ anew_last s low high g.prompt steps l y a;
         shown = shown_by s before bytes over top l y (a.holds before over top rest.good) stands.seen.rests;
         seen = stands.seen;
       }

@@ -11,7 +11,7 @@ use Rattle.line_config.specs.declared.errors.ReadlineError.TheVariants.{Eof, Int
 use Rattle.line_help.specs.declared.history.search.SearchDirection.{SearchDirection}
 use Rattle.line_help.specs.declared.history.search.SearchDirection.TheVariants.{Forward, Reverse}
 use Rattle.line_keys.specs.CustomBindings.{Custom}
-use Rattle.line_keys.specs.PhraseScripts.{Answer, KeyScript, Needs, Shows, Reads, Becomes, Refuses, steps}
+use Rattle.line_keys.specs.PhraseScripts.{Answer, KeyScript, Needs, Shows, steps}
 use Rattle.line_keys.specs.Refreshing.{Ask}
 use Rattle.line_keys.specs.Refreshing.Ask.{Line, Message, Prompted, DoingInsert, DoneInserting}
 use Rattle.line_keys.specs.Replies.{Reply}
@@ -22,16 +22,14 @@ use Rattle.line_editor.specs.Asks.{ask_effect, shown_in}
 use Rattle.line_editor.specs.Commands.{Means, outcome}
 use Rattle.line_keys.specs.Modes.{is_emacs}
 use Rattle.line_editor.specs.Leads.{BeginShows, LeadsAlong}
-use Rattle.line_editor.specs.LineScripts.{Begins, Keys, Meets, Obeys, Makes, LineAsk, LineScript, LineState, answer_at, effect_at, script_of_keys, left_at, line_plan, line_script, means_at, meet_script, obey_script, played_from, steps_along, turn_script, line_script_after, turns_script}
+use Rattle.line_editor.specs.LineScripts.{Begins, Keys, Meets, Obeys, LineAsk, LineScript, LineState, answer_at, effect_at, script_of_keys, left_at, line_plan, line_script, means_at, meet_script, obey_script, played_from, steps_along, turn_script, line_script_after, turns_script}
 use Rattle.line_editor.specs.ModalCommands.{meeting, modal_seen, sight_in_mode}
 use Rattle.line_editor.specs.Modal.{Modal}
 use Rattle.line_editor.specs.NextCommand.{line_phrase}
 use Rattle.line_editor.specs.Redraws.{info_text}
 use Rattle.line_editor.specs.Searching.{heading}
 use Rattle.line_editor.specs.Sights.{Sight, drawn_spans, sight, sight_all, sight_with, FitsAll}
-use Rattle.line_editor.specs.EditSteps.{one}
 use Rattle.line_editor.specs.Values.{EditStep, Setting, Value, help_steps, hint_reply, shown_hint, shown_marks}
-use Rattle.line_editor.specs.Values.EditStep.{Draws, Helped, Edits, TakesBack, Takes}
 use Rattle.line_editor.specs.declared.commands.Status.{Status}
 use Rattle.line_editor.specs.declared.commands.Status.TheVariants.{Proceed, Submit}
 use Rattle.line_editor.specs.declared.modal_state.Standing.{Standing}
@@ -39,11 +37,9 @@ use Rattle.line_editor.specs.declared.modal_state.Standing.TheVariants.{Searches
 use Rattle.line_editor.proofs.CommandsLead.{asks_lead}
 use Rattle.line_editor.proofs.LeadLemmas.{sight_both}
 use Rattle.line_editor.proofs.StopsLemmas.{asked_both}
-use Rattle.line_editor.proofs.ToldLemmas.{PlayedOf, follows, joined_on, played_each, played_then}
+use Rattle.line_editor.proofs.ToldLemmas.{PlayedOf, follows, joined_on, left_along, played_each, played_then}
 use Rattle.line_screen.specs.ScreenCalls.{Screen, bytes_of, ruler_of}
-use Rattle.keyline.specs.Events.{asks_events, bytes_drawn, own_events, step_event, step_events}
 use Rattle.keyline.specs.Shows.{LowAll, bytes_for, calls_by_screen}
-use Rattle.keyline.proofs.ShowCourse.{all_of_map}
 use Rattle.keyline_c.proofs.AnewLemmas.{Anew, Bare, Either, NoneCleared, all_anew, all_either}
 
 -- ---- within a phrase: behind the begin of a turn come requests for keys alone
@@ -214,8 +210,8 @@ module _ (s : Screen) (low : 2 ≤ s.columns) (high : s.columns ≤ 1000) (a : S
   begun x k bytes l (inl it) is = (it, subst (Seen a k.value) (sym is) (seen_so k.modal.standing k.modal a k.value x.info))
   begun x k bytes l (inr bare) is = absurd (not_bare k.modal.standing k.modal a k.value x.info (subst Bare is bare))
 
-  outside : (b : Bool) (bytes : List ℕ) (l : Layout) (x : Sight) (k : LineState) → Either s low high a.prompt bytes l x → b ≡ false → At b bytes l x k
-  outside b bytes l x k h is = record { either = h; anew = λ e. absurd (true≢false (sym e ∙ is)); seen = λ e. absurd (true≢false (sym e ∙ is)) }
+  outside : (bytes : List ℕ) (l : Layout) (x : Sight) (k : LineState) → Either s low high a.prompt bytes l x → At false bytes l x k
+  outside bytes l x k h = record { either = h; anew = λ e. cc; seen = λ e. cc }
 
   inside : (b : Bool) (bytes : List ℕ) (l : Layout) (x : Sight) (k j : LineState) (rs : List EditStep) → At b bytes l x k → FitsAll a.prompt x rs → LowAll s x rs → NoneCleared s low high a.prompt rs
       → (Seen a k.value x → Seen a j.value (sight_all x rs)) → At b (bytes ++ bytes_for s l rs) (calls_by_screen s l rs).layout (sight_all x rs) j
@@ -234,28 +230,12 @@ module _ (s : Screen) (low : 2 ≤ s.columns) (high : s.columns ≤ 1000) (a : S
   one_ask (Keys Needs) k b bytes l x at fits rows begins = inside b bytes l x k (left_at a k (Keys Needs)) (effect_at a k (Keys Needs)).steps at fits rows (tt, tt) (λ h. h)
   one_ask (Keys (Shows ask)) k b bytes l x at fits rows begins =
       inside b bytes l x k (left_at a k (Keys (Shows ask))) (ask_effect ask a k.value).steps at fits rows (ask_quiet s low high a.prompt ask a k.value) (ask_seen ask a k.value x)
-  one_ask (Keys (Reads item)) k b bytes l x at fits rows begins = inside b bytes l x k (left_at a k (Keys (Reads item))) [] at fits rows tt (λ h. h)
-  one_ask (Keys (Becomes input)) k b bytes l x at fits rows begins = inside b bytes l x k (left_at a k (Keys (Becomes input))) [] at fits rows tt (λ h. h)
-  one_ask (Keys (Refuses why)) k b bytes l x at fits rows begins = inside b bytes l x k (left_at a k (Keys (Refuses why))) [] at fits rows tt (λ h. h)
-  one_ask (Meets cmd) k b bytes l x at fits rows begins =
-      let rs = (effect_at a k (Meets cmd)).steps in outside false (bytes ++ bytes_for s l rs) (calls_by_screen s l rs).layout (sight_all x rs) (left_at a k (Meets cmd)) (all_either s low high a.prompt rs bytes l x at.either fits rows) refl
-  one_ask (Obeys cmd) k b bytes l x at fits rows begins =
-      let rs = (effect_at a k (Obeys cmd)).steps in outside false (bytes ++ bytes_for s l rs) (calls_by_screen s l rs).layout (sight_all x rs) (left_at a k (Obeys cmd)) (all_either s low high a.prompt rs bytes l x at.either fits rows) refl
-  one_ask (Makes edit) k b bytes l x at fits rows begins =
-      let rs = (effect_at a k (Makes edit)).steps in outside false (bytes ++ bytes_for s l rs) (calls_by_screen s l rs).layout (sight_all x rs) (left_at a k (Makes edit)) (all_either s low high a.prompt rs bytes l x at.either fits rows) refl
-
-  abbrev pub left_by : LineState → List LineAsk → LineState
-  left_by k [] = k
-  left_by k (ask ∷ asks) = left_by (left_at a k ask) asks
-
-  pub rest_by : {X : Type 0} (script : LineScript X) (k : LineState) → (let p = played_from a script k in left_by k p.asks ≡ p.rest)
-  rest_by (Ends x) k = refl
-  rest_by {X} (Asks ask later) k =
-      let left = left_at a k ask in
-      played_each (λ (p : PlayedOf a X). left_by k p.asks ≡ p.rest) (λ x. played_from a (later x) left) ask left (λ x. rest_by (later x) left) (λ e. refl) (answer_at a k ask)
+  one_ask (Keys ask) k b bytes l x at fits rows begins = inside b bytes l x k (left_at a k (Keys ask)) [] at fits rows tt (λ h. h)
+  one_ask ask k b bytes l x at fits rows begins =
+      let rs = (effect_at a k ask).steps in outside (bytes ++ bytes_for s l rs) (calls_by_screen s l rs).layout (sight_all x rs) (left_at a k ask) (all_either s low high a.prompt rs bytes l x at.either fits rows)
 
   pub walk : (o : Result (List ℕ) ReadlineError) (asks : List LineAsk) (k : LineState) (b : Bool) (bytes : List ℕ) (l : Layout) (x : Sight) → (let rs = steps_along a k asks in
-      At b bytes l x k → LeadsAlong a o k x asks → LowAll s x rs → At (in_phrase b asks) (bytes ++ bytes_for s l rs) (calls_by_screen s l rs).layout (sight_all x rs) (left_by k asks))
+      At b bytes l x k → LeadsAlong a o k x asks → LowAll s x rs → At (in_phrase b asks) (bytes ++ bytes_for s l rs) (calls_by_screen s l rs).layout (sight_all x rs) (left_along a k asks))
   walk o [] k b bytes l x at leads rows = subst (λ z. At b z l x k) (sym (append-nil bytes)) at
   walk o (ask ∷ asks) k b bytes l x at leads rows =
       let first = (effect_at a k ask).steps in
@@ -267,40 +247,10 @@ module _ (s : Screen) (low : 2 ≤ s.columns) (high : s.columns ≤ 1000) (a : S
       let here = one_ask ask k b bytes l x at leads.0 (low_first s x first rest rows) leads.1 in
       let on = walk o asks left b' (bytes ++ bytes_for s l first) m y here leads.2 (low_later s x first rest rows) in
       let end = in_phrase b' asks in
-      let j = left_by left asks in
+      let j = left_along a left asks in
       let one : At end ((bytes ++ bytes_for s l first) ++ bytes_for s m rest) (calls_by_screen s m rest).layout (sight_all x (first ++ rest)) j =
       subst (λ z. At end ((bytes ++ bytes_for s l first) ++ bytes_for s m rest) (calls_by_screen s m rest).layout z j) (sym (sight_both x first rest)) on in
       let two : At end ((bytes ++ bytes_for s l first) ++ bytes_for s m rest) (calls_by_screen s l (first ++ rest)).layout (sight_all x (first ++ rest)) j =
       subst (λ z. At end ((bytes ++ bytes_for s l first) ++ bytes_for s m rest) z (sight_all x (first ++ rest)) j) (sym (ap (λ (q : _). q.layout) (asked_both (ruler_of s) l first rest))) one in
       subst (λ z. At end z (calls_by_screen s l (first ++ rest)).layout (sight_all x (first ++ rest)) j)
       (append_assoc bytes (bytes_for s l first) (bytes_for s m rest) ∙ ap (λ z. bytes ++ z) (sym (bytes_both s l first rest))) two
-
--- ---- the bytes of a line's events
-
-steps_bytes : (s : Screen) (l : Layout) (rs : List EditStep) → flat_map bytes_drawn (step_events s l rs) ≡ bytes_for s l rs
-steps_bytes s l [] = refl
-steps_bytes s l (Draws v m redraw ∷ rs) =
-    let q = one (ruler_of s) l (Draws v m redraw) in
-    ap (λ z. bytes_drawn (step_event s l (Draws v m redraw)) ++ z) (steps_bytes s q.layout rs)
-    ∙ ap (λ z. z ++ bytes_for s q.layout rs) (all_of_map (bytes_of s) q.calls)
-    ∙ sym (flat_map-append (bytes_of s) q.calls (calls_by_screen s q.layout rs).calls)
-steps_bytes s l (Helped v fails takes ∷ rs) = steps_bytes s l rs
-steps_bytes s l (Edits v edit ∷ rs) = steps_bytes s l rs
-steps_bytes s l (TakesBack v count ∷ rs) = steps_bytes s l rs
-steps_bytes s l (Takes v ∷ rs) = steps_bytes s l rs
-
-own_bytes : (a : Setting) (k : LineState) (ask : LineAsk) → flat_map bytes_drawn (own_events a k ask) ≡ []
-own_bytes a k Begins = refl
-own_bytes a k (Keys (Reads item)) = refl
-own_bytes a k _ = refl
-
-pub asks_bytes : (s : Screen) (a : Setting) (l : Layout) (k : LineState) (asks : List LineAsk) → flat_map bytes_drawn (asks_events s a l k asks) ≡ bytes_for s l (steps_along a k asks)
-asks_bytes s a l k [] = refl
-asks_bytes s a l k (ask ∷ asks) =
-    let first = (effect_at a k ask).steps in
-    let left = left_at a k ask in
-    let m = (calls_by_screen s l first).layout in
-    flat_map-append bytes_drawn (step_events s l first) (own_events a k ask ++ asks_events s a m left asks)
-    ∙ ap (λ z. z ++ flat_map bytes_drawn (own_events a k ask ++ asks_events s a m left asks)) (steps_bytes s l first)
-    ∙ ap (λ z. bytes_for s l first ++ z) (flat_map-append bytes_drawn (own_events a k ask) (asks_events s a m left asks) ∙ ap (λ z. z ++ flat_map bytes_drawn (asks_events s a m left asks)) (own_bytes a k ask) ∙ asks_bytes s a m left asks)
-    ∙ sym (bytes_both s l first (steps_along a left asks))

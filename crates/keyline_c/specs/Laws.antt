@@ -1,34 +1,21 @@
--- Laws for a program that draws an open line anew, or types for its user: what the bytes from the
--- last whole drawing on show, and where a pasted text goes.
-use Rattle.std.specs.Prelude.{◌≡◌, ℕ, suc, nat_eq, Bool, if◌then◌else◌, List, [], ◌∷◌, ◌++◌, true, Option, Some, None, Ok}
+-- Laws for a program that draws an open line anew: what the bytes from the last whole drawing on
+-- show.
+use Rattle.std.specs.Prelude.{◌≡◌, ℕ, nat_eq, Bool, if◌then◌else◌, List, [], ◌∷◌, ◌++◌, true, Option, Some, None}
 use Rattle.std.specs.List.{starts_with}
 use Rattle.std.specs.Option.{option_or}
-use Rattle.line_buffer.specs.Insertions.{with_text_at_cursor}
-use Rattle.line_buffer.specs.Line.{Line}
 use Rattle.line_buffer.specs.declared.layout.Layout.{Layout}
-use Rattle.line_config.specs.declared.device.Last.{Last}
 use Rattle.line_config.specs.declared.memory.VecSink.{VecSink}
-use Rattle.line_editor.specs.Commands.{in_vi_command, means_of}
-use Rattle.line_editor.specs.LineScripts.{LineState, played_from, turn_script}
-use Rattle.line_editor.specs.Modal.{is_at_rest}
 use Rattle.line_editor.specs.Redraws.{fresh}
 use Rattle.line_editor.specs.Sights.{Sight, no_sight, sight_all}
 use Rattle.line_editor.specs.RenderCalls.{Marks}
-use Rattle.line_editor.specs.Values.{Setting, shown_marks}
-use Rattle.line_editor.specs.Yanking.{behind_yank}
-use Rattle.line_editor.specs.declared.commands.Status.TheVariants.{Proceed}
-use Rattle.line_keys.specs.CustomBindings.{Custom}
-use Rattle.line_keys.specs.Events.{single}
-use Rattle.line_keys.specs.declared.events.Event.TheVariants.{Any}
+use Rattle.line_editor.specs.Values.{shown_marks}
 use Rattle.line_screen.specs.ScreenCalls.{Screen}
 use Rattle.line_screen.specs.Display.{Display, Placed, cell_at, style_at, meaning}
 use Rattle.line_screen.specs.Drawing.{erase_to_end}
-use Rattle.line_screen.specs.KeyGrammar.{paste_start}
 use Rattle.line_screen.specs.Laws.{widths}
 use Rattle.keyline.specs.Events.{line_course, line_play_in}
-use Rattle.keyline.specs.Pasting.{IsPasteable, paste_bytes}
 use Rattle.keyline.specs.SessionLaws.{steps_in}
-use Rattle.keyline.specs.Sessions.{Given, SessionState, coming_from, setting_in}
+use Rattle.keyline.specs.Sessions.{Given, SessionState, setting_in}
 use Rattle.keyline.specs.Shows.{IsAtRest, IsScreen, LowAll, MomentShown, calls_by_screen, face}
 use Rattle.keyline_c.specs.Lines.{LeftBy, value_first}
 use Rattle.keyline_c.specs.Statuses.{status_of_ending, is_open}
@@ -128,28 +115,3 @@ module _ (held : VecSink → List ℕ) where
       → IsOpenAt held n g x left → IsOpenAt held n g y other → ShowTheSame n g x y left other
       → (sight_in n g x).given ≡ (sight_in n g y).given → IsScreen g.screen
       → layout_in n g x ≡ layout_in n g y
-
--- ---- a paste
-
--- a text goes to the cursor, and the cursor after it; in Vi's command mode onto its last cluster
-abbrev pub line_with_paste : Bool → List ℕ → Line → Line
-line_with_paste vi [] l = l
-line_with_paste vi (byte ∷ bytes) l = behind_yank vi (with_text_at_cursor (byte ∷ bytes) l)
-
--- no binding is for the key that announces a paste
-pub record LetsPastesIn (custom : Custom) : Type 0 where
-  pub announced : custom.answers (single paste_start) ≡ None
-  pub any : custom.answers Any ≡ None
-
--- a text that is pasted between two phrases goes to the cursor of the line, if no binding is for it
--- and no search stands. Everything that follows it remains
-abbrev pub PastesGoIn : Type 0
-PastesGoIn =
-    (n : ℕ) (s : Setting) (custom : Custom) (k : LineState) (text more : List ℕ)
-    (last : Last)
-    → LetsPastesIn custom → k.value.line.growth ≡ true → is_at_rest k.modal.standing ≡ true
-    → IsPasteable text → k.coming ≡ coming_from k.input.mode (paste_bytes text ++ more) last
-    → let p = played_from s (turn_script (suc (suc n)) custom) k in
-    let vi = in_vi_command (means_of k.input k.ring) in
-    (p.answer ≡ Ok Proceed) × (p.rest.coming ≡ coming_from k.input.mode more last)
-    × (p.rest.value.line ≡ line_with_paste vi text k.value.line)

@@ -1,6 +1,7 @@
 //! Laws of the definitions. Each is the contract of a function that does nothing.
 
-ghost use Rattle.keyline_c.specs.Laws.{LastDrawingsShow, PastesGoIn, SameLinesGoOnAlike, SameLinesLookAlike};
+ghost use Rattle.keyline.specs.Pasting.{PastesGoIn};
+ghost use Rattle.keyline_c.specs.Laws.{LastDrawingsShow, SameLinesGoOnAlike, SameLinesLookAlike};
 
 use keyline::{Sink, VecSink};
 

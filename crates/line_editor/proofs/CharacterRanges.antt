@@ -142,11 +142,12 @@ first_some : (text cs : List ℕ) (c : ℕ) → Some c ≡ slice_get cs 0 → ((
 first_some text [] c h = cc
 first_some text (d ∷ cs) c h = ap (λ x. (x == 0x0A) || stands_apart text x) (same_Some c d h)
 
-pub begins_with_none : (text rest : List ℕ) → IsUtf8 rest → None ≡ slice_get (chars rest) 0 → true ≡ begins_apart text rest
-begins_with_none text rest u h = sym (λ i. is_utf8-from_IsUtf8 rest u i && sym (first_none text (chars rest) h) i)
+pub begins_with_none : (text rest : List ℕ) → IsUtf8 text → IsUtf8 rest → None ≡ slice_get (chars rest) 0 → true ≡ begins_apart text rest
+begins_with_none text rest t u h = sym (λ i. is_utf8-from_IsUtf8 rest u i && (is_utf8-from_IsUtf8 text t i && sym (first_none text (chars rest) h) i))
 
-pub begins_with : (text rest : List ℕ) (c : ℕ) (is : Bool) → IsUtf8 rest → Some c ≡ slice_get (chars rest) 0 → is ≡ ((c == 0x0A) || stands_apart text c) → is ≡ begins_apart text rest
-begins_with text rest c is u h test = test ∙ first_some text (chars rest) c h ∙ sym (λ i. is_utf8-from_IsUtf8 rest u i && starts_apart text (chars rest))
+pub begins_with : (text rest : List ℕ) (c : ℕ) (is : Bool) → IsUtf8 text → IsUtf8 rest → Some c ≡ slice_get (chars rest) 0 → is ≡ ((c == 0x0A) || stands_apart text c) → is ≡ begins_apart text rest
+begins_with text rest c is t u h test =
+    test ∙ first_some text (chars rest) c h ∙ sym (λ i. is_utf8-from_IsUtf8 rest u i && (is_utf8-from_IsUtf8 text t i && starts_apart text (chars rest)))
 
 pub is_newline : (c : ℕ) → c ≡ 0x0A → true ≡ (c == 0x0A)
 is_newline c is = ap (λ x. x == 0x0A) (sym is)
@@ -162,7 +163,7 @@ no_newline c h = by_test (c == 0x0A) refl
 pub no_parts_at : (text : List ℕ) (at : ℕ) (r : Bool) → (IsTrue r ↔ IsCharBoundary text at) → r ≡ false → r ≡ begins_apart_at text at
 no_parts_at text at r is refused = refused ∙ by_tests (nat_le at (length text)) (is_utf8 (drop at text)) refl refl
   where
-    by_tests : (low utf8 : Bool) → nat_le at (length text) ≡ low → is_utf8 (drop at text) ≡ utf8 → false ≡ (low && (utf8 && starts_apart (take at text) (chars (drop at text))))
+    by_tests : (low utf8 : Bool) → nat_le at (length text) ≡ low → is_utf8 (drop at text) ≡ utf8 → false ≡ (low && (utf8 && (is_utf8 (take at text) && starts_apart (take at text) (chars (drop at text)))))
     by_tests false utf8 e u = refl
     by_tests true false e u = refl
     by_tests true true e u = cc (subst IsTrue refused (is.1 (IsCharBoundary-from_drop text at (leb-true at (length text) e) (IsUtf8-from_is_utf8 (drop at text) u))))

@@ -1,8 +1,8 @@
 -- One redraw in place of another that asks the same.
-use Rattle.std.proofs.Common.{◌≡◌, ℕ, ◌≤◌, ◌==◌, ◌&&◌, nat_lt, Bool, List, take, drop, true, false, [], refl, sym, ap, subst, ◌∙◌, if◌then◌else◌, slice_range, length}
-use Rattle.std.specs.Prelude.{encode_utf8, not, Option, None, Some, Result, Ok, Err, OnOk, IsErrAnd, IsTrue}
+use Rattle.std.proofs.Common.{◌≡◌, ◌≢◌, ℕ, ◌≤◌, ◌==◌, ◌&&◌, nat_lt, Bool, List, take, drop, true, false, [], refl, sym, ap, subst, ◌∙◌, if◌then◌else◌, slice_range, length}
+use Rattle.std.specs.Prelude.{encode_utf8, not, Option, None, Some, is_some, option_map, Result, Ok, Err, OnOk, IsErrAnd, IsTrue}
 use Rattle.std.specs.List.{FoldsTo}
-use Rattle.std.proofs.lemmas.Bool.{le-ltb}
+use Rattle.std.proofs.lemmas.Bool.{and_parts, le-ltb}
 use Rattle.line_buffer.specs.Cells.{origin, same_cell}
 use Rattle.line_buffer.specs.declared.layout.Layout.{Layout}
 use Rattle.line_buffer.specs.declared.layout.Position.{Position}
@@ -13,18 +13,42 @@ use Rattle.line_help.specs.declared.helpers.hint as hints
 use Rattle.line_help.specs.declared.helpers.highlight as highlights
 use Rattle.line_help.specs.declared.helpers.validate as verdicts
 use Rattle.line_help.specs.declared.history as histories
+use Rattle.line_help.specs.Hints.{Hinted}
 use Rattle.line_editor.specs.RenderCalls.{Ruler, MadeIn, CutCalls}
 use Rattle.line_editor.specs.RenderCalls.Call.{Move}
 use Rattle.line_editor.specs.Drawing.{draw_effect_with}
-use Rattle.line_editor.specs.Redraws.{Redraw, RedrawCalls, calls_of_redraw, nothing_asked, move_calls, move_call, then_asked, full, char_call, append_call, erase_call, put_in_short, taken_out_short, write_over_call, may_type, may_take, may_erase, may_put_in, may_take_out, may_write_over}
-use Rattle.line_editor.specs.Redraws.Redraw.{Drawn, Typed, Appended, Taken, Erased, PutIn, TakenOut, Rewritten, Bared}
+use Rattle.line_editor.specs.Inserting.{is_bare, way_if_bare}
+use Rattle.line_editor.specs.Redraws.{Redraw, RedrawCalls, calls_of_redraw, nothing_asked, move_calls, move_call, then_asked, full, rest_call, char_call, append_call, erase_call, put_in_short, taken_out_short, write_over_call, may_type, may_take, may_erase, may_put_in, may_take_out, may_write_over}
+use Rattle.line_editor.specs.Redraws.Redraw.{Drawn, DrawnFrom, Typed, Appended, Taken, Erased, PutIn, TakenOut, Rewritten, Bared}
 use Rattle.line_editor.specs.States.{value_of, setting_of, surface_of, Stays, Does, Renders}
 use Rattle.line_editor.specs.EditSteps.{Surface}
-use Rattle.line_editor.specs.Values.{Setting, Value, Transition, draw_effect, shown_marks}
+use Rattle.line_editor.specs.Values.{Setting, Value, Transition, draw_effect, shown_hint, shown_marks}
 use Rattle.line_editor.specs.declared.renderer as renderers
 use Rattle.line_editor.specs.declared.state.State.{State}
+use Rattle.line_editor.specs.declared.way.Way.{Way}
+use Rattle.line_editor.specs.declared.way.Way.TheVariants.{Whole}
 use Rattle.line_editor.proofs.DoesLemmas.{does_refused, if_refused, is_err}
 use Rattle.line_editor.proofs.StopsLemmas.{broken_refused, stops_drawing, stops_drawn_as}
+
+-- a bare line has no hint
+no_hint : (v : Value) → is_bare v ≡ true → shown_hint v ≡ None
+no_hint v bare = by_hint v.hint (and_parts (not (is_some v.hint)) (not v.marked) bare).0
+  where
+    by_hint : (o : Option Hinted) → not (is_some o) ≡ true → option_map (λ h. h.display) o ≡ None
+    by_hint None h = refl
+    by_hint (Some hint) h = cc
+
+-- a way that isn't whole was chosen in one
+pub bare_if : (way shown : Way) (v : Value) → way_if_bare way v ≡ shown → shown ≢ Whole → is_bare v ≡ true
+bare_if way shown v is other = by_test (is_bare v) is
+  where
+    by_test : (b : Bool) → (if b then way else Whole) ≡ shown → b ≡ true
+    by_test true h = refl
+    by_test false h = absurd (other (sym h))
+
+-- the rest, from a place on
+abbrev rest_drawn : ℕ → Transition
+rest_drawn from a v = draw_effect (DrawnFrom a.prompt from v.line.text v.line.place (shown_hint v)) a v
 
 -- the calls and the layout of one redraw
 abbrev asks : RedrawCalls → RedrawCalls
@@ -88,17 +112,39 @@ module _ {Out H Hi K T : Type 0} {renderer : renderers.Renderer.Ghosts Out} {com
   appended_drawn c s t result is h = drawn_as (λ a v. Drawn a.prompt true v.line.text v.line.place None) (λ a v. Appended a.prompt c v.line.text v.line.place) s t result
       (ap (λ b. if b then full (renderer.canvas.ruler s.out) (shown_marks (value_of s) (setting_of s).marks) s.layout s.prompt.now true s.recorded.line.text s.recorded.line.place None else append_call (renderer.canvas.ruler s.out) s.layout c) (sym is)) h
 
-  pub taken_drawn : {A : Type 0} (count : ℕ) (s t : State Out H Hi K T renderer completer candidate hinter hint highlighter validator history) (result : Result A ReadlineError)
-      → may_take s.layout count ≡ false → Does (draw_effect_with None) s t result → Does (λ a v. draw_effect (Taken a.prompt count v.line.text v.line.place) a v) s t result
-  taken_drawn count s t result is h = drawn_as (λ a v. Drawn a.prompt true v.line.text v.line.place None) (λ a v. Taken a.prompt count v.line.text v.line.place) s t result
-      (ap (λ b. if b then erase_call s.layout count else full (renderer.canvas.ruler s.out) (shown_marks (value_of s) (setting_of s).marks) s.layout s.prompt.now true s.recorded.line.text s.recorded.line.place None) (sym is)) h
+  abbrev rest_asked : ℕ → Option (List ℕ) → State Out H Hi K T renderer completer candidate hinter hint highlighter validator history → RedrawCalls
+  rest_asked from info s = rest_call (renderer.canvas.ruler s.out) (shown_marks (value_of s) (setting_of s).marks) s.layout from s.recorded.line.text s.recorded.line.place info
 
-  pub erased_drawn : {A : Type 0} (c : ℕ) (s t : State Out H Hi K T renderer completer candidate hinter hint highlighter validator history) (result : Result A ReadlineError)
-      → may_erase (renderer.canvas.ruler s.out) s.layout c ≡ false → Does (draw_effect_with None) s t result → Does (λ a v. draw_effect (Erased a.prompt c v.line.text v.line.place) a v) s t result
-  erased_drawn c s t result is h =
+  bare_rest : (from place : ℕ) (s : State Out H Hi K T renderer completer candidate hinter hint highlighter validator history) → is_bare (value_of s) ≡ true → from ≡ place → rest_asked from (shown_hint (value_of s)) s ≡ rest_asked place None s
+  bare_rest from place s bare at = ap (λ n. rest_asked n (shown_hint (value_of s)) s) at ∙ ap (λ o. rest_asked place o s) (no_hint (value_of s) bare)
+
+  pub taken_drawn : {A : Type 0} (count : ℕ) (s t : State Out H Hi K T renderer completer candidate hinter hint highlighter validator history) (result : Result A ReadlineError)
+      → may_take s.layout count ≡ false → (setting_of s).config.partial_redraw ≡ false → Does (draw_effect_with None) s t result
+      → Does (λ a v. draw_effect (Taken a.prompt count a.config.partial_redraw v.line.text v.line.place) a v) s t result
+  taken_drawn count s t result is whole h =
+      let place = s.recorded.line.place in
+      let all = full (renderer.canvas.ruler s.out) (shown_marks (value_of s) (setting_of s).marks) s.layout s.prompt.now true s.recorded.line.text place None in
+      drawn_as (λ a v. Drawn a.prompt true v.line.text v.line.place None) (λ a v. Taken a.prompt count a.config.partial_redraw v.line.text v.line.place) s t result
+      (ap (λ b. if b then rest_asked place None s else all) (sym whole) ∙ ap (λ b. if b then erase_call s.layout count else if (setting_of s).config.partial_redraw then rest_asked place None s else all) (sym is)) h
+
+  pub taken_rest : {A : Type 0} (count from : ℕ) (s t : State Out H Hi K T renderer completer candidate hinter hint highlighter validator history) (result : Result A ReadlineError)
+      → may_take s.layout count ≡ false → (setting_of s).config.partial_redraw ≡ true → is_bare (value_of s) ≡ true → from ≡ s.recorded.line.place → Does (rest_drawn from) s t result
+      → Does (λ a v. draw_effect (Taken a.prompt count a.config.partial_redraw v.line.text v.line.place) a v) s t result
+  taken_rest count from s t result is partial bare at h =
+      let place = s.recorded.line.place in
+      let all = full (renderer.canvas.ruler s.out) (shown_marks (value_of s) (setting_of s).marks) s.layout s.prompt.now true s.recorded.line.text place None in
+      drawn_as (λ a v. DrawnFrom a.prompt from v.line.text v.line.place (shown_hint v)) (λ a v. Taken a.prompt count a.config.partial_redraw v.line.text v.line.place) s t result
+      (bare_rest from place s bare at ∙ ap (λ b. if b then rest_asked place None s else all) (sym partial)
+      ∙ ap (λ b. if b then erase_call s.layout count else if (setting_of s).config.partial_redraw then rest_asked place None s else all) (sym is)) h
+
+  pub erased_rest : {A : Type 0} (c from : ℕ) (s t : State Out H Hi K T renderer completer candidate hinter hint highlighter validator history) (result : Result A ReadlineError)
+      → may_erase (renderer.canvas.ruler s.out) s.layout c ≡ false → is_bare (value_of s) ≡ true → from ≡ s.recorded.line.place → Does (rest_drawn from) s t result
+      → Does (λ a v. draw_effect (Erased a.prompt c v.line.text v.line.place) a v) s t result
+  erased_rest c from s t result is bare at h =
       let r = renderer.canvas.ruler s.out in
-      drawn_as (λ a v. Drawn a.prompt true v.line.text v.line.place None) (λ a v. Erased a.prompt c v.line.text v.line.place) s t result
-      (ap (λ b. if b then erase_call s.layout (r.measure (encode_utf8 c) origin).col else full r (shown_marks (value_of s) (setting_of s).marks) s.layout s.prompt.now true s.recorded.line.text s.recorded.line.place None) (sym is)) h
+      let place = s.recorded.line.place in
+      drawn_as (λ a v. DrawnFrom a.prompt from v.line.text v.line.place (shown_hint v)) (λ a v. Erased a.prompt c v.line.text v.line.place) s t result
+      (bare_rest from place s bare at ∙ ap (λ b. if b then erase_call s.layout (r.measure (encode_utf8 c) origin).col else rest_asked place None s) (sym is)) h
 
   pub put_in_drawn : {A : Type 0} (c : ℕ) (rest : List ℕ) (s t : State Out H Hi K T renderer completer candidate hinter hint highlighter validator history) (result : Result A ReadlineError)
       → rest ≡ drop s.recorded.line.place s.recorded.line.text → may_put_in (renderer.canvas.ruler s.out) s.layout rest ≡ false
@@ -110,29 +156,30 @@ module _ {Out H Hi K T : Type 0} {renderer : renderers.Renderer.Ghosts Out} {com
       (ap (λ b. if b then put_in_short r s.layout c behind else full r (shown_marks (value_of s) (setting_of s).marks) s.layout s.prompt.now true s.recorded.line.text s.recorded.line.place None)
       (sym (ap (λ xs. may_put_in r s.layout xs) (sym left) ∙ is))) h
 
-  pub taken_out_drawn : {A : Type 0} (count : ℕ) (at : Position) (rest : List ℕ) (s t : State Out H Hi K T renderer completer candidate hinter hint highlighter validator history) (result : Result A ReadlineError)
+  pub taken_out_rest : {A : Type 0} (count from : ℕ) (at : Position) (rest : List ℕ) (s t : State Out H Hi K T renderer completer candidate hinter hint highlighter validator history) (result : Result A ReadlineError)
       → at ≡ (renderer.canvas.ruler s.out).measure (take s.recorded.line.place s.recorded.line.text) s.layout.prompt_size → rest ≡ drop s.recorded.line.place s.recorded.line.text
-      → may_take_out (renderer.canvas.ruler s.out) s.layout at count rest ≡ false
-      → Does (draw_effect_with None) s t result → Does (λ a v. draw_effect (TakenOut a.prompt count v.line.text v.line.place) a v) s t result
-  taken_out_drawn count at rest s t result cell left is h =
+      → may_take_out (renderer.canvas.ruler s.out) s.layout at count rest ≡ false → is_bare (value_of s) ≡ true → from ≡ s.recorded.line.place
+      → Does (rest_drawn from) s t result → Does (λ a v. draw_effect (TakenOut a.prompt count v.line.text v.line.place) a v) s t result
+  taken_out_rest count from at rest s t result cell left is bare here h =
       let r = renderer.canvas.ruler s.out in
-      let there = r.measure (take s.recorded.line.place s.recorded.line.text) s.layout.prompt_size in
-      let behind = drop s.recorded.line.place s.recorded.line.text in
-      drawn_as (λ a v. Drawn a.prompt true v.line.text v.line.place None) (λ a v. TakenOut a.prompt count v.line.text v.line.place) s t result
-      (ap (λ b. if b then taken_out_short s.layout there count behind else full r (shown_marks (value_of s) (setting_of s).marks) s.layout s.prompt.now true s.recorded.line.text s.recorded.line.place None)
+      let place = s.recorded.line.place in
+      let there = r.measure (take place s.recorded.line.text) s.layout.prompt_size in
+      let behind = drop place s.recorded.line.text in
+      drawn_as (λ a v. DrawnFrom a.prompt from v.line.text v.line.place (shown_hint v)) (λ a v. TakenOut a.prompt count v.line.text v.line.place) s t result
+      (bare_rest from place s bare here ∙ ap (λ b. if b then taken_out_short s.layout there count behind else rest_asked place None s)
       (sym (ap (λ p. may_take_out r s.layout p count behind) (sym cell) ∙ ap (λ xs. may_take_out r s.layout at count xs) (sym left) ∙ is))) h
 
-  pub rewritten_drawn : {A : Type 0} (from upto : ℕ) (at : Position) (letters : List ℕ) (s t : State Out H Hi K T renderer completer candidate hinter hint highlighter validator history) (result : Result A ReadlineError)
+  pub rewritten_rest : {A : Type 0} (from upto : ℕ) (at : Position) (letters : List ℕ) (s t : State Out H Hi K T renderer completer candidate hinter hint highlighter validator history) (result : Result A ReadlineError)
       → at ≡ (renderer.canvas.ruler s.out).measure (take from s.recorded.line.text) s.layout.prompt_size → letters ≡ slice_range s.recorded.line.text from upto
-      → may_write_over (renderer.canvas.ruler s.out) s.layout at (length letters) ≡ false
-      → Does (draw_effect_with None) s t result → Does (λ a v. draw_effect (Rewritten a.prompt from upto v.line.text v.line.place) a v) s t result
-  rewritten_drawn from upto at letters s t result cell part is h =
+      → may_write_over (renderer.canvas.ruler s.out) s.layout at (length letters) ≡ false → is_bare (value_of s) ≡ true
+      → Does (rest_drawn from) s t result → Does (λ a v. draw_effect (Rewritten a.prompt from upto v.line.text v.line.place) a v) s t result
+  rewritten_rest from upto at letters s t result cell part is bare h =
       let r = renderer.canvas.ruler s.out in
       let text = s.recorded.line.text in
       let there = r.measure (take from text) s.layout.prompt_size in
       let written = write_over_call s.layout (slice_range text from upto) there (r.measure (take s.recorded.line.place text) s.layout.prompt_size) in
-      drawn_as (λ a v. Drawn a.prompt true v.line.text v.line.place None) (λ a v. Rewritten a.prompt from upto v.line.text v.line.place) s t result
-      (ap (λ b. if b then written else full r (shown_marks (value_of s) (setting_of s).marks) s.layout s.prompt.now true text s.recorded.line.place None)
+      drawn_as (λ a v. DrawnFrom a.prompt from v.line.text v.line.place (shown_hint v)) (λ a v. Rewritten a.prompt from upto v.line.text v.line.place) s t result
+      (bare_rest from from s bare refl ∙ ap (λ b. if b then written else rest_asked from None s)
       (sym (ap (λ p. may_write_over r s.layout p (length (slice_range text from upto))) (sym cell) ∙ ap (λ xs. may_write_over r s.layout at (length xs)) (sym part) ∙ is))) h
 
   pub bared_drawn : {A : Type 0} (s t : State Out H Hi K T renderer completer candidate hinter hint highlighter validator history) (result : Result A ReadlineError)

@@ -19,7 +19,7 @@ use Rattle.line_help.specs.declared.helpers.hint as hints
 use Rattle.line_help.specs.declared.helpers.highlight as highlights
 use Rattle.line_help.specs.declared.helpers.validate as verdicts
 use Rattle.line_help.specs.declared.history as histories
-use Rattle.line_editor.specs.Drawing.{since, refresh_effect, refresh_effect_if, refresh_effect_since, refresh_effect_since_if}
+use Rattle.line_editor.specs.Drawing.{Since, since, refresh_effect, refresh_effect_if, refresh_effect_since, refresh_effect_since_if}
 use Rattle.line_editor.specs.Inserting.{has_printable_rest, insertion_way, show_inserted_effect, insert_char, insert_text}
 use Rattle.line_editor.specs.Killing.{may_be_taken, may_be_taken_out, text_gone, last_of_bare, way_erased, kill_way, show_killed_effect, show_taken, kill_effect}
 use Rattle.line_editor.specs.Rewriting.{may_be_rewritten, refresh_over_effect, refresh_over_if}
@@ -59,12 +59,12 @@ overwrites_if c l answer is = sym (is ∙ written_over_if c (place_forward 1 l) 
 pub text_put : (text : List ℕ) (s : Setting) (v : Value) → (length text == 0) ≡ false → then_do (edit_effect (text_steps text)) (refresh_effect_since (since s v.line.place v)) s v ≡ insert_text text s v
 text_put text s v is = ap (λ b. if b then no_effect s v else then_do (edit_effect (text_steps text)) (refresh_effect_since (since s v.line.place v)) s v) (sym is)
 
-pub text_put_by : (text : List ℕ) (from : Option ℕ) (s : Setting) (v : Value) → (length text == 0) ≡ false → from ≡ since s v.line.place v
+pub text_put_by : (text : List ℕ) (from : Option Since) (s : Setting) (v : Value) → (length text == 0) ≡ false → from ≡ since s v.line.place v
     → then_do (edit_effect (text_steps text)) (refresh_effect_since from) s v ≡ insert_text text s v
 text_put_by text from s v some is = ap (λ f. then_do (edit_effect (text_steps text)) (refresh_effect_since f) s v) is ∙ text_put text s v some
 
 -- a text is put in place of what was yanked
-pub text_popped : (size : ℕ) (text : List ℕ) (from : Option ℕ) (s : Setting) (v : Value) → can_take_before size v.line ≡ true → from ≡ since s (v.line.place - size) v
+pub text_popped : (size : ℕ) (text : List ℕ) (from : Option Since) (s : Setting) (v : Value) → can_take_before size v.line ≡ true → from ≡ since s (v.line.place - size) v
     → then_do (edit_effect (pop_group size text)) (refresh_effect_since from) s v ≡ pop_text size text s v
 text_popped size text from s v some is =
     ap (λ f. then_do (edit_effect (pop_group size text)) (refresh_effect_since f) s v) is
@@ -74,7 +74,7 @@ text_popped size text from s v some is =
 pub char_put : (c n : ℕ) (s : Setting) (v : Value) → is_some (insertion c n v.line).answer ≡ true → then_do (edit_effect (char_steps c n)) (show_inserted_effect c (insertion_way s c n v) (since s v.line.place v)) s v ≡ insert_char c n s v
 char_put c n s v is = ap (λ b. if b then then_do (edit_effect (char_steps c n)) (show_inserted_effect c (insertion_way s c n v) (since s v.line.place v)) s v else no_effect s (value_with_edit (by (char_steps c n)) v)) (sym is)
 
-pub char_put_by : (c n : ℕ) (way : Way) (from : Option ℕ) (s : Setting) (v : Value) → is_some (insertion c n v.line).answer ≡ true → way ≡ insertion_way s c n v → from ≡ since s v.line.place v
+pub char_put_by : (c n : ℕ) (way : Way) (from : Option Since) (s : Setting) (v : Value) → is_some (insertion c n v.line).answer ≡ true → way ≡ insertion_way s c n v → from ≡ since s v.line.place v
     → then_do (edit_effect (char_steps c n)) (show_inserted_effect c way from) s v ≡ insert_char c n s v
 char_put_by c n way from s v some is stays =
     ap (λ w. then_do (edit_effect (char_steps c n)) (show_inserted_effect c w from) s v) is
@@ -161,13 +161,13 @@ module _ {Out H Hi K T : Type 0} {renderer : renderers.Renderer.Ghosts Out} {com
       subst (λ y. Does {A = A} (refresh_effect_if y) s s (Ok x)) (sym is) (record { value = refl; calls = refl; layout = refl; stays = stays_same s; reason = tt; stops = tt })
 
   -- from a place on, if the line may be drawn so
-  pub drawn_since_if : {A : Type 0} (from stays : Option ℕ) (b : Bool) (s t : State Out H Hi K T renderer completer candidate hinter hint highlighter validator history) (result : Result A ReadlineError)
+  pub drawn_since_if : {A : Type 0} (from stays : Option Since) (b : Bool) (s t : State Out H Hi K T renderer completer candidate hinter hint highlighter validator history) (result : Result A ReadlineError)
       → from ≡ stays → b ≡ true → Does (refresh_effect_since from) s t result → Does (refresh_effect_since_if stays b) s t result
   drawn_since_if {A} from stays b s t result at is h =
       subst (λ x. Does {A = A} (refresh_effect_since_if stays x) s t result) (sym is)
       (subst (λ f. Does {A = A} (refresh_effect_since_if f true) s t result) at (does_as (refresh_effect_since from) (refresh_effect_since_if from true) s t result refl h))
 
-  pub undrawn_since_if : {A : Type 0} (stays : Option ℕ) (b : Bool) (s : State Out H Hi K T renderer completer candidate hinter hint highlighter validator history) (x : A) → b ≡ false → Does (refresh_effect_since_if stays b) s s (Ok x)
+  pub undrawn_since_if : {A : Type 0} (stays : Option Since) (b : Bool) (s : State Out H Hi K T renderer completer candidate hinter hint highlighter validator history) (x : A) → b ≡ false → Does (refresh_effect_since_if stays b) s s (Ok x)
   undrawn_since_if {A} stays b s x is =
       subst (λ y. Does {A = A} (refresh_effect_since_if stays y) s s (Ok x)) (sym is) (record { value = refl; calls = refl; layout = refl; stays = stays_same s; reason = tt; stops = tt })
 
@@ -202,7 +202,7 @@ module _ {Out H Hi K T : Type 0} {renderer : renderers.Renderer.Ghosts Out} {com
       edit_alone (insert_char c n) (char_steps c n) s t answer x (nothing_put c n (setting_of s) (value_of s) (ap is_some (sym wrote.writes.answers) ∙ none)) wrote rest surface stays
 
   -- what was taken is shown by how much it was
-  pub taken_by : {A : Type 0} (count : ℕ) (alone inside : Bool) (last : Option ℕ) (way : Way) (from : Option ℕ) (before : Value) (l : Line) (s t : State Out H Hi K T renderer completer candidate hinter hint highlighter validator history) (result : Result A ReadlineError)
+  pub taken_by : {A : Type 0} (count : ℕ) (alone inside : Bool) (last : Option ℕ) (way : Way) (from : Option Since) (before : Value) (l : Line) (s t : State Out H Hi K T renderer completer candidate hinter hint highlighter validator history) (result : Result A ReadlineError)
       → count ≡ length before.line.text - length s.recorded.line.text → alone ≡ may_be_taken (drop (length l.text) before.line.text) before
       → inside ≡ may_be_taken_out (setting_of s).config.partial_redraw (text_gone before.line l) before → last ≡ last_of_bare (setting_of s).config.partial_redraw before → s.recorded.line ≡ l
       → way ≡ way_by alone inside last count s.recorded.line → from ≡ since (setting_of s) l.place before

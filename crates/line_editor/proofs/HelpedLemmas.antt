@@ -18,7 +18,7 @@ use Rattle.line_help.specs.declared.history as histories
 use Rattle.line_keys.specs.declared.command.CmdKind.TheVariants.{Other}
 use Rattle.line_editor.specs.Accepting.{verdict, verdict_by, group_and_verdict_effect, verdict_effect, validate_by, validate}
 use Rattle.line_editor.specs.RenderCalls.{MadeIn}
-use Rattle.line_editor.specs.Drawing.{draw_effect_behind, draw_effect_since, repaint_effect, hint_asked, ask_anew_effect, refresh_effect, redraw_of}
+use Rattle.line_editor.specs.Drawing.{Since, draw_effect_behind, draw_effect_since, repaint_effect, hint_asked, ask_anew_effect, refresh_effect, redraw_of}
 use Rattle.line_editor.specs.Inserting.{way_if_bare, put_redraw, show_char_effect, show_inserted_effect}
 use Rattle.line_editor.specs.Killing.{taken_redraw, show_taken_effect, show_killed_effect}
 use Rattle.line_editor.specs.EditSteps.{calls_of_steps}
@@ -65,10 +65,10 @@ update_reason hooks line start text failed e why = hook_reason (λ h. h.updates 
 
 -- ---- one of two drawings
 
-abbrev put : ℕ → Way → Option ℕ → Setting → Value → Effect
+abbrev put : ℕ → Way → Option Since → Setting → Value → Effect
 put c way from s v = draw_effect (put_redraw way c from s v) s v
 
-abbrev taken : ℕ → Way → Option ℕ → Setting → Value → Effect
+abbrev taken : ℕ → Way → Option Since → Setting → Value → Effect
 taken count way from s v = draw_effect (taken_redraw way count from s v) s v
 
 abbrev rewritten : ℕ → ℕ → Bool → Setting → Value → Effect
@@ -136,7 +136,7 @@ module _ {Out H Hi K T : Type 0} {renderer : renderers.Renderer.Ghosts Out} {com
   refresh_made prompt s m t x result is h k =
       does_both ask_anew_effect repaint_effect s m t x result h (does_as (draw_effect_behind prompt true) repaint_effect m t result (ap (λ p. draw_effect_behind p true (setting_of m) (value_of m)) is) k)
 
-  module _ (c : ℕ) (way : Way) (from : Option ℕ) where
+  module _ (c : ℕ) (way : Way) (from : Option Since) where
     -- in one of the ways, or by a drawing of the line
     pub put_made : {A B : Type 0} (shown : Way) (s m t : State Out H Hi K T renderer completer candidate hinter hint highlighter validator history) (x : A) (result : Result B ReadlineError)
         → way_if_bare way (value_of m) ≡ shown → Does ask_anew_effect s m (Ok x) → Does (put c shown from) m t result → Does (show_inserted_effect c way from) s t result
@@ -150,7 +150,7 @@ module _ {Out H Hi K T : Type 0} {renderer : renderers.Renderer.Ghosts Out} {com
     put_drawn s m t x result (inl is) h k = put_made (Back is.0) s m t x result is.1 h (does_as (draw_effect_since from) (put c (Back is.0) from) m t result refl k)
     put_drawn s m t x result (inr is) h k = put_made Whole s m t x result is h (does_as (draw_effect_since from) (put c Whole from) m t result refl k)
 
-  module _ (count : ℕ) (way : Way) (from : Option ℕ) where
+  module _ (count : ℕ) (way : Way) (from : Option Since) where
     pub taken_made : {A B : Type 0} (shown : Way) (s m t : State Out H Hi K T renderer completer candidate hinter hint highlighter validator history) (x : A) (result : Result B ReadlineError)
         → way_if_bare way (value_of m) ≡ shown → Does ask_anew_effect s m (Ok x) → Does (taken count shown from) m t result → Does (show_killed_effect count way from) s t result
     taken_made shown s m t x result is h k =

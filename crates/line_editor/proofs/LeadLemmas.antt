@@ -3,8 +3,7 @@ use Rattle.std.proofs.Common.{◌≡◌, ℕ, ◌+◌, ◌-◌, ◌==◌, ◌||�
 use Rattle.std.specs.Prelude.{⊤, chars}
 use Rattle.std.specs.List.{list_all, last_or, insert_slice, replace_range}
 use Rattle.std.proofs.lemmas.Bool.{and_parts, eqb-true, leb-true, ltb-true}
-use Rattle.std.proofs.lemmas.Option.{same_Some}
-use Rattle.std.proofs.lemmas.List.{drop_all, take-append-drop, length-drop, length-take, length-take-le, drop-drop}
+use Rattle.std.proofs.lemmas.List.{drop_all, take-append-drop, length-drop, length-take, length-take-le, take-take, drop-drop}
 use Rattle.std.proofs.lemmas.Str.{encode_ascii}
 use Rattle.unicode_segmentation.proofs.TextLemmas.{encode_utf8_nonempty}
 use Rattle.std.specs.Str.{is_utf8}
@@ -31,8 +30,8 @@ use Rattle.line_keys.specs.Replies.{Reply}
 use Rattle.line_keys.specs.declared.command.CmdKind.{CmdKind}
 use Rattle.line_keys.specs.declared.command.CmdKind.TheVariants.{MoveCursor}
 use Rattle.line_record.specs.Held.{HeldItem}
-use Rattle.line_editor.specs.Characters.{stands_apart, begins_apart}
-use Rattle.line_editor.specs.Drawing.{redraw_of, may_begin_at, since, redraw_since, draw_effect_since, repaint_effect, ask_anew_effect, refresh_effect, refresh_effect_if, refresh_effect_since, refresh_effect_since_if, message_effect, cursor_moved, beep_effect, clear_and_draw_effect}
+use Rattle.line_editor.specs.Characters.{stands_apart, begins_apart, begins_apart_at}
+use Rattle.line_editor.specs.Drawing.{Since, redraw_of, line_spans, kept_upto, may_begin_at, since, redraw_since, draw_effect_since, repaint_effect, ask_anew_effect, refresh_effect, refresh_effect_if, refresh_effect_since, refresh_effect_since_if, message_effect, cursor_moved, beep_effect, clear_and_draw_effect}
 use Rattle.line_editor.specs.Inserting.{is_bare, has_printable_rest, may_be_typed, may_be_appended, may_be_put_in, insertion_way, way_if_bare, put_redraw, show_char_effect, show_inserted_effect, insert_char, insert_text}
 use Rattle.line_editor.specs.declared.way.Way.{Way}
 use Rattle.line_editor.specs.declared.way.Way.TheVariants.{AtEnd, Alone, Back, Inside, Whole}
@@ -42,12 +41,16 @@ use Rattle.line_editor.specs.Moving.{cursor_moved_if, to_found, to_place, move_h
 use Rattle.line_editor.specs.RenderCalls.{Marks}
 use Rattle.line_editor.specs.Redraws.{Redraw, info_text}
 use Rattle.line_editor.specs.Redraws.Redraw.{Drawn, DrawnFrom, Moved, Typed, Appended, Taken, Erased, PutIn, TakenOut, Cleared}
+use Rattle.line_editor.specs.SharedStyles.{styles_to, told_styles}
 use Rattle.line_editor.specs.Sights.{PartSpans, drawn_spans, Sight, SameStyles, sight_as, sight, sight_all, Fits, FitsAll, Turns, info_one, info_after, sight_of}
 use Rattle.line_editor.specs.Values.{Value, Setting, EditStep, Effect, Transition, no_effect, then_do, hint_reply, help_steps, value_with_edit, edit_effect, at_line, with_mark, marks_seen, shown_marks, shown_hint, line_and_record_of}
 use Rattle.line_editor.specs.Values.EditStep.{Draws, Edits, TakesBack, Takes}
+use Rattle.line_editor.proofs.ApartLemmas.{apart_before}
 use Rattle.line_editor.proofs.CharacterRanges.{end_is_last}
 use Rattle.line_editor.proofs.KillLemmas.{Low, cut_short, cut_text, range_low}
 use Rattle.line_editor.proofs.KnownLemmas.{Begins, behind_place, text_begins, typed_begins}
+use Rattle.line_editor.proofs.SharedLemmas.{kept_styles}
+use Rattle.line_editor.proofs.SinceLemmas.{unmarked_line}
 use Rattle.line_editor.proofs.SimpleLemmas.{typed_at_any}
 
 -- ---- one after the other
@@ -98,10 +101,6 @@ unmarked_spans : (marks : Option Marks) (told : Bool) (prompt text other : List 
 unmarked_spans None told prompt text other place at info = refl
 unmarked_spans (Some m) told prompt text other place at info = refl
 
-unmarked_line : (marks : Option Marks) (told : Bool) (prompt text : List ℕ) (place : ℕ) (info : List ℕ) → (drawn_spans (marks_seen false told marks) true prompt text place info).line ≡ []
-unmarked_line None told prompt text place info = refl
-unmarked_line (Some m) told prompt text place info = refl
-
 -- the spans of a value of which both are unmarked, and have a hint or none
 still_spans : (s : Setting) (v w : Value) (info : List ℕ) → v.marked ≡ false → w.marked ≡ false → is_some w.hint ≡ is_some v.hint
     → drawn_spans (shown_marks v s.marks) true s.prompt v.line.text v.line.place info ≡ drawn_spans (shown_marks w s.marks) true s.prompt w.line.text w.line.place info
@@ -111,6 +110,12 @@ still_spans s v w info a b c =
     ∙ unmarked_spans s.marks (not (is_some v.hint)) s.prompt v.line.text w.line.text v.line.place w.line.place info
     ∙ ap (λ x. of w.line false x) (sym c)
     ∙ ap (λ x. of w.line x (is_some w.hint)) (sym b)
+
+-- a prompt's spans depend on nothing else
+same_prompt : (marks : Option Marks) (marked told was_marked was_told : Bool) (prompt text other : List ℕ) (place at : ℕ) (info gone : List ℕ)
+    → (drawn_spans (marks_seen marked told marks) true prompt text place info).prompt ≡ (drawn_spans (marks_seen was_marked was_told marks) true prompt other at gone).prompt
+same_prompt None marked told was_marked was_told prompt text other place at info gone = refl
+same_prompt (Some m) marked told was_marked was_told prompt text other place at info gone = refl
 
 -- a bare value's spans are those of another
 pub bare_styles : (s : Setting) (v w : Value) (info : Option (List ℕ)) → is_bare v ≡ true → is_bare w ≡ true → SameStyles (sight_of s v info) (shown_marks w s.marks) s.prompt w.line.text w.line.place
@@ -122,6 +127,9 @@ bare_styles s v w info a b =
     record {
       unstyled = ap (λ x. (drawn_spans (marks_seen x (not (is_some v.hint)) s.marks) true s.prompt v.line.text v.line.place (info_text info)).line) before
           ∙ unmarked_line s.marks (not (is_some v.hint)) s.prompt v.line.text v.line.place (info_text info);
+      still = ap (λ x. (drawn_spans (marks_seen x (not (is_some w.hint)) s.marks) true s.prompt w.line.text w.line.place []).line) after
+          ∙ unmarked_line s.marks (not (is_some w.hint)) s.prompt w.line.text w.line.place [];
+      same_prompt = same_prompt s.marks w.marked (not (is_some w.hint)) v.marked (not (is_some v.hint)) s.prompt w.line.text v.line.text w.line.place v.line.place [] (info_text info);
       same = λ none.
           sym (still_spans s v w [] before after (not_true (is_some w.hint) later.0 ∙ sym (not_true (is_some v.hint) first.0)))
           ∙ ap (λ o. drawn_spans (shown_marks v s.marks) true s.prompt v.line.text v.line.place (info_text o)) (sym none);
@@ -211,77 +219,78 @@ whole_leads s v w info = record { fits = ((λ x. refl), tt); leads = refl }
 
 -- ---- drawn from a place on
 
--- a prompt's spans depend on nothing else
-same_prompt : (marks : Option Marks) (marked told was_marked was_told : Bool) (prompt text other : List ℕ) (place at : ℕ) (info gone : List ℕ)
-    → (drawn_spans (marks_seen marked told marks) true prompt text place info).prompt ≡ (drawn_spans (marks_seen was_marked was_told marks) true prompt other at gone).prompt
-same_prompt None marked told was_marked was_told prompt text other place at info gone = refl
-same_prompt (Some m) marked told was_marked was_told prompt text other place at info gone = refl
-
-not_marked : (b : Bool) → not b ≡ true → b ≡ false
-not_marked true h = cc
-not_marked false h = refl
-
-unstyled_by : (s : Setting) (v : Value) (info : List ℕ) → v.marked ≡ false → (drawn_spans (shown_marks v s.marks) true s.prompt v.line.text v.line.place info).line ≡ []
-unstyled_by s v info is =
-    ap (λ x. (drawn_spans (marks_seen x (not (is_some v.hint)) s.marks) true s.prompt v.line.text v.line.place info).line) is
-    ∙ unmarked_line s.marks (not (is_some v.hint)) s.prompt v.line.text v.line.place info
-
-from_leads : (from : ℕ) (s : Setting) (v w : Value) → may_begin_at from v ≡ true → may_begin_at from w ≡ true → take from w.line.text ≡ take from v.line.text
-    → Leads s v (record { value = w; steps = Draws w s.marks (DrawnFrom s.prompt from w.line.text w.line.place (shown_hint w)) ∷ [] })
-from_leads from s v w first later same info =
-    let a = and_parts (not v.marked) _ first in
-    let b = and_parts (nat_le from (length v.line.text)) _ a.1 in
-    let c = and_parts (not w.marked) _ later in
-    let d = and_parts (nat_le from (length w.line.text)) _ c.1 in
-    let hint = info_text (shown_hint w) in
-    record {
-      fits = (
-        (
-          refl,
-          refl,
-          record {
-            before = take from v.line.text;
-            gone = drop from v.line.text;
-            rest = drop from w.line.text;
-            whole = sym (take-append-drop from v.line.text);
-            text_is = sym (take-append-drop from w.line.text) ∙ ap (λ xs. xs ++ drop from w.line.text) same;
-            from_is = sym (length-take-le from v.line.text (leb-true from (length v.line.text) b.0));
-            gone_apart = b.1;
-            rest_apart = ap (λ xs. begins_apart xs (drop from w.line.text)) (sym same) ∙ d.1;
-            prompt_is = refl;
-            unstyled = unstyled_by s v (info_text info) (not_marked v.marked a.0);
-            still_unstyled = unstyled_by s w hint (not_marked w.marked c.0);
-            prompt_styles = same_prompt s.marks w.marked (not (is_some w.hint)) v.marked (not (is_some v.hint)) s.prompt w.line.text v.line.text w.line.place v.line.place hint (info_text info);
-          },
-        ),
-        tt,
-      );
-      leads = refl;
-    }
+-- a line's spans don't depend on what is shown after it
+same_line : (s : Setting) (v : Value) (info : List ℕ) → line_spans s v ≡ (drawn_spans (shown_marks v s.marks) true s.prompt v.line.text v.line.place info).line
+same_line s v info = by_marks s.marks
+  where
+    by_marks : (marks : Option Marks) → (drawn_spans (shown_marks v marks) true s.prompt v.line.text v.line.place []).line ≡ (drawn_spans (shown_marks v marks) true s.prompt v.line.text v.line.place info).line
+    by_marks None = refl
+    by_marks (Some m) = refl
 
 some_by : (b : Bool) (o : Option ℕ) (c : ℕ) → (if b then o else None) ≡ Some c → (b ≡ true) × (o ≡ Some c)
 some_by true o c h = (refl, h)
 some_by false o c h = cc
 
+module _ (from : ℕ) (s : Setting) (v w : Value) (first : begins_apart_at v.line.text from ≡ true) (same : take from w.line.text ≡ take from v.line.text) where
+  abbrev noted : Since
+  noted = record { from = from; styles = told_styles from (line_spans s v) }
+
+  abbrev kept : ℕ
+  kept = kept_upto noted s w
+
+  from_leads : may_begin_at kept noted w ≡ true → Leads s v (record { value = w; steps = Draws w s.marks (DrawnFrom s.prompt kept w.line.text w.line.place (shown_hint w)) ∷ [] })
+  from_leads later info =
+      let both = and_parts (begins_apart_at w.line.text from) (begins_apart_at w.line.text kept) later in
+      let styles = kept_styles from (line_spans s v) (line_spans s w) kept refl in
+      let before = and_parts (nat_le kept (length v.line.text)) _ (apart_before kept from v.line.text w.line.text styles.0 same first both.0 both.1) in
+      let after = and_parts (nat_le kept (length w.line.text)) _ both.1 in
+      let front : take kept w.line.text ≡ take kept v.line.text = sym (take-take kept from w.line.text styles.0) ∙ ap (take kept) same ∙ take-take kept from v.line.text styles.0 in
+      let hint = info_text (shown_hint w) in
+      record {
+        fits = (
+          (
+            refl,
+            refl,
+            record {
+              before = take kept v.line.text;
+              gone = drop kept v.line.text;
+              rest = drop kept w.line.text;
+              whole = sym (take-append-drop kept v.line.text);
+              text_is = sym (take-append-drop kept w.line.text) ∙ ap (λ xs. xs ++ drop kept w.line.text) front;
+              from_is = sym (length-take-le kept v.line.text (leb-true kept (length v.line.text) before.0));
+              gone_apart = before.1;
+              rest_apart = ap (λ xs. begins_apart xs (drop kept w.line.text)) (sym front) ∙ after.1;
+              prompt_is = refl;
+              same_styles = ap (styles_to kept) (sym (same_line s w hint)) ∙ styles.1 ∙ ap (styles_to kept) (same_line s v (info_text info));
+              prompt_styles = same_prompt s.marks w.marked (not (is_some w.hint)) v.marked (not (is_some v.hint)) s.prompt w.line.text v.line.text w.line.place v.line.place hint (info_text info);
+            },
+          ),
+          tt,
+        );
+        leads = refl;
+      }
+
+  noted_leads : Leads s v (record { value = w; steps = Draws w s.marks (redraw_since (Some noted) s w) ∷ [] })
+  noted_leads = by_test (may_begin_at kept noted w) refl
+    where
+      by_test : (b : Bool) → may_begin_at kept noted w ≡ b
+          → Leads s v (record { value = w; steps = Draws w s.marks (if b then DrawnFrom s.prompt kept w.line.text w.line.place (shown_hint w) else redraw_of s w) ∷ [] })
+      by_test true later = from_leads later
+      by_test false later = whole_leads s v w
+
 -- a change left the line up to there
 pub since_leads : (from : ℕ) (s : Setting) (v w : Value) → (from ≤ length v.line.text → Begins from v.line.text w.line.text)
     → Leads s v (record { value = w; steps = Draws w s.marks (redraw_since (since s from v) s w) ∷ [] })
-since_leads from s v w stays = by_place (since s from v) refl
+since_leads from s v w stays = by_test (s.config.partial_redraw && begins_apart_at v.line.text from) refl
   where
-    by_test : (b : Bool) → may_begin_at from w ≡ b → may_begin_at from v ≡ true → take from w.line.text ≡ take from v.line.text
-        → Leads s v (record { value = w; steps = Draws w s.marks (if b then DrawnFrom s.prompt from w.line.text w.line.place (shown_hint w) else redraw_of s w) ∷ [] })
-    by_test true later first same = from_leads from s v w first later same
-    by_test false later first same = whole_leads s v w
-
-    by_place : (o : Option ℕ) → since s from v ≡ o → Leads s v (record { value = w; steps = Draws w s.marks (redraw_since o s w) ∷ [] })
-    by_place None is = whole_leads s v w
-    by_place (Some at) is =
-        let found = some_by (s.config.partial_redraw && may_begin_at from v) (Some from) at is in
-        let first = (and_parts s.config.partial_redraw _ found.0).1 in
-        let inside = (and_parts (nat_le from (length v.line.text)) _ (and_parts (not v.marked) _ first).1).0 in
+    by_test : (b : Bool) → (s.config.partial_redraw && begins_apart_at v.line.text from) ≡ b
+        → Leads s v (record { value = w; steps = Draws w s.marks (redraw_since (if b then Some (record { from = from; styles = told_styles from (line_spans s v) }) else None) s w) ∷ [] })
+    by_test false is = whole_leads s v w
+    by_test true is =
+        let first = (and_parts s.config.partial_redraw _ is).1 in
+        let inside = (and_parts (nat_le from (length v.line.text)) _ first).0 in
         let begins = stays (leb-true from (length v.line.text) inside) in
-        subst (λ k. Leads s v (record { value = w; steps = Draws w s.marks (redraw_since (Some k) s w) ∷ [] })) (same_Some from at found.1)
-        (by_test (may_begin_at from w) refl first begins.same)
+        noted_leads from s v w first begins.same
 
 pub refresh_since_leads : (from : ℕ) (s : Setting) (v w : Value) → (from ≤ length v.line.text → Begins from v.line.text w.line.text) → Leads s v (refresh_effect_since (since s from v) s w)
 refresh_since_leads from s v w stays =
@@ -562,7 +571,7 @@ module _ (s : Setting) (v w : Value) (from upto : ℕ) (text : w.line.text ≡ r
       (subst (λ xs. Begins from v.line.text xs) (sym text) (behind_place from upto v.line.text [] (subst (λ k. k ≤ length v.line.text) place low))))
 
   taken_leads : is_bare w ≡ true → (may_be_taken (drop (length w.line.text) v.line.text) v && at_plain_end w.line.text w.line.place) ≡ true → (is_plain v.line.text ≡ true → Low v.line.text from upto)
-      → Leads s v (record { value = w; steps = Draws w s.marks (Taken s.prompt count w.line.text w.line.place) ∷ [] })
+      → Leads s v (record { value = w; steps = Draws w s.marks (Taken s.prompt count s.config.partial_redraw w.line.text w.line.place) ∷ [] })
   taken_leads bare e low info =
       let before = v.line.text in
       let now = w.line.text in

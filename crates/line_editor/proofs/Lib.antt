@@ -1,4 +1,5 @@
 pub mod AcceptLemmas
+pub mod ApartLemmas
 pub mod CharacterRanges
 pub mod CommandsLead
 pub mod CompleteLemmas
@@ -32,7 +33,9 @@ pub mod RewrittenLeads
 pub mod RowLemmas
 mod Rows
 pub mod RunLemmas
+pub mod SharedLemmas
 pub mod SimpleLemmas
+pub mod SinceLemmas
 pub mod StopsLemmas
 pub mod ToldLemmas
 pub mod TransposedLemmas

@@ -54,7 +54,7 @@ use Rattle.line_editor.specs.Moving.{cursor_moved_if, to_found, to_place, move_h
 use Rattle.line_editor.specs.History.{with_saved_line, value_on_leaving, recall, come_back_effect as back_at_end, history_step, history_end}
 use Rattle.line_editor.specs.Returns.{ValueStep, value_after, value_after_all, command_that_leaves, is_search, searches, StaysAway, ComesBack}
 use Rattle.line_editor.specs.Returns.ValueStep.{Done, Asked, Met}
-use Rattle.line_editor.specs.Drawing.{since, refresh_effect, refresh_effect_if, refresh_effect_since_if}
+use Rattle.line_editor.specs.Drawing.{Since, since, refresh_effect, refresh_effect_if, refresh_effect_since_if}
 use Rattle.line_editor.specs.Transforms.{edit_word_effect, pair_end}
 use Rattle.line_editor.specs.Rewriting.{may_be_rewritten, refresh_over_if}
 use Rattle.line_editor.specs.ModalCommands.{meeting_effect, meeting_at_rest, meeting_in_prefixes, meeting_after_tab, meeting_anew, meeting_in_list, meeting_in_cycle, meeting_in, meeting_in_search}
@@ -166,7 +166,7 @@ pop_keeps (Some lent) s v = either v (can_take_before lent.0 v.line) _ _ (kept r
 drawn_keeps : (b : Bool) (s : Setting) (v w : Value) → Keeps v w → Keeps v (refresh_effect_if b s w).value
 drawn_keeps b s v w h = either v b _ _ (kept h.saved h.history h.growth) h
 
-drawn_since_keeps : (from : Option ℕ) (b : Bool) (s : Setting) (v w : Value) → Keeps v w → Keeps v (refresh_effect_since_if from b s w).value
+drawn_since_keeps : (from : Option Since) (b : Bool) (s : Setting) (v w : Value) → Keeps v w → Keeps v (refresh_effect_since_if from b s w).value
 drawn_since_keeps from b s v w h = either v b _ _ (kept h.saved h.history h.growth) h
 
 rewritten_keeps : (over : Bool) (from upto : ℕ) (b : Bool) (s : Setting) (v w : Value) → Keeps v w → Keeps v (refresh_over_if over from upto b s w).value

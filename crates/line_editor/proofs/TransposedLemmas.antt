@@ -1,14 +1,21 @@
 -- In a plain line the transposed clusters are two bytes.
-use Rattle.std.proofs.Common.{◌≡◌, ℕ, zero, suc, ◌+◌, ◌-◌, ◌<◌, ◌≤◌, ◌==◌, nat_lt, not, Bool, true, false, List, [], ◌∷◌, ◌++◌, take, drop, length, unwrap_or, refl, sym, ap, ap₂, ◌∙◌, arith, if◌then◌else◌}
+use Rattle.std.proofs.Common.{◌≡◌, ℕ, zero, suc, ◌+◌, ◌-◌, ◌<◌, ◌≤◌, ◌==◌, nat_lt, nat_le, not, Bool, true, false, ◌&&◌, List, [], ◌∷◌, ◌++◌, take, drop, length, unwrap_or, Option, Some, None, refl, sym, ap, ap₂, ◌∙◌, subst, arith, if◌then◌else◌}
 use Rattle.std.specs.Prelude.{slice_range}
 use Rattle.std.specs.List.{list_all}
-use Rattle.std.proofs.lemmas.Bool.{and_parts, and_from, eqb-false, eq-eqb, ne_eqb, ltb-true, ltb-false, not-true}
+use Rattle.std.specs.Str.{IsCharBoundary}
+use Rattle.std.proofs.lemmas.Bool.{and_parts, and_from, eqb-false, eq-eqb, leb-true, ne_eqb, ltb-true, ltb-false, not-true}
 use Rattle.std.proofs.lemmas.List.{length-append, length-map, take-append-drop}
 use Rattle.line_buffer.specs.Clusters.{place_backward}
+use Rattle.line_buffer.specs.declared.layout.Position.{Position}
 use Rattle.line_buffer.specs.Line.{Line, text_before, text_after, with_cursor_at, with_replacement}
 use Rattle.line_buffer.specs.Printable.{is_printable, is_plain}
 use Rattle.line_buffer.specs.Transpositions.{between_clusters, clusters_at, clusters_around, later_first, transposes_chars, transpose_chars_line}
+use Rattle.line_editor.specs.Inserting.{is_bare}
+use Rattle.line_editor.specs.KnownPlaces.{IsKnown}
+use Rattle.line_editor.specs.Rewriting.{has_letters, may_be_rewritten}
 use Rattle.line_editor.specs.Transforms.{pair_end}
+use Rattle.line_editor.specs.Values.{Value, Setting}
+use Rattle.line_editor.proofs.KnownLemmas.{Begins, behind_place, known_at, known_nothing, plain_boundary}
 use Rattle.line_editor.proofs.PlainClusters.{clusters_plain, plain_split, one_back, one_on}
 
 -- ---- two bytes of a text
@@ -115,3 +122,51 @@ module _ (l : Line) (plain : is_plain l.text ≡ true) (done : transposes_chars 
             let parts = and_parts (is_printable t.a) (list_all is_printable (t.b ∷ [])) (ap (list_all is_printable) (sym gone_is) ∙ ap₂ (λ x y. list_all is_printable (slice_range text x y)) (sym from) (sym found.1) ∙ h) in
             ap (list_all is_printable) letters_are ∙ and_from (is_printable t.b) (list_all is_printable (t.a ∷ [])) (and_parts (is_printable t.b) true parts.1).0 (and_from (is_printable t.a) true parts.0 refl);
       }
+
+-- ---- the text before them stays, and what is known of it
+
+-- the line is plain, and has them
+pub record Pair (l : Line) : Type 0 where
+  pub plain : is_plain l.text ≡ true
+  pub low : pair_end l ≤ length l.text
+
+pair_of : (s : Setting) (v : Value) → may_be_rewritten s (pair_end v.line - 2) (pair_end v.line) v ≡ true → Pair v.line
+pair_of s v may =
+    let end = pair_end v.line in
+    let gone = slice_range v.line.text (end - 2) end in
+    let b = and_parts (is_bare v) (is_plain v.line.text && (nat_le end (length v.line.text) && list_all is_printable gone)) (and_parts s.config.partial_redraw (has_letters (end - 2) end v) may).1 in
+    let d = and_parts (is_plain v.line.text) (nat_le end (length v.line.text) && list_all is_printable gone) b.1 in
+    record { plain = d.0; low = leb-true end (length v.line.text) (and_parts (nat_le end (length v.line.text)) (list_all is_printable gone) d.1).0 }
+
+pub pair_over : (over : Bool) (from end : ℕ) (s : Setting) (v : Value) → end ≡ pair_end v.line → from ≡ end - 2 → over ≡ may_be_rewritten s from end v → over ≡ true → Pair v.line
+pair_over over from end s v end_is from_is over_is h =
+    pair_of s v (sym (ap (λ x. may_be_rewritten s x end v) from_is ∙ ap (λ y. may_be_rewritten s (y - 2) y v) end_is) ∙ sym over_is ∙ h)
+
+pub pair_boundary : (l : Line) → Pair l → IsCharBoundary l.text (pair_end l - 2)
+pair_boundary l p = plain_boundary l.text (pair_end l - 2) p.plain (let low = p.low in omega arith)
+
+pair_begins : (l : Line) → Pair l → Begins (pair_end l - 2) l.text (transpose_chars_line l).text
+pair_begins l p = by_test (transposes_chars l) refl
+  where
+    by_test : (b : Bool) → transposes_chars l ≡ b → Begins (pair_end l - 2) l.text (transpose_chars_line l).text
+    by_test true e =
+        let x = exchanged l p.plain e p.low in
+        subst (λ (m : Line). Begins (pair_end l - 2) l.text m.text) (sym x.line) (behind_place (pair_end l - 2) (pair_end l) l.text x.letters (let low = p.low in omega arith))
+    by_test false e =
+        let same : transpose_chars_line l ≡ l = ap (λ b. let parts = clusters_at (between_clusters l) in if b then with_replacement parts.0 parts.2 (later_first parts l.text) l else l) e in
+        subst (λ (m : Line). Begins (pair_end l - 2) l.text m.text) (sym same) (record { low = let low = p.low in omega arith; same = refl })
+
+module _ (measure : List ℕ → Position → Position) (start : Position) (l : Line) where
+  abbrev before_pair : ℕ × Position
+  before_pair = (pair_end l - 2, measure (take (pair_end l - 2) l.text) start)
+
+  pair_if : (after : Line) → after ≡ transpose_chars_line l → (b : Bool) → (b ≡ true → Pair l) → IsKnown measure start after.text (if b then Some before_pair else None)
+  pair_if after made true has =
+      let begins = subst (λ (m : Line). Begins (pair_end l - 2) l.text m.text) (sym made) (pair_begins l (has refl)) in
+      known_at measure start after.text before_pair.0 before_pair.1 begins.low (ap (λ t. measure t start) (sym begins.same))
+  pair_if after made false has = known_nothing measure start after.text
+
+  pub pair_known : (after : Line) (over : Bool) (from : ℕ) (kept : Option (ℕ × Position)) → after ≡ transpose_chars_line l → (over ≡ true → Pair l) → from ≡ pair_end l - 2
+      → kept ≡ (if over then Some (from, measure (take from l.text) start) else None) → IsKnown measure start after.text kept
+  pair_known after over from kept made has at is =
+      subst (IsKnown measure start after.text) (sym (is ∙ ap (λ n. if over then Some (n, measure (take n l.text) start) else None) at)) (pair_if after made over has)

@@ -61,7 +61,7 @@ use Rattle.line_editor.specs.Moving.{cursor_moved_if, to_found, to_place, move_h
 use Rattle.line_editor.specs.History.{with_saved_line, at_place, value_on_leaving, recall, value_with_entry, value_from_saved, hit_effect, history_step, history_end, history_search}
 use Rattle.line_editor.specs.Returns.{ValueStep, value_after, value_after_all, BegunSound, UndoesAll}
 use Rattle.line_editor.specs.Returns.ValueStep.{Done, Asked, Met}
-use Rattle.line_editor.specs.Drawing.{since, refresh_effect, refresh_effect_if, refresh_effect_since_if}
+use Rattle.line_editor.specs.Drawing.{Since, since, refresh_effect, refresh_effect_if, refresh_effect_since_if}
 use Rattle.line_editor.specs.Transforms.{edit_word_effect, pair_end}
 use Rattle.line_editor.specs.Rewriting.{may_be_rewritten, refresh_over_if}
 use Rattle.line_editor.specs.ModalCommands.{meeting_at_rest, meeting_in_prefixes, meeting_after_tab, meeting_anew, meeting_in_list, meeting_in_cycle, meeting_in, meeting_in_search}
@@ -219,7 +219,7 @@ pop_reached (Some lent) s v first ok r =
 drawn_reached : (b : Bool) (s : Setting) (v : Value) (first : List ℕ) → Reached first v → Reached first (refresh_effect_if b s v).value
 drawn_reached b s v first r = either first b _ _ r r
 
-drawn_since_reached : (from : Option ℕ) (b : Bool) (s : Setting) (v : Value) (first : List ℕ) → Reached first v → Reached first (refresh_effect_since_if from b s v).value
+drawn_since_reached : (from : Option Since) (b : Bool) (s : Setting) (v : Value) (first : List ℕ) → Reached first v → Reached first (refresh_effect_since_if from b s v).value
 drawn_since_reached from b s v first r = either first b _ _ r r
 
 rewritten_reached : (over : Bool) (from upto : ℕ) (b : Bool) (s : Setting) (v : Value) (first : List ℕ) → Reached first v → Reached first (refresh_over_if over from upto b s v).value

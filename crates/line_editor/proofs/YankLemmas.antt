@@ -1,6 +1,6 @@
 -- A text put in, and what is drawn then.
 use Rattle.std.proofs.Common.{◌≡◌, ℕ, ◌||◌, Bool, true, false, List, [], ◌∷◌, refl, sym, ap, ◌∙◌, if◌then◌else◌}
-use Rattle.std.specs.Prelude.{⊤, ◌&&◌, not, Option, Some, None, is_some, Result, Ok, Err, IsErrAnd}
+use Rattle.std.specs.Prelude.{⊤, Option, is_some, Result, Ok, Err, IsErrAnd}
 use Rattle.line_buffer.specs.Insertions.{yank as yanked_in}
 use Rattle.line_buffer.specs.Line.{Line}
 use Rattle.line_buffer.specs.declared.types.Anchor.{Anchor}
@@ -16,8 +16,7 @@ use Rattle.line_help.specs.declared.helpers.hint as hints
 use Rattle.line_help.specs.declared.helpers.highlight as highlights
 use Rattle.line_help.specs.declared.helpers.validate as verdicts
 use Rattle.line_help.specs.declared.history as histories
-use Rattle.line_editor.specs.Characters.{begins_apart_at}
-use Rattle.line_editor.specs.Drawing.{since, refresh_effect_since}
+use Rattle.line_editor.specs.Drawing.{Since, since, refresh_effect_since}
 use Rattle.line_editor.specs.States.{value_of, setting_of, surface_of, Stays, Does}
 use Rattle.line_editor.specs.EditSteps.{SameBeside}
 use Rattle.line_editor.specs.Values.{Value, Setting, Effect, Transition, then_do, no_effect, value_with_edit, line_and_record_of, at_line}
@@ -36,12 +35,12 @@ pub is_put : {E : Type 0} (b : Bool) (text : List ℕ) (n : ℕ) (v : Value) (ol
 is_put b text n v old new put same wrote found = ap (λ (w : Written). is_some (yanked_in text n w.line).answer) (sym same) ∙ ap is_some (sym wrote.writes.answers) ∙ found
 
 -- the line is drawn behind an edit of it
-abbrev drawn_behind_edit : Option ℕ → Value → WriteSteps ⊤ → Value → Setting → Effect
+abbrev drawn_behind_edit : Option Since → Value → WriteSteps ⊤ → Value → Setting → Effect
 drawn_behind_edit from stands edit w s = record { value = (refresh_effect_since from s w).value; steps = Edits stands edit ∷ (refresh_effect_since from s w).steps }
 
 module _ {Out H Hi K T : Type 0} {renderer : renderers.Renderer.Ghosts Out} {completer : completions.Completer.Ghosts H K} {candidate : completions.Candidate.Ghosts K}
     {hinter : hints.Hinter.Ghosts H T} {hint : hints.Hint.Ghosts T} {highlighter : highlights.Highlighter.Ghosts H} {validator : verdicts.Validator.Ghosts H} {history : histories.History.Ghosts Hi} where
-  put_drawn : {A : Type 0} (from : Option ℕ) (whole : Transition) (stands : Value) (edit : WriteSteps ⊤) (s m t : State Out H Hi K T renderer completer candidate hinter hint highlighter validator history) (result : Result A ReadlineError)
+  put_drawn : {A : Type 0} (from : Option Since) (whole : Transition) (stands : Value) (edit : WriteSteps ⊤) (s m t : State Out H Hi K T renderer completer candidate hinter hint highlighter validator history) (result : Result A ReadlineError)
       → drawn_behind_edit from stands edit (value_of m) (setting_of s) ≡ whole (setting_of s) (value_of s) → surface_of m ≡ surface_of s → Stays s m → Does (refresh_effect_since from) m t result → Does whole s t result
   put_drawn from whole stands edit s m t result is surface stays done =
       let first : Transition = λ a v. record { value = value_of m; steps = Edits stands edit ∷ [] } in
@@ -53,11 +52,8 @@ module _ {Out H Hi K T : Type 0} {renderer : renderers.Renderer.Ghosts Out} {com
 abbrev there : Anchor → Value → Value
 there anchor v = at_line (line_at_anchor anchor v.line) v
 
-abbrev since_in : Bool → Bool → List ℕ → ℕ → Option ℕ
-since_in partial marked text at = if partial && (not marked && begins_apart_at text at) then Some at else None
-
 -- up to there the line stays
-abbrev up_to : Anchor → Setting → Value → Option ℕ
+abbrev up_to : Anchor → Setting → Value → Option Since
 up_to anchor s v = since s (there anchor v).line.place v
 
 yank_is : (b vi : Bool) (text : List ℕ) (anchor : Anchor) (n : ℕ) (s : Setting) (v : Value) → (is_some (yanked_in text n (there anchor v).line).answer || steps_over anchor v.line) ≡ b
@@ -84,16 +80,8 @@ module _ {Out H Hi K T : Type 0} {renderer : renderers.Renderer.Ghosts Out} {com
   at_anchor anchor s l line text =
       ap (λ x. record { line = x; held = record_on s.recorded.changes l.text }) line ∙ ap (λ t. record { line = line_at_anchor anchor s.recorded.line; held = record_on s.recorded.changes t }) text
 
-  -- the place is that of the line with the cursor over there
-  pub since_anchor : (anchor : Anchor) (s : State Out H Hi K T renderer completer candidate hinter hint highlighter validator history) (l : Line) (at : ℕ) (from : Option ℕ)
-      → l ≡ line_at_anchor anchor s.recorded.line → l.text ≡ s.recorded.line.text → at ≡ l.place → from ≡ since_in (setting_of s).config.partial_redraw s.highlight_char l.text at
-      → from ≡ up_to anchor (setting_of s) (value_of s)
-  since_anchor anchor s l at from line text place is =
-      let of = since_in (setting_of s).config.partial_redraw s.highlight_char in
-      is ∙ ap (of l.text) place ∙ ap (λ t. of t l.place) text ∙ ap (λ (x : Line). of s.recorded.line.text x.place) line
-
   -- it was put in, or the cursor went over a cluster: the line is drawn
-  pub yank_shown : {A E : Type 0} (mode vi b : Bool) (text : List ℕ) (anchor : Anchor) (n : ℕ) (from : Option ℕ) (s m t : State Out H Hi K T renderer completer candidate hinter hint highlighter validator history) (old new : RecordedLine) (put : Option Bool)
+  pub yank_shown : {A E : Type 0} (mode vi b : Bool) (text : List ℕ) (anchor : Anchor) (n : ℕ) (from : Option Since) (s m t : State Out H Hi K T renderer completer candidate hinter hint highlighter validator history) (old new : RecordedLine) (put : Option Bool)
       (result : Result A ReadlineError) → line_and_record_in old ≡ line_and_record_of (there anchor (value_of s)) → EditsRecorded {E = E} (yank_steps text n old.line) old new (Ok put)
       → is_some put ≡ b → (b || steps_over anchor s.recorded.line) ≡ true → value_of m ≡ record (value_of s) { line = m.recorded.line; held = record_on new.changes m.recorded.line.text }
       → mode ≡ vi → m.recorded.line ≡ (if b then behind_yank mode new.line else new.line) → m.recorded.line.text ≡ new.line.text

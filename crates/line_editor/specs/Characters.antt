@@ -48,7 +48,7 @@ starts_apart text (c ∷ cs) = (c == 0x0A) || stands_apart text c
 -- the clusters of a text and those of the rest after it are the clusters of both. False means that
 -- this isn't known
 abbrev pub begins_apart : List ℕ → List ℕ → Bool
-begins_apart text rest = is_utf8 rest && starts_apart text (chars rest)
+begins_apart text rest = is_utf8 rest && (is_utf8 text && starts_apart text (chars rest))
 
 -- the same for the two parts of a text at one of its places
 abbrev pub begins_apart_at : List ℕ → ℕ → Bool

@@ -1,32 +1,60 @@
 -- The drawings of a value.
-use Rattle.std.specs.Prelude.{ℕ, ◌&&◌, ◌||◌, not, Bool, true, false, if◌then◌else◌, List, Option, None, Some}
+use Rattle.std.specs.Prelude.{ℕ, ◌&&◌, ◌||◌, Bool, true, false, if◌then◌else◌, List, [], length, Option, None, Some, option_copied}
+use Rattle.std.specs.Borrow.{Bor}
+use Rattle.line_help.specs.declared.helpers.style.Span.{Span}
+use Rattle.line_help.specs.declared.helpers.style.Style.{Style}
 use Rattle.line_keys.specs.declared.command.CmdKind.{CmdKind}
 use Rattle.line_keys.specs.declared.command.CmdKind.TheVariants.{Other}
 use Rattle.line_editor.specs.Characters.{begins_apart_at}
 use Rattle.line_editor.specs.Redraws.{Redraw}
 use Rattle.line_editor.specs.Redraws.Redraw.{Drawn, DrawnFrom, Moved, ToEnd, Beeped, Cleared}
-use Rattle.line_editor.specs.Values.{Value, Setting, Transition, no_effect, then_do, draw_effect, hint_reply, help_steps, with_hint, without_hint, with_mark, shown_hint}
+use Rattle.line_editor.specs.SharedStyles.{told_styles, shared_styles, AreFirst}
+use Rattle.line_editor.specs.Sights.{drawn_spans}
+use Rattle.line_editor.specs.Values.{Value, Setting, Transition, no_effect, then_do, draw_effect, shown_marks, hint_reply, help_steps, with_hint, without_hint, with_mark, shown_hint}
 
 -- the line with its hint after the session's own prompt
 abbrev pub redraw_of : Setting → Value → Redraw
 redraw_of s v = Drawn s.prompt true v.line.text v.line.place (shown_hint v)
 
--- whether the line may be drawn from a place on: it has no styles, and no cluster lies over the place
-abbrev pub may_begin_at : ℕ → Value → Bool
-may_begin_at from v = not v.marked && begins_apart_at v.line.text from
+-- the spans of the line, if it is drawn with styles
+abbrev pub line_spans : Setting → Value → List Span
+line_spans s v =
+    (drawn_spans (shown_marks v s.marks) true s.prompt v.line.text v.line.place []).line
 
--- the place up to which a change leaves the line, if the line before it may be drawn from there on
-abbrev pub since : Setting → ℕ → Value → Option ℕ
-since s from v = if s.config.partial_redraw && may_begin_at from v then Some from else None
+-- whether these are noted of it
+abbrev pub AreNoted : Setting → Value → Option (Bor (List Span)) → Type 0
+AreNoted s v noted = AreFirst (length v.line.text) (line_spans s v) (option_copied noted)
 
--- the line with its hint, drawn from such a place on, if the line after the change may be
-abbrev pub redraw_since : Option ℕ → Setting → Value → Redraw
+-- the place up to which a change leaves the line, and the styles of the bytes before it, as far as
+-- they are told
+pub record Since : Type 0 where
+  pub from : ℕ
+  pub styles : List Style
+
+-- that place, if no cluster lies over it in the line before the change
+abbrev pub since : Setting → ℕ → Value → Option Since
+since s from v =
+    if s.config.partial_redraw && begins_apart_at v.line.text from
+    then Some (record { from = from; styles = told_styles from (line_spans s v) }) else None
+
+-- the place up to which the line surely keeps its styles, too
+abbrev pub kept_upto : Since → Setting → Value → ℕ
+kept_upto before s v = shared_styles before.styles (told_styles before.from (line_spans s v))
+
+-- whether the line may be drawn from there on: no cluster lies over either place in it
+abbrev pub may_begin_at : ℕ → Since → Value → Bool
+may_begin_at kept before v =
+    begins_apart_at v.line.text before.from && begins_apart_at v.line.text kept
+
+-- the line with its hint, drawn from such a place on, if it may be
+abbrev pub redraw_since : Option Since → Setting → Value → Redraw
 redraw_since None s v = redraw_of s v
-redraw_since (Some from) s v =
-    if may_begin_at from v
-    then DrawnFrom s.prompt from v.line.text v.line.place (shown_hint v) else redraw_of s v
+redraw_since (Some before) s v =
+    let kept = kept_upto before s v in
+    if may_begin_at kept before v
+    then DrawnFrom s.prompt kept v.line.text v.line.place (shown_hint v) else redraw_of s v
 
-abbrev pub draw_effect_since : Option ℕ → Transition
+abbrev pub draw_effect_since : Option Since → Transition
 draw_effect_since from s v = draw_effect (redraw_since from s v) s v
 
 -- drawn after a prompt, with the current hint
@@ -60,11 +88,11 @@ abbrev pub refresh_effect : Transition
 refresh_effect = then_do ask_anew_effect repaint_effect
 
 -- the same after a change that leaves the line up to a place
-abbrev pub refresh_effect_since : Option ℕ → Transition
+abbrev pub refresh_effect_since : Option Since → Transition
 refresh_effect_since from = then_do ask_anew_effect (draw_effect_since from)
 
 -- if something changed
-abbrev pub refresh_effect_since_if : Option ℕ → Bool → Transition
+abbrev pub refresh_effect_since_if : Option Since → Bool → Transition
 refresh_effect_since_if from changes s v =
     if changes then refresh_effect_since from s v else no_effect s v
 

@@ -7,7 +7,7 @@ use Rattle.line_buffer.specs.Line.{Line}
 use Rattle.line_edits.specs.Edits.{char_steps, text_steps, replace_group_if_any, overwrite_steps, by}
 use Rattle.line_buffer.specs.Printable.{is_printable, is_plain, is_typed_at_end}
 use Rattle.line_editor.specs.Characters.{stands_apart}
-use Rattle.line_editor.specs.Drawing.{since, redraw_since, ask_anew_effect, refresh_effect_since, refresh_effect_since_if}
+use Rattle.line_editor.specs.Drawing.{Since, since, redraw_since, ask_anew_effect, refresh_effect_since, refresh_effect_since_if}
 use Rattle.line_editor.specs.Redraws.{Redraw}
 use Rattle.line_editor.specs.Redraws.Redraw.{Typed, Appended, PutIn}
 use Rattle.line_editor.specs.Values.{Value, Setting, Transition, no_effect, then_do, draw_effect, value_with_edit, edit_effect}
@@ -55,18 +55,18 @@ abbrev pub way_if_bare : Way → Value → Way
 way_if_bare way v = if is_bare v then way else Whole
 
 -- the drawing of an inserted character, before which the line may stay up to a place
-abbrev pub put_redraw : Way → ℕ → Option ℕ → Setting → Value → Redraw
+abbrev pub put_redraw : Way → ℕ → Option Since → Setting → Value → Redraw
 put_redraw AtEnd c from s v = Typed s.prompt c v.line.text v.line.place
 put_redraw Alone c from s v = Appended s.prompt c v.line.text v.line.place
 put_redraw (Back d) c from s v = redraw_since from s v
 put_redraw Inside c from s v = PutIn s.prompt c v.line.text v.line.place
 put_redraw Whole c from s v = redraw_since from s v
 
-abbrev pub show_char_effect : ℕ → Way → Option ℕ → Transition
+abbrev pub show_char_effect : ℕ → Way → Option Since → Transition
 show_char_effect c way from s v = draw_effect (put_redraw (way_if_bare way v) c from s v) s v
 
 -- with a new hint
-abbrev pub show_inserted_effect : ℕ → Way → Option ℕ → Transition
+abbrev pub show_inserted_effect : ℕ → Way → Option Since → Transition
 show_inserted_effect c way from = then_do ask_anew_effect (show_char_effect c way from)
 
 abbrev pub insert_char : ℕ → ℕ → Transition

@@ -10,7 +10,7 @@ use Rattle.line_record.specs.Ring.{Ring, ring_all, ring_with_kill}
 use Rattle.line_edits.specs.Edits.{kill_steps, by}
 use Rattle.line_buffer.specs.Printable.{is_printable, is_plain, at_plain_end}
 use Rattle.line_editor.specs.Characters.{stands_apart}
-use Rattle.line_editor.specs.Drawing.{since, redraw_since, ask_anew_effect}
+use Rattle.line_editor.specs.Drawing.{Since, since, redraw_since, ask_anew_effect}
 use Rattle.line_editor.specs.Inserting.{is_bare, has_printable_rest, way_if_bare, insert_text}
 use Rattle.line_editor.specs.Redraws.{Redraw}
 use Rattle.line_editor.specs.Redraws.Redraw.{Taken, Erased, TakenOut}
@@ -67,19 +67,20 @@ kill_way s before l =
     (last_of_bare s.config.partial_redraw before)
 
 -- the drawing after a deletion of `count` bytes, before which the line may stay up to a place
-abbrev pub taken_redraw : Way → ℕ → Option ℕ → Setting → Value → Redraw
-taken_redraw AtEnd count from s v = Taken s.prompt count v.line.text v.line.place
+abbrev pub taken_redraw : Way → ℕ → Option Since → Setting → Value → Redraw
+taken_redraw AtEnd count from s v =
+    Taken s.prompt count s.config.partial_redraw v.line.text v.line.place
 taken_redraw Inside count from s v = TakenOut s.prompt count v.line.text v.line.place
 taken_redraw Alone count from s v = redraw_since from s v
 taken_redraw (Back c) count from s v = Erased s.prompt c v.line.text v.line.place
 taken_redraw Whole count from s v = redraw_since from s v
 
-abbrev pub show_taken_effect : ℕ → Way → Option ℕ → Transition
+abbrev pub show_taken_effect : ℕ → Way → Option Since → Transition
 show_taken_effect count way from s v =
     draw_effect (taken_redraw (way_if_bare way v) count from s v) s v
 
 -- with a new hint
-abbrev pub show_killed_effect : ℕ → Way → Option ℕ → Transition
+abbrev pub show_killed_effect : ℕ → Way → Option Since → Transition
 show_killed_effect count way from = then_do ask_anew_effect (show_taken_effect count way from)
 
 -- the same for a deletion from a value, which leaves the cursor where it was

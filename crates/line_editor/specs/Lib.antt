@@ -25,6 +25,7 @@ pub mod Returns
 pub mod Rewriting
 pub mod Transforms
 pub mod Searching
+pub mod SharedStyles
 pub mod LineRun
 pub mod Sights
 pub mod States

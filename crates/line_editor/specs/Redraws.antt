@@ -20,15 +20,16 @@ pub data Redraw : Type 0 where
   Typed : (prompt : List ℕ) (c : ℕ) (text : List ℕ) (place : ℕ) → Redraw
   -- a character typed at the end of a line, apart from it, with no information before or after it
   Appended : (prompt : List ℕ) (c : ℕ) (text : List ℕ) (place : ℕ) → Redraw
-  -- `count` printable characters deleted at the end of a plain line, with no information after it
-  Taken : (prompt : List ℕ) (count : ℕ) (text : List ℕ) (place : ℕ) → Redraw
+  -- `count` printable characters deleted at the end of a plain line, with no information after it.
+  -- `partial`: the line may be drawn in part, as in all that follow
+  Taken : (prompt : List ℕ) (count : ℕ) (partial : Bool) (text : List ℕ) (place : ℕ) → Redraw
   -- a character apart from a line deleted at its end, with no information after it
   Erased : (prompt : List ℕ) (c : ℕ) (text : List ℕ) (place : ℕ) → Redraw
   -- a printable character put into a plain line, with no information before or after it
   PutIn : (prompt : List ℕ) (c : ℕ) (text : List ℕ) (place : ℕ) → Redraw
   -- `count` printable characters of a plain line deleted, with no information before or after that
   TakenOut : (prompt : List ℕ) (count : ℕ) (text : List ℕ) (place : ℕ) → Redraw
-  -- drawn from a place on, before which the line is as it was drawn, without styles
+  -- drawn from a place on, before which the line is as it was drawn, with its styles
   DrawnFrom : (prompt : List ℕ) (from : ℕ) (text : List ℕ) (place : ℕ) (info : Option (List ℕ))
       → Redraw
   -- the printable characters of a plain line from one place up to another replaced by as many, with
@@ -156,7 +157,7 @@ rest_call r marks l from text place info =
     let at = r.measure (take from text) l.prompt_size in
     let new = layout_of r l.prompt_size true text place info in
     record {
-      calls = DrawRest (drop from text) info l.cursor at new marks ∷ [];
+      calls = DrawRest text from place info l.cursor at new marks ∷ [];
       layout = new;
     }
 
@@ -213,11 +214,13 @@ calls_of_redraw r marks l (Typed prompt c text place) =
     if may_type r l then char_call l c else full r marks l prompt true text place None
 calls_of_redraw r marks l (Appended prompt c text place) =
     if l.has_info then full r marks l prompt true text place None else append_call r l c
-calls_of_redraw r marks l (Taken prompt count text place) =
-    if may_take l count then erase_call l count else full r marks l prompt true text place None
+calls_of_redraw r marks l (Taken prompt count partial text place) =
+    if may_take l count then erase_call l count
+    else if partial then rest_call r marks l place text place None
+    else full r marks l prompt true text place None
 calls_of_redraw r marks l (Erased prompt c text place) =
     if may_erase r l c then erase_call l (r.measure (encode_utf8 c) origin).col
-    else full r marks l prompt true text place None
+    else rest_call r marks l place text place None
 calls_of_redraw r marks l (PutIn prompt c text place) =
     let rest = drop place text in
     if may_put_in r l rest then put_in_short r l c rest
@@ -226,7 +229,7 @@ calls_of_redraw r marks l (TakenOut prompt count text place) =
     let at = r.measure (take place text) l.prompt_size in
     let rest = drop place text in
     if may_take_out r l at count rest then taken_out_short l at count rest
-    else full r marks l prompt true text place None
+    else rest_call r marks l place text place None
 calls_of_redraw r marks l (DrawnFrom prompt from text place info) =
     rest_call r marks l from text place info
 calls_of_redraw r marks l (Rewritten prompt from upto text place) =
@@ -234,7 +237,7 @@ calls_of_redraw r marks l (Rewritten prompt from upto text place) =
     let letters = slice_range text from upto in
     if may_write_over r l at (length letters)
     then write_over_call l letters at (r.measure (take place text) l.prompt_size)
-    else full r marks l prompt true text place None
+    else rest_call r marks l from text place None
 calls_of_redraw r marks l (Bared prompt text place) =
     if l.default_prompt then nothing_asked l else full r marks l prompt true text place None
 calls_of_redraw r marks l ToEnd = move_calls l l.end

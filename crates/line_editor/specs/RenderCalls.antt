@@ -33,10 +33,10 @@ pub data Call : Type 0 where
   MoveAndDelete : (old new : Position) (count : ℕ) (rest : List ℕ) (finish : Position) → Call
   -- a text drawn behind what is drawn, from the drawing's end on
   Append : (text : List ℕ) (at : Position) → Call
-  -- a move to a cell inside the drawing, and the rest of the line drawn in place of what stands
-  -- from there on, with the information after it
-  DrawRest : (rest : List ℕ) (info : Option (List ℕ)) (old at : Position) (new : Layout)
-      (marks : Option Marks) → Call
+  -- a move to a cell inside the drawing, and the line's text from a place on drawn in place of what
+  -- stands from there on, with the information after it
+  DrawRest : (text : List ℕ) (from place : ℕ) (info : Option (List ℕ)) (old at : Position)
+      (new : Layout) (marks : Option Marks) → Call
   -- a move, letters written from there on over as many in their row, and the move to the cursor
   WriteOver : (letters : List ℕ) (old at new : Position) → Call
   ToLeftmost : Call

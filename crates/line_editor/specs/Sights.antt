@@ -6,6 +6,7 @@ use Rattle.line_editor.specs.Characters.{stands_apart, begins_apart}
 use Rattle.line_editor.specs.RenderCalls.{Marks}
 use Rattle.line_editor.specs.Redraws.{Redraw, info_text}
 use Rattle.line_editor.specs.Redraws.Redraw.{Drawn, Moved, Typed, Appended, Taken, Erased, PutIn, TakenOut, DrawnFrom, Bared, ToEnd, Beeped, Cleared, Rewritten}
+use Rattle.line_editor.specs.SharedStyles.{styles_to}
 use Rattle.line_editor.specs.Values.{Value, Setting, EditStep, shown_marks}
 use Rattle.line_editor.specs.Values.EditStep.{Draws}
 use Rattle.line_help.specs.Paints.{first_mark}
@@ -74,7 +75,7 @@ sight_drawn x marks (Drawn prompt given text place info) =
 sight_drawn x marks (Moved text place) = record x { place = place; ended = false }
 sight_drawn x marks (Typed prompt c text place) = sight_as marks prompt text place None
 sight_drawn x marks (Appended prompt c text place) = sight_as marks prompt text place None
-sight_drawn x marks (Taken prompt count text place) = sight_as marks prompt text place None
+sight_drawn x marks (Taken prompt count partial text place) = sight_as marks prompt text place None
 sight_drawn x marks (Erased prompt c text place) = sight_as marks prompt text place None
 sight_drawn x marks (PutIn prompt c text place) = sight_as marks prompt text place None
 sight_drawn x marks (TakenOut prompt count text place) = sight_as marks prompt text place None
@@ -95,6 +96,8 @@ sight x step = x
 pub record SameStyles (x : Sight) (marks : Option Marks) (prompt text : List ℕ)
     (place : ℕ) : Type 0 where
   pub unstyled : x.spans.line ≡ []
+  pub still : (drawn_spans marks true prompt text place []).line ≡ []
+  pub same_prompt : (drawn_spans marks true prompt text place []).prompt ≡ x.spans.prompt
   pub same : x.info ≡ None → drawn_spans marks true prompt text place [] ≡ x.spans
 
 pub record TypedFits (x : Sight) (prompt : List ℕ) (c : ℕ) (text : List ℕ)
@@ -157,7 +160,7 @@ pub record TakenOutFits (x : Sight) (prompt : List ℕ) (count : ℕ) (text : Li
   pub printable : list_all is_printable killed ≡ true
   pub prompt_is : prompt ≡ x.prompt
 
--- a line without styles before and after, of which the text before a place stays, with its clusters
+-- the text before a place stays, with its clusters and their styles
 pub record DrawnFromFits (x : Sight) (marks : Option Marks) (prompt : List ℕ) (from : ℕ)
     (text : List ℕ) (place : ℕ) (info : Option (List ℕ)) : Type 0 where
   pub before : List ℕ
@@ -169,8 +172,8 @@ pub record DrawnFromFits (x : Sight) (marks : Option Marks) (prompt : List ℕ) 
   pub gone_apart : begins_apart before gone ≡ true
   pub rest_apart : begins_apart before rest ≡ true
   pub prompt_is : prompt ≡ x.prompt
-  pub unstyled : x.spans.line ≡ []
-  pub still_unstyled : (drawn_spans marks true prompt text place (info_text info)).line ≡ []
+  pub same_styles : styles_to from (drawn_spans marks true prompt text place (info_text info)).line
+      ≡ styles_to from x.spans.line
   pub prompt_styles : (drawn_spans marks true prompt text place (info_text info)).prompt
       ≡ x.spans.prompt
 
@@ -201,7 +204,7 @@ FitsDrawn own x marks (Typed prompt c text place) =
 FitsDrawn own x marks (Appended prompt c text place) =
     (x.given ≡ true) × (prompt ≡ own) × (x.ended ≡ false) × AppendedFits x prompt c text place
     × SameStyles x marks prompt text place
-FitsDrawn own x marks (Taken prompt count text place) =
+FitsDrawn own x marks (Taken prompt count partial text place) =
     (x.given ≡ true) × (prompt ≡ own) × TakenFits x prompt count text place
     × SameStyles x marks prompt text place
 FitsDrawn own x marks (Erased prompt c text place) =
@@ -244,7 +247,7 @@ abbrev pub info_drawn : Option (List ℕ) → Redraw → Option (List ℕ)
 info_drawn info (Drawn prompt given text place new) = new
 info_drawn info (Typed prompt c text place) = None
 info_drawn info (Appended prompt c text place) = None
-info_drawn info (Taken prompt count text place) = None
+info_drawn info (Taken prompt count partial text place) = None
 info_drawn info (Erased prompt c text place) = None
 info_drawn info (PutIn prompt c text place) = None
 info_drawn info (TakenOut prompt count text place) = None

@@ -105,7 +105,7 @@ pub fn stands_apart(text: &str, c: char) -> bool
 
 /// Whether the rest of a text is known to leave the clusters before it as they are: there is none,
 /// or a newline or a character apart comes first.
-fn begins_apart(text: &str, rest: &str) -> bool
+pub fn begins_apart(text: &str, rest: &str) -> bool
     ensures { result ≡ begins_apart text.now rest.now }
 {
     match rest.chars().next() {

@@ -218,6 +218,7 @@ impl<'p, 'h, Out: Renderer, H: Helper + Drop, Hi: History> State<'p, 'h, Out, H,
     ghost use Rattle.line_editor.specs.Values.{hint_reply, with_hint, with_mark};
     ghost use Rattle.line_editor.specs.Drawing.{draw_effect_behind, draw_effect_with, repaint_effect, refresh_effect, refresh_effect_behind, message_effect, cursor_shown, cursor_moved, cursor_end_effect, beep_effect, clear_effect, clear_and_draw_effect};
     ghost use Rattle.line_editor.specs.Drawing.{hint_asked, ask_anew_effect};
+    ghost use Rattle.line_editor.specs.Inserting.{is_bare};
     ghost use Rattle.line_editor.specs.Values.{draw_effect};
     ghost use Rattle.line_editor.specs.Redraws.Redraw.{Typed, Appended, Taken, Erased, PutIn, TakenOut, Rewritten, Bared};
     ghost use Rattle.line_editor.specs.RenderCalls.Call.{ToLeftmost};
@@ -472,9 +473,12 @@ impl<'p, 'h, Out: Renderer, H: Helper + Drop, Hi: History> State<'p, 'h, Out, H,
     }
 
     /// Shows that `count` characters were deleted at the end. It erases the rest of the row, if
-    /// they were in it and nothing is shown after them.
+    /// they were in it and nothing is shown after them. Else all from there on is erased, if lines
+    /// may be drawn in part.
     pub(crate) fn show_short_taken(&mut self, count: usize) -> Result<(), ReadlineError>
-        ensures { Renders (λ s v. draw_effect (Taken s.prompt count v.line.text v.line.place) s v)
+        requires bare { is_bare (value_of self.old) ≡ true }
+        ensures { Renders (λ s v. draw_effect
+            (Taken s.prompt count s.config.partial_redraw v.line.text v.line.place) s v)
             self.old self.new result }
     {
         if may_take(&self.layout, count) {
@@ -487,12 +491,18 @@ impl<'p, 'h, Out: Renderer, H: Helper + Drop, Hi: History> State<'p, 'h, Out, H,
             self.layout.end = end;
             return Ok(());
         }
+        if self.config.partial_redraw() {
+            let left = self.recorded.line.pos();
+            return self.draw_from(left);
+        }
         self.draw_with(None)
     }
 
     /// Shows that a character was deleted at the end, apart from what is left. It erases the
     /// character's cells, if nothing is shown after them and others are before them in their row.
+    /// Else all from there on is erased.
     pub(crate) fn show_erased(&mut self, ch: char) -> Result<(), ReadlineError>
+        requires bare { is_bare (value_of self.old) ≡ true }
         ensures { Renders (λ s v. draw_effect
             (Erased s.prompt ch v.line.text v.line.place) s v)
             self.old self.new result }
@@ -509,7 +519,10 @@ impl<'p, 'h, Out: Renderer, H: Helper + Drop, Hi: History> State<'p, 'h, Out, H,
                 self.layout.end = to;
                 Ok(())
             }
-            _ => self.draw_with(None),
+            _ => {
+                let place = self.recorded.line.pos();
+                self.draw_from(place)
+            }
         }
     }
 
@@ -536,8 +549,10 @@ impl<'p, 'h, Out: Renderer, H: Helper + Drop, Hi: History> State<'p, 'h, Out, H,
     }
 
     /// Shows that `count` printable characters of a plain line were deleted from the cursor on: the
-    /// rest of the line moves back, if it is printable and nothing is shown after it.
+    /// rest of the line moves back, if it is printable and nothing is shown after it. Else it is
+    /// drawn.
     pub(crate) fn show_taken_out(&mut self, count: usize) -> Result<(), ReadlineError>
+        requires bare { is_bare (value_of self.old) ≡ true }
         ensures { Renders (λ s v. draw_effect
             (TakenOut s.prompt count v.line.text v.line.place) s v)
             self.old self.new result }
@@ -557,12 +572,14 @@ impl<'p, 'h, Out: Renderer, H: Helper + Drop, Hi: History> State<'p, 'h, Out, H,
             self.layout.end = end;
             return Ok(());
         }
-        self.draw_with(None)
+        self.draw_from(pos)
     }
 
     /// Shows that printable characters of a plain line were replaced by as many: they are written
-    /// over the old ones, if they don't fill their row and nothing is shown after the line.
+    /// over the old ones, if they don't fill their row and nothing is shown after the line. Else the
+    /// line is drawn from them on.
     pub(crate) fn show_rewritten(&mut self, from: usize, upto: usize) -> Result<(), ReadlineError>
+        requires bare { is_bare (value_of self.old) ≡ true }
         requires order { from ≤ upto }
         requires inside { upto ≤ length self.old.recorded.line.text }
         requires plain { is_plain self.old.recorded.line.text ≡ true }
@@ -581,7 +598,7 @@ impl<'p, 'h, Out: Renderer, H: Helper + Drop, Hi: History> State<'p, 'h, Out, H,
             self.layout.cursor = cursor;
             return Ok(());
         }
-        self.draw_with(None)
+        self.draw_from(from)
     }
 
     /// Draws the line without hint if another prompt than its own is shown.

@@ -6,6 +6,7 @@ ghost use Rattle.line_editor.specs.Characters.{stands_apart};
 use crate::characters::stands_apart;
 use crate::measured::known_within;
 use crate::renderer::Renderer;
+use crate::shared_styles::{FirstSpans, Since};
 use crate::state::State;
 use crate::way::Way;
 use line_buffer::{RepeatCount, is_printable, is_printable_text, is_simple};
@@ -15,6 +16,7 @@ use line_help::{Helper, History};
 #[tactic(auto, using(crate::proofs::StopsLemmas::edits_stop))]
 impl<'p, 'h, Out: Renderer, H: Helper + Drop, Hi: History> State<'p, 'h, Out, H, Hi> {
     ghost use Rattle.line_editor.specs.States.{value_of, setting_of, Does};
+    ghost use Rattle.line_editor.specs.Drawing.{AreNoted};
     ghost use Rattle.line_editor.specs.Inserting.{is_bare, has_printable_rest, may_be_typed, may_be_appended, may_be_put_in, insertion_way, way_if_bare, show_inserted_effect, insert_char, insert_text, replace_char, overwrite_char};
 
     /// Whether neither a hint nor a highlighted character is shown.
@@ -120,9 +122,9 @@ impl<'p, 'h, Out: Renderer, H: Helper + Drop, Hi: History> State<'p, 'h, Out, H,
         &mut self,
         ch: char,
         way: Way,
-        since: Option<usize>,
+        since: &Option<Since<'_>>,
     ) -> Result<(), ReadlineError>
-        ensures does { Does (show_inserted_effect ch way since) self.old self.new result }
+        ensures does { Does (show_inserted_effect ch way since.now) self.old self.new result }
     {
         self.ask_anew()?;
         match self.way_if_bare(way) {
@@ -138,9 +140,36 @@ impl<'p, 'h, Out: Renderer, H: Helper + Drop, Hi: History> State<'p, 'h, Out, H,
     pub fn edit_insert(&mut self, ch: char, n: RepeatCount) -> Result<(), ReadlineError>
         ensures does { Does (insert_char ch n) self.old self.new result }
     {
+        if self.highlight_char {
+            return self.insert_in_styles(ch, n);
+        }
+        self.insert_noted(ch, n, None)
+    }
+
+    /// The same in a line with styles, whose first spans are noted. Not inlined, so that other
+    /// lines need no frame for them.
+    #[inline(never)]
+    fn insert_in_styles(&mut self, ch: char, n: RepeatCount) -> Result<(), ReadlineError>
+        ensures does { Does (insert_char ch n) self.old self.new result }
+    {
+        let noted = self.line_spans(self.recorded.line.len());
+        self.insert_noted(ch, n, noted.as_ref())
+    }
+
+    /// The same by the first spans of the line, if it has styles.
+    #[inline]
+    fn insert_noted(
+        &mut self,
+        ch: char,
+        n: RepeatCount,
+        noted: Option<&FirstSpans>,
+    ) -> Result<(), ReadlineError>
+        requires noted { AreNoted (setting_of self.old) (value_of self.old) noted }
+        ensures does { Does (insert_char ch n) self.old self.new result }
+    {
         let way = self.insertion_way(ch, n);
         let pos = self.recorded.line.pos();
-        let since = self.since(pos);
+        let since = self.since(pos, noted);
         let known = known_within(pos, self.known);
         self.known = None;
         let inserted = self.recorded.insert_char(self.alloc, ch, n)?;
@@ -148,37 +177,90 @@ impl<'p, 'h, Out: Renderer, H: Helper + Drop, Hi: History> State<'p, 'h, Out, H,
         if inserted.is_none() {
             return Ok(());
         }
-        self.show_inserted(ch, way, since)
+        self.show_inserted(ch, way, &since)
     }
 
     /// Inserts a text at the cursor, which stays before it.
     pub fn edit_insert_text(&mut self, text: &str) -> Result<(), ReadlineError>
         ensures does { Does (insert_text text.now) self.old self.new result }
     {
+        if self.highlight_char {
+            return self.insert_text_in_styles(text);
+        }
+        self.insert_text_noted(text, None)
+    }
+
+    /// The same in a line with styles, whose first spans are noted. Not inlined, so that other
+    /// lines need no frame for them.
+    #[inline(never)]
+    fn insert_text_in_styles(&mut self, text: &str) -> Result<(), ReadlineError>
+        ensures does { Does (insert_text text.now) self.old self.new result }
+    {
+        let noted = self.line_spans(self.recorded.line.len());
+        self.insert_text_noted(text, noted.as_ref())
+    }
+
+    /// The same by the first spans of the line, if it has styles.
+    #[inline]
+    fn insert_text_noted(
+        &mut self,
+        text: &str,
+        noted: Option<&FirstSpans>,
+    ) -> Result<(), ReadlineError>
+        requires noted { AreNoted (setting_of self.old) (value_of self.old) noted }
+        ensures does { Does (insert_text text.now) self.old self.new result }
+    {
         if text.is_empty() {
             return Ok(());
         }
         let pos = self.recorded.line.pos();
-        let since = self.since(pos);
+        let since = self.since(pos, noted);
         let known = known_within(pos, self.known);
         self.known = None;
         self.recorded.insert_text(self.alloc, text)?;
         self.known = known;
-        self.refresh_since(since)
+        self.refresh_since(&since)
     }
 
     /// Replaces up to `n` clusters after the cursor by a character each.
     pub fn edit_replace_char(&mut self, ch: char, n: RepeatCount) -> Result<(), ReadlineError>
         ensures does { Does (replace_char ch n) self.old self.new result }
     {
+        if self.highlight_char {
+            return self.replace_char_in_styles(ch, n);
+        }
+        self.replace_char_noted(ch, n, None)
+    }
+
+    /// The same in a line with styles, whose first spans are noted. Not inlined, so that other
+    /// lines need no frame for them.
+    #[inline(never)]
+    fn replace_char_in_styles(&mut self, ch: char, n: RepeatCount) -> Result<(), ReadlineError>
+        ensures does { Does (replace_char ch n) self.old self.new result }
+    {
+        let noted = self.line_spans(self.recorded.line.len());
+        self.replace_char_noted(ch, n, noted.as_ref())
+    }
+
+    /// The same by the first spans of the line, if it has styles.
+    #[inline]
+    fn replace_char_noted(
+        &mut self,
+        ch: char,
+        n: RepeatCount,
+        noted: Option<&FirstSpans>,
+    ) -> Result<(), ReadlineError>
+        requires noted { AreNoted (setting_of self.old) (value_of self.old) noted }
+        ensures does { Does (replace_char ch n) self.old self.new result }
+    {
         let pos = self.recorded.line.pos();
-        let since = self.since(pos);
+        let since = self.since(pos, noted);
         let known = known_within(pos, self.known);
         self.known = None;
         let replaced = self.recorded.replace_chars(self.alloc, ch, n)?;
         self.known = known;
         if replaced {
-            self.refresh_since(since)
+            self.refresh_since(&since)
         } else {
             Ok(())
         }
@@ -188,14 +270,40 @@ impl<'p, 'h, Out: Renderer, H: Helper + Drop, Hi: History> State<'p, 'h, Out, H,
     pub fn edit_overwrite_char(&mut self, ch: char) -> Result<(), ReadlineError>
         ensures does { Does (overwrite_char ch) self.old self.new result }
     {
+        if self.highlight_char {
+            return self.overwrite_char_in_styles(ch);
+        }
+        self.overwrite_char_noted(ch, None)
+    }
+
+    /// The same in a line with styles, whose first spans are noted. Not inlined, so that other
+    /// lines need no frame for them.
+    #[inline(never)]
+    fn overwrite_char_in_styles(&mut self, ch: char) -> Result<(), ReadlineError>
+        ensures does { Does (overwrite_char ch) self.old self.new result }
+    {
+        let noted = self.line_spans(self.recorded.line.len());
+        self.overwrite_char_noted(ch, noted.as_ref())
+    }
+
+    /// The same by the first spans of the line, if it has styles.
+    #[inline]
+    fn overwrite_char_noted(
+        &mut self,
+        ch: char,
+        noted: Option<&FirstSpans>,
+    ) -> Result<(), ReadlineError>
+        requires noted { AreNoted (setting_of self.old) (value_of self.old) noted }
+        ensures does { Does (overwrite_char ch) self.old self.new result }
+    {
         let pos = self.recorded.line.pos();
-        let since = self.since(pos);
+        let since = self.since(pos, noted);
         let known = known_within(pos, self.known);
         self.known = None;
         let written = self.recorded.overwrite(self.alloc, ch)?;
         self.known = known;
         if written {
-            self.refresh_since(since)
+            self.refresh_since(&since)
         } else {
             Ok(())
         }

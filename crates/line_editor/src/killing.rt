@@ -10,6 +10,7 @@ ghost use Rattle.line_editor.specs.declared.way.Way.TheVariants.{AtEnd, Inside};
 use crate::characters::{last_char, stands_apart};
 use crate::measured::known_within;
 use crate::renderer::Renderer;
+use crate::shared_styles::{FirstSpans, Since};
 use crate::state::State;
 use crate::way::Way;
 use line_buffer::{Mode, Movement, TextSpan, is_printable_text};
@@ -21,7 +22,7 @@ use line_record::KillRing;
 #[tactic(auto, using(crate::proofs::StopsLemmas::edits_stop))]
 impl<'p, 'h, Out: Renderer, H: Helper + Drop, Hi: History> State<'p, 'h, Out, H, Hi> {
     ghost use Rattle.line_editor.specs.States.{value_of, setting_of, Does, Stays};
-    ghost use Rattle.line_editor.specs.Drawing.{since};
+    ghost use Rattle.line_editor.specs.Drawing.{AreNoted, since};
     ghost use Rattle.line_editor.specs.Inserting.{has_printable_rest};
     ghost use Rattle.line_editor.specs.Killing.{may_be_taken, may_be_taken_out, text_gone, last_of_bare, way_erased, show_killed_effect, kill_way, kill_effect, insert_text_if, replace, ring_with_kill_of, ring_with_copy};
 
@@ -112,13 +113,18 @@ impl<'p, 'h, Out: Renderer, H: Helper + Drop, Hi: History> State<'p, 'h, Out, H,
 
     /// The place at which a kill of a range leaves the cursor, if the line may be drawn from there
     /// on, and in part.
-    fn since_kill(&self, span: Option<TextSpan>) -> Option<usize>
+    fn since_kill<'s>(
+        &self,
+        span: Option<TextSpan>,
+        noted: Option<&'s FirstSpans>,
+    ) -> Option<Since<'s>>
+        requires noted { AreNoted (setting_of self.now) (value_of self.now) noted }
         ensures { result ≡ since (setting_of self.now)
             (deletion_line span self.now.recorded.line).place (value_of self.now) }
     {
         match span {
-            Some(span) => self.since(span.from),
-            None => self.since(self.recorded.line.pos()),
+            Some(span) => self.since(span.from, noted),
+            None => self.since(self.recorded.line.pos(), noted),
         }
     }
 
@@ -128,9 +134,9 @@ impl<'p, 'h, Out: Renderer, H: Helper + Drop, Hi: History> State<'p, 'h, Out, H,
         &mut self,
         count: usize,
         way: Way,
-        since: Option<usize>,
+        since: &Option<Since<'_>>,
     ) -> Result<(), ReadlineError>
-        ensures does { Does (show_killed_effect count way since) self.old self.new result }
+        ensures does { Does (show_killed_effect count way since.now) self.old self.new result }
     {
         self.ask_anew()?;
         match self.way_if_bare(way) {
@@ -159,11 +165,52 @@ impl<'p, 'h, Out: Renderer, H: Helper + Drop, Hi: History> State<'p, 'h, Out, H,
             (λ e. (ring.new ≡ ring_with_kill_of movement.now (value_of self.old) ring.old)
             ⊎ ((e ≡ ReadlineError.Memory) × (ring.new ≡ ring_without_kill movement.now ring.old))) }
     {
+        if self.highlight_char {
+            return self.kill_in_styles(movement, ring);
+        }
+        self.kill_noted(movement, ring, None)
+    }
+
+    /// The same in a line with styles, whose first spans are noted. Not inlined, so that other
+    /// lines need no frame for them.
+    #[inline(never)]
+    fn kill_in_styles(
+        &mut self,
+        movement: &Movement,
+        ring: &mut KillRing,
+    ) -> Result<(), ReadlineError>
+        ensures does { Does (kill_effect movement.now) self.old self.new result }
+        ensures ring { OnOk result
+            (ring.new ≡ ring_with_kill_of movement.now (value_of self.old) ring.old) }
+        ensures refused_ring { IfErr result
+            (λ e. (ring.new ≡ ring_with_kill_of movement.now (value_of self.old) ring.old)
+            ⊎ ((e ≡ ReadlineError.Memory) × (ring.new ≡ ring_without_kill movement.now ring.old))) }
+    {
+        let noted = self.line_spans(self.recorded.line.len());
+        self.kill_noted(movement, ring, noted.as_ref())
+    }
+
+    /// The same by the first spans of the line, if it has styles.
+    #[inline]
+    fn kill_noted(
+        &mut self,
+        movement: &Movement,
+        ring: &mut KillRing,
+        noted: Option<&FirstSpans>,
+    ) -> Result<(), ReadlineError>
+        requires noted { AreNoted (setting_of self.old) (value_of self.old) noted }
+        ensures does { Does (kill_effect movement.now) self.old self.new result }
+        ensures ring { OnOk result
+            (ring.new ≡ ring_with_kill_of movement.now (value_of self.old) ring.old) }
+        ensures refused_ring { IfErr result
+            (λ e. (ring.new ≡ ring_with_kill_of movement.now (value_of self.old) ring.old)
+            ⊎ ((e ≡ ReadlineError.Memory) × (ring.new ≡ ring_without_kill movement.now ring.old))) }
+    {
         let span = self.recorded.line.range_of(movement);
         let alone = self.may_be_taken(span);
         let inside = self.may_be_taken_out(span);
         let last = self.last_of_bare();
-        let since = self.since_kill(span);
+        let since = self.since_kill(span, noted);
         let before = self.recorded.line.len();
         let known = self.known_before(movement);
         self.known = None;
@@ -174,7 +221,7 @@ impl<'p, 'h, Out: Renderer, H: Helper + Drop, Hi: History> State<'p, 'h, Out, H,
         }
         let count = before - self.recorded.line.len();
         let way = self.kill_way(alone, inside, last, count);
-        self.show_killed(count, way, since)
+        self.show_killed(count, way, &since)
     }
 
     /// Inserts a text at the cursor, if there is one.

@@ -27,6 +27,7 @@ mod refreshing;
 pub mod renderer;
 mod rewriting;
 pub mod saved;
+mod shared_styles;
 mod starting;
 pub mod state;
 mod transforms;

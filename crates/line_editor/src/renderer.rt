@@ -114,24 +114,28 @@ pub trait Renderer: Drop {
         ensures makes { Makes canvas (Append text.now at) self.old self.new result }
         ensures end { IfOk result (λ end. end ≡ (canvas.ruler self.old).measure text.now at) };
 
-    /// Moves the cursor from `old` to `at`, a cell inside the drawing, and draws the rest of a line
-    /// and the hint or message after it in place of everything from there on. Then the cursor goes
-    /// to its place in the new layout.
+    /// Moves the cursor from `old` to `at`, a cell inside the drawing, and draws the line's text from
+    /// the place `from` on, and the hint or message after it, in place of everything from there on.
+    /// Then the cursor goes to its place in the new layout.
     ///
-    /// A highlighter is given if the display has colours; the rest of the line has no styles. The
-    /// text after it is a message if `told`, else a hint.
+    /// A highlighter is given if the display has colours. The text has the line's styles if it is
+    /// `marked`. The text after the line is a message if `told`, else a hint.
     fn refresh_rest<H: Highlighter>(
         &mut self,
-        rest: &str,
+        line: &LineBuffer,
+        from: usize,
         hint: Option<&str>,
         old: Position,
         at: Position,
         new_layout: &Layout,
         highlighter: Option<&H>,
+        marked: bool,
         told: bool,
     ) -> Result<(), ReadlineError>
-        ensures { Makes canvas (DrawRest rest.now (option_copied hint.entry) old at new_layout.now
-            (marks_seen false told (option_map H.marks (option_copied highlighter.entry))))
+        requires boundary { IsCharBoundary line.now.text from }
+        ensures { Makes canvas (DrawRest line.now.text from line.now.place
+            (option_copied hint.entry) old at new_layout.now
+            (marks_seen marked told (option_map H.marks (option_copied highlighter.entry))))
             self.old self.new result };
 
     /// Moves the cursor from `old` to `at`, writes letters from there on over as many in their row,

@@ -29,8 +29,10 @@ impl<'p, 'h, Out: Renderer, H: Helper + Drop, Hi: History> State<'p, 'h, Out, H,
         let end = pair_end(&self.recorded.line);
         let from = end.saturating_sub(2);
         let over = self.may_be_rewritten(from, end);
+        let known = self.known_over(over, from);
         self.known = None;
         let done = self.recorded.transpose_chars(self.alloc)?;
+        self.known = known;
         if done {
             self.refresh_over(over, from, end)
         } else {

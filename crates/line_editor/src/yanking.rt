@@ -4,12 +4,23 @@ ghost use Rattle.line_editor.specs.Yanking.{line_at_anchor, steps_over, behind_y
 
 use crate::measured::known_within;
 use crate::renderer::Renderer;
+use crate::shared_styles::FirstSpans;
 use crate::state::State;
 use line_buffer::{Anchor, LineBuffer, RepeatCount};
 use line_config::ReadlineError;
 use line_help::{Helper, History};
 use line_keys::{Decides, InputState};
 use line_record::KillRing;
+
+/// The place after the cluster at the cursor if a text is to go there, else the cursor's.
+fn place_at(line: &LineBuffer, anchor: Anchor) -> usize
+    ensures { result ≡ (line_at_anchor anchor line.now).place }
+{
+    match anchor {
+        Anchor::After => line.next_pos(1).unwrap_or(line.pos()),
+        Anchor::Before => line.pos(),
+    }
+}
 
 /// Steps over the cluster at the cursor if a text is to go after it. Returns whether there is one.
 fn step_on(line: &mut LineBuffer, anchor: Anchor) -> bool
@@ -35,7 +46,8 @@ fn step_back(line: &mut LineBuffer, vi_command: bool)
 
 #[tactic(auto, using(crate::proofs::StopsLemmas::edits_stop))]
 impl<'p, 'h, Out: Renderer, H: Helper + Drop, Hi: History> State<'p, 'h, Out, H, Hi> {
-    ghost use Rattle.line_editor.specs.States.{Does};
+    ghost use Rattle.line_editor.specs.States.{value_of, setting_of, Does};
+    ghost use Rattle.line_editor.specs.Drawing.{AreNoted};
     ghost use Rattle.line_editor.specs.Yanking.{yank_text, pop_text, yank_lent, pop_lent};
     ghost use Rattle.line_keys.specs.Modes.{is_vi_command};
     ghost use Rattle.line_record.specs.Ring.{ring_after_yank, ring_after_turn, yank_exchange};
@@ -52,21 +64,60 @@ impl<'p, 'h, Out: Renderer, H: Helper + Drop, Hi: History> State<'p, 'h, Out, H,
             (yank_text (is_vi_command input_state.now.mode input_state.now.input_mode)
             text.now anchor n) self.old self.new result }
     {
+        if self.highlight_char {
+            return self.yank_in_styles(input_state, text, anchor, n);
+        }
+        self.yank_noted(input_state, text, anchor, n, None)
+    }
+
+    /// The same in a line with styles, whose first spans are noted. Not inlined, so that other
+    /// lines need no frame for them.
+    #[inline(never)]
+    fn yank_in_styles<D: Decides>(
+        &mut self,
+        input_state: &InputState<'_, D>,
+        text: &str,
+        anchor: Anchor,
+        n: RepeatCount,
+    ) -> Result<(), ReadlineError>
+        ensures does { Does
+            (yank_text (is_vi_command input_state.now.mode input_state.now.input_mode)
+            text.now anchor n) self.old self.new result }
+    {
+        let noted = self.line_spans(self.recorded.line.len());
+        self.yank_noted(input_state, text, anchor, n, noted.as_ref())
+    }
+
+    /// The same by the first spans of the line, if it has styles.
+    #[inline]
+    fn yank_noted<D: Decides>(
+        &mut self,
+        input_state: &InputState<'_, D>,
+        text: &str,
+        anchor: Anchor,
+        n: RepeatCount,
+        noted: Option<&FirstSpans>,
+    ) -> Result<(), ReadlineError>
+        requires noted { AreNoted (setting_of self.old) (value_of self.old) noted }
+        ensures does { Does
+            (yank_text (is_vi_command input_state.now.mode input_state.now.input_mode)
+            text.now anchor n) self.old self.new result }
+    {
+        let from = place_at(&self.recorded.line, anchor);
+        let since = self.since(from, noted);
         let known = self.known;
         self.known = None;
         let recorded = &mut self.recorded;
         let stepped = step_on(&mut recorded.line, anchor);
-        let pos = self.recorded.line.pos();
-        let since = self.since(pos);
-        let recorded = &mut self.recorded;
+        let pos = recorded.line.pos();
         let put = recorded.yank(self.alloc, text, n)?;
         if put.is_some() {
             step_back(&mut recorded.line, input_state.is_vi_cmd_mode());
             self.known = known_within(pos, known);
-            return self.refresh_since(since);
+            return self.refresh_since(&since);
         }
         if stepped {
-            self.refresh_since(since)
+            self.refresh_since(&since)
         } else {
             Ok(())
         }
@@ -76,16 +127,43 @@ impl<'p, 'h, Out: Renderer, H: Helper + Drop, Hi: History> State<'p, 'h, Out, H,
     pub fn edit_yank_pop(&mut self, yank_size: usize, text: &str) -> Result<(), ReadlineError>
         ensures does { Does (pop_text yank_size text.now) self.old self.new result }
     {
+        if self.highlight_char {
+            return self.yank_pop_in_styles(yank_size, text);
+        }
+        self.yank_pop_noted(yank_size, text, None)
+    }
+
+    /// The same in a line with styles, whose first spans are noted. Not inlined, so that other
+    /// lines need no frame for them.
+    #[inline(never)]
+    fn yank_pop_in_styles(&mut self, yank_size: usize, text: &str) -> Result<(), ReadlineError>
+        ensures does { Does (pop_text yank_size text.now) self.old self.new result }
+    {
+        let noted = self.line_spans(self.recorded.line.len());
+        self.yank_pop_noted(yank_size, text, noted.as_ref())
+    }
+
+    /// The same by the first spans of the line, if it has styles.
+    #[inline]
+    fn yank_pop_noted(
+        &mut self,
+        yank_size: usize,
+        text: &str,
+        noted: Option<&FirstSpans>,
+    ) -> Result<(), ReadlineError>
+        requires noted { AreNoted (setting_of self.old) (value_of self.old) noted }
+        ensures does { Does (pop_text yank_size text.now) self.old self.new result }
+    {
         if !self.recorded.line.can_take_before(yank_size) {
             return Ok(());
         }
         let from = self.recorded.line.pos() - yank_size;
-        let since = self.since(from);
+        let since = self.since(from, noted);
         let known = known_within(from, self.known);
         self.known = None;
         self.recorded.yank_pop(self.alloc, yank_size, text)?;
         self.known = known;
-        self.refresh_since(since)
+        self.refresh_since(&since)
     }
 
     /// Yanks the ring's text.

@@ -1,27 +1,30 @@
 -- The place at which a text ends, from that of the text with a character apart from it at its end, and the other way round.
-use Rattle.std.proofs.Common.{◌≡◌, ℕ, ◌+◌, ◌-◌, ◌<◌, ◌≤◌, ◌==◌, nat_le, min, ⊎_elim, Bool, true, false, ◌&&◌, List, ◌++◌, Option, Some, None, refl, sym, ap, ◌∙◌, arith, if◌then◌else◌}
+use Rattle.std.proofs.Common.{◌≡◌, ℕ, ◌+◌, ◌<◌, ◌≤◌, ◌==◌, nat_le, min, ⊎_elim, Bool, true, false, ◌&&◌, List, [], ◌∷◌, ◌++◌, Option, Some, None, refl, sym, ap, ◌∙◌, subst, arith, if◌then◌else◌}
 use Rattle.std.specs.Prelude.{chars, encode_utf8, slice_index}
 use Rattle.std.specs.List.{last_or}
 use Rattle.std.specs.Str.{is_utf8}
-use Rattle.std.proofs.lemmas.Bool.{and_parts, cases_lt, false≢true}
+use Rattle.std.proofs.lemmas.Bool.{and_parts, cases_lt, false≢true, le-leb}
 use Rattle.line_buffer.specs.Cells.{origin}
 use Rattle.line_buffer.specs.declared.layout.GraphemeClusterMode.{GraphemeClusterMode}
 use Rattle.line_buffer.specs.declared.layout.Position.{Position}
 use Rattle.line_buffer.proofs.ListedRanges.{apart}
-use Rattle.line_editor.specs.Characters.{is_apart, ends_apart, stands_apart}
+use Rattle.line_editor.specs.Characters.{is_apart, is_wide, ends_apart, stands_apart, begins_apart}
 use Rattle.line_screen.specs.Display.{right}
-use Rattle.line_screen.specs.Drawing.{DrawnItem, Widths, drawn_cluster, is_letter, is_tab, item_of_cluster, drawn_item, text_items, next_row, leave, after_one, place_after}
+use Rattle.line_screen.specs.Drawing.{DrawnItem, Widths, drawn_cluster, is_letter, is_tab, item_of_cluster, drawn_item, text_items, next_row, fit, leave, after_one, place_after}
 use Rattle.line_screen.specs.Drawing.DrawnItem.{NewRow, Letter, Cluster, Tab}
 use Rattle.line_screen.specs.Measure.{widths_by, position_within_limit, in_row, measure_of}
+use Rattle.line_screen.proofs.ApartLemmas.{apart_scalar}
+use Rattle.line_screen.proofs.Draws.{Fits, AllFit, after_col}
 use Rattle.line_screen.proofs.EncodedChars.{encode_one, encode_two, encode_three, encode_four}
-use Rattle.line_screen.proofs.Fitting.{after_inside, items_fit}
+use Rattle.line_screen.proofs.Fitting.{after_inside, items_fit, one_inside}
 use Rattle.line_screen.proofs.Items.{drawn_by, other_by}
-use Rattle.line_screen.proofs.ItemsApart.{char_items, items_apart}
+use Rattle.line_screen.proofs.ItemsApart.{char_items, items_apart, items_parted}
 use Rattle.line_screen.proofs.KnownLemmas.{start_inside, stays_inside_row}
-use Rattle.line_screen.proofs.Moves.{place}
 use Rattle.line_screen.proofs.RowsKept.{leave_grows}
 use Rattle.line_screen.proofs.Saturating.{after_saturated}
 use Rattle.line_screen.proofs.Shift.{after-append}
+use Rattle.line_screen.proofs.WideLemmas.{wide_item}
+use Rattle.line_screen.proofs.WideRuns.{wide_col}
 
 -- ---- an item whose columns don't depend on its place
 
@@ -64,6 +67,38 @@ item_stays columns (Cluster bytes width) at h row more =
     let own : (after_one columns (Cluster bytes width) origin).col ≡ width = ap (λ p. p.col) own_end ∙ first_stays width ((right width origin).col == columns) (ap (λ p. p.row) (sym own_end) ∙ row) in
     cluster_stays columns width at (nat_le (at.col + width) columns) (omega (arith, own, more)) ∙ ap (λ n. right n at) (sym own)
 item_stays columns (Tab apart) at h row more = absurd (false≢true h)
+
+-- ---- any place of such an item
+
+one_fits : (columns : ℕ) (at : Position) → at.col < columns → leave columns (right 1 at) ≡ leave columns (right 1 (fit columns 1 at))
+one_fits columns at low = ap (λ b. leave columns (right 1 (if b then at else next_row at))) (sym (le-leb (at.col + 1) columns (omega (arith, low))))
+
+-- its own drawing ends in its first row, behind its columns
+record Cells (columns : ℕ) (item : DrawnItem) (width : ℕ) : Type 0 where
+  some : 1 ≤ width
+  narrow : width < columns
+  last : (at : Position) → at.col < columns → after_one columns item at ≡ leave columns (right width (fit columns width at))
+
+cells_of : (columns : ℕ) (clusters : List ℕ → Option ℕ) (item : DrawnItem) → 1 ≤ columns → Fits columns clusters item → is_untabbed item ≡ true → (after_one columns item origin).row ≡ 0
+    → Cells columns item (after_one columns item origin).col
+cells_of columns clusters NewRow some h untabbed row = absurd (omega (arith, row))
+cells_of columns clusters (Letter c) some h untabbed row =
+    let own : (after_one columns (Letter c) origin).col ≡ 1 = first_stays 1 ((right 1 origin).col == columns) row in
+    record {
+      some = omega (arith, own);
+      narrow = one_inside columns clusters (Letter c) origin h some;
+      last = λ at low. one_fits columns at low ∙ ap (λ n. leave columns (right n (fit columns n at))) (sym own);
+    }
+cells_of columns clusters (Cluster bytes width) some h untabbed row =
+    let first = first_fits columns width (nat_le (origin.col + width) columns) row in
+    let own_end : after_one columns (Cluster bytes width) origin ≡ leave columns (right width origin) = ap (λ b. leave columns (right width (if b then origin else next_row origin))) first in
+    let own : (after_one columns (Cluster bytes width) origin).col ≡ width = ap (λ p. p.col) own_end ∙ first_stays width ((right width origin).col == columns) (ap (λ p. p.row) (sym own_end) ∙ row) in
+    record {
+      some = omega (arith, own, h.some);
+      narrow = one_inside columns clusters (Cluster bytes width) origin h some;
+      last = λ at low. ap (λ n. leave columns (right n (fit columns n at))) (sym own);
+    }
+cells_of columns clusters (Tab stops) some h untabbed row = absurd (false≢true untabbed)
 
 -- ---- a character apart is one
 
@@ -127,30 +162,64 @@ module _ (mode : GraphemeClusterMode) (tab : Option ℕ) (columns : ℕ) (some :
   both_end front c from h =
       ap (λ is. place_after columns is from) (items_apart wide front c h) ∙ after-append columns (text_items wide front) (text_items wide (encode_utf8 c)) from
 
-  pub one_more : (front : List ℕ) (c : ℕ) (from : Position) → stands_apart front c ≡ true
-      → measure_of mode tab columns (encode_utf8 c) (measure_of mode tab columns front from) ≡ measure_of mode tab columns (front ++ encode_utf8 c) from
-  one_more front c from h =
+  -- a text that begins apart, from where the one before it ends
+  pub more_behind : (front rest : List ℕ) (from : Position) → begins_apart front rest ≡ true
+      → measure_of mode tab columns rest (measure_of mode tab columns front from) ≡ measure_of mode tab columns (front ++ rest) from
+  more_behind front rest from h =
       let start = in_row columns from in
-      let items = text_items wide (encode_utf8 c) in
+      let items = text_items wide rest in
       let there = place_after columns (text_items wide front) start in
       let inside : there.col < columns = after_inside columns wide.cluster (text_items wide front) start (items_fit mode tab columns some front) (start_inside columns from some) in
       ap (λ p. position_within_limit (place_after columns items p)) (stays_inside_row columns (position_within_limit there) inside)
       ∙ after_saturated columns items there
-      ∙ ap position_within_limit (sym (both_end front c start h))
+      ∙ ap position_within_limit (sym (ap (λ is. place_after columns is start) (items_parted wide front rest h) ∙ after-append columns (text_items wide front) items start))
 
-  pub one_less : (front : List ℕ) (c : ℕ) (from at end : Position) → stands_apart front c ≡ true
-      → at ≡ measure_of mode tab columns (front ++ encode_utf8 c) from → end ≡ measure_of mode tab columns (encode_utf8 c) origin → end.row ≡ 0 → end.col < at.col
-      → place (at.col - end.col) at.row ≡ measure_of mode tab columns front from
-  one_less front c from at end h at_is end_is row more =
+  -- the columns of a character whose own drawing ends in its first row
+  char_cells : (c : ℕ) (end : Position) → is_apart c ≡ true → end ≡ measure_of mode tab columns (encode_utf8 c) origin → end.row ≡ 0
+      → Cells columns (drawn_item wide (encode_utf8 c)) end.col
+  char_cells c end h end_is row =
+      let bytes = encode_utf8 c in
+      let item = drawn_item wide bytes in
+      let own = after_one columns item origin in
+      let own_is : end ≡ position_within_limit own = end_is ∙ own_end c h in
+      let own_row : min own.row 65535 ≡ 0 = ap (λ (p : Position). p.row) (sym own_is) ∙ row in
+      let all : AllFit columns wide.cluster (item ∷ []) = subst (AllFit columns wide.cluster) (char_items wide c h) (items_fit mode tab columns some bytes) in
+      subst (Cells columns item) (ap (λ (p : Position). p.col) (sym own_is))
+      (cells_of columns wide.cluster item some all.0 (item_untabbed wide bytes (is_letter bytes) (no_tab c h)) (omega (arith, own_row)))
+
+  pub own_some : (c : ℕ) (end : Position) → is_apart c ≡ true → end ≡ measure_of mode tab columns (encode_utf8 c) origin → end.row ≡ 0 → 0 < end.col
+  own_some c end h end_is row = (char_cells c end h end_is row).some
+
+  pub own_narrow : (c : ℕ) (end : Position) → is_apart c ≡ true → end ≡ measure_of mode tab columns (encode_utf8 c) origin → end.row ≡ 0 → end.col < columns
+  own_narrow c end h end_is row = (char_cells c end h end_is row).narrow
+
+  -- the place before a character, if it is known by the columns and the end of the character's drawing
+  pub one_less : (front : List ℕ) (c : ℕ) (from at end before : Position) → stands_apart front c ≡ true
+      → at ≡ measure_of mode tab columns (front ++ encode_utf8 c) from → end ≡ measure_of mode tab columns (encode_utf8 c) origin → end.row ≡ 0
+      → ((there : Position) → there.col < columns → position_within_limit there ≡ measure_of mode tab columns front from → at ≡ position_within_limit (leave columns (right end.col (fit columns end.col there))) → before ≡ position_within_limit there)
+      → before ≡ measure_of mode tab columns front from
+  one_less front c from at end before h at_is end_is row known =
       let start = in_row columns from in
       let there = place_after columns (text_items wide front) start in
-      let last = place_after columns (text_items wide (encode_utf8 c)) there in
-      let own = measure_of mode tab columns (encode_utf8 c) origin in
-      let last_is : at ≡ position_within_limit last = at_is ∙ ap position_within_limit (both_end front c start h) in
-      let col_is : at.col ≡ last.col = ap (λ p. p.col) last_is in
-      let own_col : end.col ≡ own.col = ap (λ p. p.col) end_is in
-      let stays : last ≡ right own.col there = cells_before c there (apart_of front c h) (ap (λ p. p.row) (sym end_is) ∙ row) (omega (arith, col_is, own_col, more)) in
-      let at_there : at ≡ position_within_limit (right own.col there) = last_is ∙ ap position_within_limit stays in
-      let at_col : at.col ≡ there.col + own.col = ap (λ p. p.col) at_there in
-      let back : at.col - end.col ≡ there.col = omega (arith, at_col, own_col) in
-      ap (λ n. place n at.row) back ∙ ap (λ (p : Position). place there.col p.row) at_there
+      let inside : there.col < columns = after_inside columns wide.cluster (text_items wide front) start (items_fit mode tab columns some front) (start_inside columns from some) in
+      let cells = char_cells c end (apart_of front c h) end_is row in
+      known there inside refl
+      (at_is ∙ ap position_within_limit (both_end front c start h)
+      ∙ ap (λ is. position_within_limit (place_after columns is there)) (char_items wide c (apart_of front c h))
+      ∙ ap position_within_limit (cells.last there inside))
+
+  -- a wide character at the end
+  pub wide_more : 2 ≤ columns → (front : List ℕ) (c : ℕ) (from : Position) → stands_apart front c ≡ true → is_wide c ≡ true
+      → (measure_of mode tab columns (front ++ encode_utf8 c) from).col ≡ wide_col columns (measure_of mode tab columns front from).col
+  wide_more room front c from h w =
+      let start = in_row columns from in
+      let bytes = encode_utf8 c in
+      let there = place_after columns (text_items wide front) start in
+      let one = apart_of front c h in
+      ap (λ (p : Position). p.col)
+      (both_end front c start h
+      ∙ ap (λ is. place_after columns is there) (char_items wide c one ∙ ap (λ item. item ∷ []) (wide_item mode tab columns c room (apart_scalar c one) w)))
+      ∙ after_col columns (Cluster bytes 2) there
+
+  pub wide_inside : (text : List ℕ) (from : Position) → (measure_of mode tab columns text from).col < columns
+  wide_inside text from = after_inside columns wide.cluster (text_items wide text) (in_row columns from) (items_fit mode tab columns some text) (start_inside columns from some)

@@ -68,7 +68,7 @@ prepend_if true x rows = refl
 prepend_if false x [] = refl
 prepend_if false x (row ∷ rows) = refl
 
-rows_are : (text : List ℕ) → split_rows text ≡ prepend [] (split_rows text)
+pub rows_are : (text : List ℕ) → split_rows text ≡ prepend [] (split_rows text)
 rows_are [] = refl
 rows_are (x ∷ text) = prepend_if (x == 0x0A) x (split_rows text)
 
@@ -125,10 +125,10 @@ char_inside c h = ⊎_elim one (λ some. ⊎_elim (two some) (λ more. ⊎_elim 
         ∙ and_from (is_inside (240 + c / 262144)) (list_all is_inside ((128 + (c / 4096) % 64) ∷ (128 + (c / 64) % 64) ∷ (128 + c % 64) ∷ [])) (high_inside (240 + c / 262144) (omega arith))
         (and_from (is_inside (128 + (c / 4096) % 64)) (list_all is_inside ((128 + (c / 64) % 64) ∷ (128 + c % 64) ∷ [])) (high_inside (128 + (c / 4096) % 64) (omega arith)) (last_two c))
 
-split_char : (c : ℕ) (rest : List ℕ) → (c == 0x0A) ≡ false → split_rows (encode_utf8 c ++ rest) ≡ prepend (encode_utf8 c) (split_rows rest)
+pub split_char : (c : ℕ) (rest : List ℕ) → (c == 0x0A) ≡ false → split_rows (encode_utf8 c ++ rest) ≡ prepend (encode_utf8 c) (split_rows rest)
 split_char c rest h = split_inside (encode_utf8 c) rest (char_inside c h)
 
-split_newline : (c : ℕ) (rest : List ℕ) → (c == 0x0A) ≡ true → split_rows (encode_utf8 c ++ rest) ≡ [] ∷ split_rows rest
+pub split_newline : (c : ℕ) (rest : List ℕ) → (c == 0x0A) ≡ true → split_rows (encode_utf8 c ++ rest) ≡ [] ∷ split_rows rest
 split_newline c rest h =
     ap (λ bytes. split_rows (bytes ++ rest)) (ap encode_utf8 (eqb-true c 0x0A h) ∙ encode_one 0x0A (omega arith))
     ∙ slice_split-cons_yes (λ c. c == 0x0A) 0x0A rest refl
@@ -338,9 +338,10 @@ module _ (wide : Widths) where
 
   pub items_parted : (text rest : List ℕ) → begins_apart text rest ≡ true → text_items wide (text ++ rest) ≡ text_items wide text ++ text_items wide rest
   items_parted text rest h =
-      let both = and_parts (is_utf8 rest) (starts_apart text (chars rest)) h in
+      let both = and_parts (is_utf8 rest) (is_utf8 text && starts_apart text (chars rest)) h in
       let utf8 = IsUtf8-from_is_utf8 rest both.0 in
-      subst (λ bytes. text_items wide (text ++ bytes) ≡ text_items wide text ++ text_items wide bytes) (encodes-chars rest utf8) (by (chars rest) (scalars-chars rest utf8) both.1)
+      let starts = (and_parts (is_utf8 text) (starts_apart text (chars rest)) both.1).1 in
+      subst (λ bytes. text_items wide (text ++ bytes) ≡ text_items wide text ++ text_items wide bytes) (encodes-chars rest utf8) (by (chars rest) (scalars-chars rest utf8) starts)
     where
       by : (cs : List ℕ) → all_scalars cs ≡ true → starts_apart text cs ≡ true → text_items wide (text ++ encode_utf8_all cs) ≡ text_items wide text ++ text_items wide (encode_utf8_all cs)
       by [] s e = ap (text_items wide) (append-nil text) ∙ sym (append-nil (text_items wide text))

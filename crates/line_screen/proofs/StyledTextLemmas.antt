@@ -175,7 +175,7 @@ skip_if : (n : ℕ) (s : SgrSpan) (spans : List SgrSpan) (b : Bool) → nat_lt n
 skip_if n s spans true e h = drop_span n s.len s.style (byte_styles spans) (ltb-true n s.len e)
 skip_if n s spans false e h = h ∙ drop_past n s.len s.style (byte_styles spans) (ltb-false n s.len e)
 
-skip_is : (n : ℕ) (spans : List SgrSpan) → byte_styles (skip n spans) ≡ drop n (byte_styles spans)
+pub skip_is : (n : ℕ) (spans : List SgrSpan) → byte_styles (skip n spans) ≡ drop n (byte_styles spans)
 skip_is n [] = sym (drop_none n)
 skip_is n (s ∷ spans) = skip_if n s spans (nat_lt n s.len) refl (skip_is (n - s.len) spans)
 
@@ -192,7 +192,7 @@ left_if : (n : ℕ) (s : SgrSpan) (spans : List SgrSpan) → is_style s.style �
 left_if n s spans is h k true = and_from _ _ is h
 left_if n s spans is h k false = k
 
-skip_styles : (n : ℕ) (spans : List SgrSpan) → are_styles spans ≡ true → are_styles (skip n spans) ≡ true
+pub skip_styles : (n : ℕ) (spans : List SgrSpan) → are_styles spans ≡ true → are_styles (skip n spans) ≡ true
 skip_styles n [] h = refl
 skip_styles n (s ∷ spans) h =
     let parts = and_parts (is_style s.style) (are_styles spans) h in
@@ -339,7 +339,7 @@ module _ (wide : Widths) where
       let parts = and_parts (is_printable c) (list_all is_printable row) h in
       ap₂ ◌∷◌ (sym (letter_item (c ∷ []) parts.0)) (letters_bare row parts.1)
 
-  items_if : (row : List ℕ) (b : Bool) → list_all is_printable row ≡ b
+  pub items_if : (row : List ℕ) (b : Bool) → list_all is_printable row ≡ b
       → map (drawn_item wide) (if b then map (λ c. c ∷ []) row else graphemes true row) ≡ (if b then map Letter row else map (drawn_item wide) (graphemes true row))
   items_if row true e = letters_bare row e
   items_if row false e = refl

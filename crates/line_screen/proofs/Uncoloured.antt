@@ -15,13 +15,13 @@ use Rattle.line_config.specs.declared.settings.BellStyle.{BellStyle}
 use Rattle.line_config.specs.declared.settings.BellStyle.TheVariants as Bells
 use Rattle.line_editor.specs.RenderCalls.{Call, Ruler}
 use Rattle.line_editor.specs.RenderCalls.Call.{Draw, Move, Write, Beep, ClearScreen, ClearRows, ClearToEol, MoveAndClearToEol, InsertChar, MoveAndDelete, Append, DrawRest, ToLeftmost, Help, WriteOver}
-use Rattle.line_editor.specs.Redraws.{Redraw, RedrawCalls, calls_of_redraw, full, info_text, may_type, may_take, may_erase, may_put_in, may_take_out, move_call, nothing_asked, char_call, append_call, erase_call, put_in_short, taken_out_short, may_write_over, write_over_call}
+use Rattle.line_editor.specs.Redraws.{Redraw, RedrawCalls, calls_of_redraw, full, rest_call, info_text, may_type, may_take, may_erase, may_put_in, may_take_out, move_call, nothing_asked, char_call, append_call, erase_call, put_in_short, taken_out_short, may_write_over, write_over_call}
 use Rattle.line_editor.specs.Redraws.Redraw.{Drawn, DrawnFrom, Moved, Typed, Appended, Taken, Erased, PutIn, TakenOut, Bared, ToEnd, Beeped, Cleared, Rewritten}
 use Rattle.line_editor.specs.Values.{shown_marks}
 use Rattle.line_screen.specs.ScreenCalls.{Screen, bytes_of, bell_bytes, old_row, drawing_bytes, ruler_of}
 use Rattle.line_screen.specs.Chain.{View, Good, Picture, Inside, Replaces, LeadsView, TakesOut, DrawsRest, picture_of_line, cursor_of}
 use Rattle.line_screen.specs.ColourLaws.{BeginsNoStyle, has_no_marks, UnmarkedCallsBeginNone, ScreensWithoutColours, Uncoloured}
-use Rattle.line_screen.specs.Colours.{no_styles, painted_text, bytes_of_all_painted, rest_drawing}
+use Rattle.line_screen.specs.Colours.{no_styles, all_unpainted, painted_text, bytes_of_all_painted, rest_drawing}
 use Rattle.line_screen.specs.Display.{Placed, is_text, right}
 use Rattle.line_screen.specs.Drawing.{DrawnItem, Widths, blanks, text_items, no_style, in_fence, break_if, break_unless, fitted_col, cluster_in_fence, bytes_of_item, col_after_one, bytes_of_items, col_after, control_sequence, erase_to_end, erase_to_row_end, open_cell, take_cells_out, row_break, left_col, begin_inserting, end_inserting, put_in, pushed_on, put_and_pushed, begins_two_rows, insertion_bytes, pulled_back, deletion_bytes, place_after_insertion, place_after_deletion, row_move, col_move, move_bytes, clearing_bytes, shown_text, drawing, is_step_back, short_move}
 use Rattle.line_screen.specs.Drawing.DrawnItem.{NewRow, Letter, Cluster, Tab}
@@ -309,28 +309,30 @@ module _ (mode : GraphemeClusterMode) (tab : Option ℕ) (columns : ℕ) (some :
       let painted = bytes_of_all_painted columns (painted_text wide [] (c ∷ text)) col in
       then_plain (no_style ++ painted) (free_then no_style painted refl (subst IsFree (sym (plain_text columns wide (c ∷ text) col)) (part_free (c ∷ text) col)))
 
-  rest_free : (rest info : List ℕ) (old at finish cursor : Position) → Inside columns old → Inside columns at → Inside columns finish → Inside columns cursor
-      → IsFree (rest_drawing columns wide rest info [] old at finish cursor)
-  rest_free rest info old at finish cursor from to last back =
-      let items = text_items wide rest in
+  rest_free : (text : List ℕ) (upto : ℕ) (info : List ℕ) (old at finish cursor : Position) → Inside columns old → Inside columns at → Inside columns finish → Inside columns cursor
+      → IsFree (rest_drawing columns wide no_styles text upto info old at finish cursor)
+  rest_free text upto info old at finish cursor from to last back =
+      let rest = drop upto text in
+      let items = painted_text wide [] rest in
       let col = (in_row columns at).col in
-      let new = bytes_of_items columns items col in
-      let behind = in_fence info (bytes_of_all_painted columns (painted_text wide [] info) (col_after columns items col)) in
+      let next = col_after columns (all_unpainted items) col in
+      let new = bytes_of_all_painted columns items col in
+      let behind = in_fence info (bytes_of_all_painted columns (painted_text wide [] info) next) in
       free_then (move_bytes old at ++ (erase_to_end ++ (new ++ behind))) (move_bytes finish cursor)
       (free_then (move_bytes old at) (erase_to_end ++ (new ++ behind)) (move_free old at from to)
-      (free_then erase_to_end (new ++ behind) refl (free_then new behind (part_free rest col) (info_free info (col_after columns items col)))))
+      (free_then erase_to_end (new ++ behind) refl (free_then new behind (subst IsFree (sym (plain_text columns wide rest col)) (part_free rest col)) (info_free info next))))
       (move_free finish cursor last back)
 
-  rest_call_free : (rest info : List ℕ) (old at finish cursor : Position) (a b : View) → Inside columns a.place → Inside columns b.place → DrawsRest columns wide rest info [] old at finish cursor a b
-      → IsFree (rest_drawing columns wide rest info [] old at finish cursor)
-  rest_call_free rest info old at finish cursor a b here there h =
+  rest_call_free : (text : List ℕ) (upto : ℕ) (info : List ℕ) (old at finish cursor : Position) (a b : View) → Inside columns a.place → Inside columns b.place
+      → DrawsRest columns wide no_styles text upto info old at finish cursor a b → IsFree (rest_drawing columns wide no_styles text upto info old at finish cursor)
+  rest_call_free text upto info old at finish cursor a b here there h =
       let fits = items_fit mode tab columns some in
       let v = a.shown in
       let at_col : (cursor_of columns wide (picture_of_line v h.before)).col < columns =
       after_inside columns wide.cluster (text_items wide v.prompt ++ text_items wide (take (length h.before) h.before)) origin (fit_append mode tab columns some (text_items wide v.prompt) (text_items wide (take (length h.before) h.before)) (fits v.prompt) (fits (take (length h.before) h.before))) some in
       let plain : Picture = record b.shown { styles = no_styles } in
       let able = drawable mode tab columns some plain no_styles_are (subst (λ p. p.row < 2 ^ 64) h.finish_is h.finish_row) (subst (λ p. p.row < 2 ^ 64) h.cursor_is h.cursor_row) in
-      rest_free rest info old at finish cursor (subst (Inside columns) (sym h.from) here) (record { row = h.at_row; col = subst (λ p. p.col < columns) (sym h.at_is) at_col })
+      rest_free text upto info old at finish cursor (subst (Inside columns) (sym h.old_is) here) (record { row = h.at_row; col = subst (λ p. p.col < columns) (sym h.at_is) at_col })
       (subst (Inside columns) (sym h.finish_is) able.finish) (subst (Inside columns) (ap (λ (w : View). w.place) h.view) there)
 
 -- ---- calls
@@ -375,8 +377,8 @@ call_free s some few a b (MoveAndDelete old new count rest finish) here there h 
     (deletion_free s.columns count few (cut_small s few h.0 b count rest finish h.2) some new.col new.col rest new_in.col new_col letters.1)
     (move_low (place_after_deletion new finish) new from.0 from.1 new_in.row new_col))
 call_free s some few a b (Append text at) here there h plain = part_free s.mode s.tab s.columns some few text (in_row s.columns at).col
-call_free s some few a b (DrawRest rest info old at new None) here there h plain = rest_call_free s.mode s.tab s.columns some few rest (info_text info) old at new.end new.cursor a b here there h
-call_free s some few a b (DrawRest rest info old at new (Some m)) here there h plain = absurd (false≢true plain)
+call_free s some few a b (DrawRest text from place info old at new None) here there h plain = rest_call_free s.mode s.tab s.columns some few text from (info_text info) old at new.end new.cursor a b here there h
+call_free s some few a b (DrawRest text from place info old at new (Some m)) here there h plain = absurd (false≢true plain)
 call_free s some few a b (WriteOver letters old at new) here there h plain =
     let w = h.2 in
     let at_in = h.1.inside in
@@ -414,19 +416,22 @@ asked_plain r l (Drawn prompt given text place info) = refl
 asked_plain r l (Moved text place) = let cursor = r.measure (take place text) l.prompt_size in either_plain (same_cell l.cursor cursor) (nothing_asked l) (move_call l cursor) refl refl
 asked_plain r l (Typed prompt c text place) = either_plain (may_type r l) (char_call l c) (full r None l prompt true text place None) refl refl
 asked_plain r l (Appended prompt c text place) = either_plain l.has_info (full r None l prompt true text place None) (append_call r l c) refl refl
-asked_plain r l (Taken prompt count text place) = either_plain (may_take l count) (erase_call l count) (full r None l prompt true text place None) refl refl
-asked_plain r l (Erased prompt c text place) = either_plain (may_erase r l c) (erase_call l (r.measure (encode_utf8 c) origin).col) (full r None l prompt true text place None) refl refl
+asked_plain r l (Taken prompt count partial text place) =
+    let rest = rest_call r None l place text place None in
+    let whole = full r None l prompt true text place None in
+    either_plain (may_take l count) (erase_call l count) (if partial then rest else whole) refl (either_plain partial rest whole refl refl)
+asked_plain r l (Erased prompt c text place) = either_plain (may_erase r l c) (erase_call l (r.measure (encode_utf8 c) origin).col) (rest_call r None l place text place None) refl refl
 asked_plain r l (PutIn prompt c text place) =
     let rest = drop place text in either_plain (may_put_in r l rest) (put_in_short r l c rest) (full r None l prompt true text place None) refl refl
 asked_plain r l (TakenOut prompt count text place) =
     let at = r.measure (take place text) l.prompt_size in
     let rest = drop place text in
-    either_plain (may_take_out r l at count rest) (taken_out_short l at count rest) (full r None l prompt true text place None) refl refl
+    either_plain (may_take_out r l at count rest) (taken_out_short l at count rest) (rest_call r None l place text place None) refl refl
 asked_plain r l (DrawnFrom prompt from text place info) = refl
 asked_plain r l (Rewritten prompt from upto text place) =
     let at = r.measure (take from text) l.prompt_size in
     let letters = slice_range text from upto in
-    either_plain (may_write_over r l at (length letters)) (write_over_call l letters at (r.measure (take place text) l.prompt_size)) (full r None l prompt true text place None) refl refl
+    either_plain (may_write_over r l at (length letters)) (write_over_call l letters at (r.measure (take place text) l.prompt_size)) (rest_call r None l from text place None) refl refl
 asked_plain r l (Bared prompt text place) = either_plain l.default_prompt (nothing_asked l) (full r None l prompt true text place None) refl refl
 asked_plain r l ToEnd = either_plain (same_cell l.cursor l.end) (nothing_asked l) (move_call l l.end) refl refl
 asked_plain r l Beeped = refl

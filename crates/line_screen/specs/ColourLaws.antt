@@ -43,7 +43,7 @@ BeginsNoStyle bytes =
 -- a call doesn't draw with a highlighter
 abbrev pub has_no_marks : Call → Bool
 has_no_marks (Draw prompt text place info old new marks) = not (is_some marks)
-has_no_marks (DrawRest rest info old at new marks) = not (is_some marks)
+has_no_marks (DrawRest text from place info old at new marks) = not (is_some marks)
 has_no_marks call = true
 
 -- the bytes of calls without a highlighter begin no style

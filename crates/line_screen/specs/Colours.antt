@@ -14,8 +14,9 @@ use Rattle.line_help.specs.Paints.{Marks, first_mark}
 use Rattle.line_screen.specs.declared.drawing.painted.Brush as brush
 use Rattle.line_screen.specs.declared.drawing.painted.Spans as spans
 use Rattle.line_screen.specs.declared.drawing.coloured.Painting as painting
+use Rattle.line_screen.specs.declared.drawing.rest.Rest as rest
 use Rattle.line_screen.specs.Styles.{numbers}
-use Rattle.line_screen.specs.Drawing.{SendsTo, DrawnItem, Widths, blanks, is_letter, drawn_item, split_rows, row_break, no_style, break_if, break_unless, fitted_col, bytes_of_item, bytes_of_items, col_after, text_items, in_fence, erase_to_end, clearing_bytes, move_bytes}
+use Rattle.line_screen.specs.Drawing.{SendsTo, DrawnItem, Widths, blanks, is_letter, drawn_item, split_rows, row_break, no_style, break_if, break_unless, fitted_col, bytes_of_item, col_after, in_fence, erase_to_end, clearing_bytes, move_bytes}
 use Rattle.line_screen.specs.Drawing.DrawnItem.{NewRow, Letter, Cluster, Tab}
 use Rattle.line_screen.specs.Measure.{in_row}
 
@@ -219,25 +220,29 @@ painted_bytes columns wide styles None prompt line info finish cursor =
 painted_bytes columns wide styles (Some row) prompt line info finish cursor =
     painted_full_drawing columns wide styles row prompt line info finish cursor
 
--- the rest of a line without styles, in a column, and what stands after it
-abbrev pub rest_bytes : ℕ → Widths → List ℕ → List ℕ → List SgrSpan → ℕ → List ℕ
-rest_bytes columns wide rest info spans col =
-    let items = text_items wide rest in
-    bytes_of_items columns items col
-    ++ in_fence info (bytes_of_all_painted columns (painted_text wide spans info)
-    (col_after columns items col))
+-- a text from a place on, with what is left of its spans there
+abbrev pub painted_rest : Widths → List SgrSpan → List ℕ → ℕ → List PaintedItem
+painted_rest wide spans text from = painted_text wide (skip from spans) (drop from text)
+
+-- the rest of a line from a place on, in a column, and what stands after it
+abbrev pub rest_bytes : ℕ → Widths → Styles → List ℕ → ℕ → List ℕ → ℕ → List ℕ
+rest_bytes columns wide styles text from info col =
+    let items = painted_rest wide styles.line text from in
+    bytes_of_all_painted columns items col
+    ++ in_fence info (bytes_of_all_painted columns (painted_text wide styles.info info)
+    (col_after columns (all_unpainted items) col))
 
 -- a move, everything from there on erased, and the rest drawn there
-abbrev pub rest_from : ℕ → Widths → List ℕ → List ℕ → List SgrSpan → Position → Position → List ℕ
-rest_from columns wide rest info spans old at =
+abbrev pub rest_from : ℕ → Widths → Styles → List ℕ → ℕ → List ℕ → Position → Position → List ℕ
+rest_from columns wide styles text from info old at =
     move_bytes old at
-    ++ (erase_to_end ++ rest_bytes columns wide rest info spans (in_row columns at).col)
+    ++ (erase_to_end ++ rest_bytes columns wide styles text from info (in_row columns at).col)
 
 -- then the move to the cursor
-abbrev pub rest_drawing : ℕ → Widths → List ℕ → List ℕ → List SgrSpan → Position → Position
+abbrev pub rest_drawing : ℕ → Widths → Styles → List ℕ → ℕ → List ℕ → Position → Position
     → Position → Position → List ℕ
-rest_drawing columns wide rest info spans old at finish cursor =
-    rest_from columns wide rest info spans old at ++ move_bytes finish cursor
+rest_drawing columns wide styles text from info old at finish cursor =
+    rest_from columns wide styles text from info old at ++ move_bytes finish cursor
 
 -- ---- the spans of a highlighter
 
@@ -272,6 +277,14 @@ styles_in marks p = record {
   prompt = brush_spans marks p.prompt;
   line = brush_spans marks p.line;
   info = brush_spans marks p.info;
+}
+
+-- the styles of a line and of what stands after it
+abbrev pub styles_after : {H : Type 0} → (H → Marks) → rest.Rest H → Styles
+styles_after marks r = record {
+  prompt = [];
+  line = brush_spans marks r.line;
+  info = brush_spans marks r.info;
 }
 
 -- the column after items

@@ -82,6 +82,11 @@ styles_by m own prompt text place info = styles_of (spans_by m own prompt text p
 abbrev pub info_styles : Option Marks → List ℕ → List SgrSpan
 info_styles marks info = (styles_of (drawn_spans marks true [] [] 0 info)).info
 
+-- the styles of a line and of what stands after it
+abbrev pub line_styles : Option Marks → List ℕ → ℕ → List ℕ → Styles
+line_styles marks text place info =
+    record (styles_of (drawn_spans marks true [] text place info)) { prompt = [] }
+
 abbrev pub bell_bytes : BellStyle → List ℕ
 bell_bytes Audible = 0x07 ∷ []
 bell_bytes style = []
@@ -113,9 +118,10 @@ bytes_of s (MoveAndDelete old new count rest finish) =
 bytes_of s (Append text at) =
     bytes_of_items s.columns (text_items (widths_by s.mode s.tab s.columns) text)
     (in_row s.columns at).col
-bytes_of s (DrawRest rest info old at new marks) =
-    rest_drawing s.columns (widths_by s.mode s.tab s.columns) rest (info_text info)
-    (info_styles marks (info_text info)) old at new.end new.cursor
+bytes_of s (DrawRest text from place info old at new marks) =
+    rest_drawing s.columns (widths_by s.mode s.tab s.columns)
+    (line_styles marks text place (info_text info)) text from (info_text info) old at
+    new.end new.cursor
 bytes_of s (WriteOver letters old at new) = writing_bytes letters old at new
 bytes_of s call = []
 

@@ -1,5 +1,5 @@
 -- A text with styles as items, and their cells: each cluster has the style of its first byte.
-use Rattle.std.specs.Prelude.{true, ℕ, replicate, List, [], ◌∷◌, ◌++◌, map, drop, length, if◌then◌else◌}
+use Rattle.std.specs.Prelude.{true, ℕ, replicate, List, [], ◌∷◌, ◌++◌, map, take, drop, length, if◌then◌else◌}
 use Rattle.std.specs.List.{flat_map, list_all}
 use Rattle.unicode_segmentation.specs.Grapheme.{graphemes}
 use Rattle.line_buffer.specs.declared.layout.Position.{Position}
@@ -11,6 +11,10 @@ use Rattle.line_screen.specs.Drawing.DrawnItem.{NewRow}
 -- of each byte of a text; those after the last span have none
 abbrev pub byte_styles : List SgrSpan → List (List ℕ)
 byte_styles spans = flat_map (λ s. replicate s.len s.style) spans
+
+-- of the first `n` bytes
+abbrev pub first_styles : ℕ → List SgrSpan → List (List ℕ)
+first_styles n spans = take n (byte_styles spans ++ replicate n [])
 
 abbrev pub first_of : List (List ℕ) → List ℕ
 first_of [] = []

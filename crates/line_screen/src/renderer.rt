@@ -1,8 +1,8 @@
 //! The renderer: the calls by which an editor draws.
 
 ghost use Rattle.std.specs.Prelude.{◌≡◌, ◌≤◌, ◌++◌, ◌∷◌, [], IsTrue, OnOk, OnErr, IfErr, false, option_copied, option_map};
-ghost use Rattle.line_screen.specs.ScreenCalls.{Screen, screen_of, sink_of, canvas_of, display_answer, styles_by, info_styles};
-ghost use Rattle.line_screen.specs.Colours.{brush_spans, styles_in};
+ghost use Rattle.line_screen.specs.ScreenCalls.{Screen, screen_of, sink_of, canvas_of, display_answer, styles_by, info_styles, line_styles};
+ghost use Rattle.line_screen.specs.Colours.{brush_spans, styles_in, styles_after};
 ghost use Rattle.line_editor.specs.Values.{marks_seen, seen_marks};
 
 use crate::drawing::coloured::{Painting, paint};
@@ -214,22 +214,18 @@ impl<D: Sink + Drop> Renderer for ScreenRenderer<D> {
     /// bytes are passed on together.
     fn refresh_rest<H: Highlighter>(
         &mut self,
-        rest: &str,
+        line: &LineBuffer,
+        from: usize,
         hint: Option<&str>,
         old: Position,
         at: Position,
         new_layout: &Layout,
         highlighter: Option<&H>,
+        marked: bool,
         told: bool,
     ) -> Result<(), ReadlineError> {
-        let info = brush_of_info(highlighter, told, hint.unwrap_or(""));
-        let (cursor, end) = (new_layout.cursor, new_layout.end);
-        let shown = Rest {
-            text: rest,
-            info,
-            end,
-            cursor,
-        };
+        let info = hint.unwrap_or("");
+        let shown = rest_of(highlighter, marked, told, line, from, info, new_layout);
         answer(draw_rest(&mut self.sink, self.grid, old, at, &shown))
     }
 
@@ -322,14 +318,58 @@ fn painting_of<'a, H: Highlighter>(
             part: Part::Prompt(layout.default_prompt),
             text: prompt,
         },
-        line: Brush {
-            highlighter: if marked { Some(highlighter) } else { None },
-            part: Part::Line(line.pos()),
-            text: line.as_str(),
-        },
+        line: brush_of_line(Some(highlighter), marked, line),
         info: brush_of_info(Some(highlighter), told, info),
         end: layout.end,
         cursor: layout.cursor,
+    }
+}
+
+/// A line from a place on, and the text after it, with a highlighter's styles, if there is one.
+fn rest_of<'a, H: Highlighter>(
+    highlighter: Option<&'a H>,
+    marked: bool,
+    told: bool,
+    line: &'a LineBuffer,
+    from: usize,
+    info: &'a str,
+    layout: &Layout,
+) -> Rest<'a, H>
+    ensures styles { styles_after H.marks result
+        ≡ line_styles
+        (marks_seen marked told (option_map H.marks (option_copied highlighter.entry)))
+        line.now.text line.now.place info.now }
+    ensures line { result.line.text.now ≡ line.now.text }
+    ensures from { result.from ≡ from }
+    ensures info { result.info.text.now ≡ info.now }
+    ensures end { result.end ≡ layout.now.end }
+    ensures cursor { result.cursor ≡ layout.now.cursor }
+{
+    Rest {
+        line: brush_of_line(highlighter, marked, line),
+        from,
+        info: brush_of_info(highlighter, told, info),
+        end: layout.end,
+        cursor: layout.cursor,
+    }
+}
+
+/// A line with a highlighter's styles, if there is one and the line is marked.
+fn brush_of_line<'a, H: Highlighter>(
+    highlighter: Option<&'a H>,
+    marked: bool,
+    line: &'a LineBuffer,
+) -> Brush<'a, H>
+    ensures styles { brush_spans H.marks result
+        ≡ (line_styles
+        (marks_seen marked false (option_map H.marks (option_copied highlighter.entry)))
+        line.now.text line.now.place []).line }
+    ensures text { result.text.now ≡ line.now.text }
+{
+    Brush {
+        highlighter: if marked { highlighter } else { None },
+        part: Part::Line(line.pos()),
+        text: line.as_str(),
     }
 }
 

@@ -8,3 +8,14 @@ mod kills;
 mod log;
 mod motions;
 mod table;
+
+use stand_ins::rows::tables_hold;
+use std::test::Fail;
+use table::Desk;
+
+#[test]
+fn motions_and_edits(rt: HostRuntime) -> Result<(), Fail> {
+    tables_hold::<Desk>(rt.alloc(), &motions::TABLES)?;
+    tables_hold::<Desk>(rt.alloc(), &columns::TABLES)?;
+    tables_hold::<Desk>(rt.alloc(), &edits::TABLES)
+}

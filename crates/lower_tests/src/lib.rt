@@ -1,5 +1,5 @@
-//! Tests of the five lowest libraries, each in its own module: texts, the undo record and the kill
-//! ring, edits of both, settings and devices, keys and their commands.
+//! Tests of the six lowest libraries, each in its own module: texts, the undo record and the kill
+//! ring, edits of both, settings and devices, keys and their commands, histories and helpers.
 #![tactic(auto)]
 
 #[cfg(test)]
@@ -8,6 +8,8 @@ mod buffer;
 mod config;
 #[cfg(test)]
 mod edits;
+#[cfg(test)]
+mod help;
 #[cfg(test)]
 mod keys;
 #[cfg(test)]

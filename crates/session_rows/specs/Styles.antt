@@ -1,5 +1,6 @@
 -- The spans of a helper with fixed answers.
-use Rattle.std.specs.Prelude.{ℕ, ◌==◌, List, [], ◌∷◌, length, if◌then◌else◌}
+use Rattle.std.specs.Prelude.{ℕ, zero, suc, ◌-◌, ◌==◌, nat_eq, List, [], ◌∷◌, length, if◌then◌else◌}
+use Rattle.std.specs.List.{starts_with}
 use Rattle.line_help.specs.declared.helpers.style.Mark.{Mark}
 use Rattle.line_help.specs.declared.helpers.style.Part.{Part}
 use Rattle.line_help.specs.declared.helpers.style.Part.TheVariants.{Prompt, Line, Hint, Message}
@@ -24,5 +25,23 @@ abbrev pub both_from : Span × Span → Mark → List Span
 both_from spans from = if from.state == 0 then spans.0 ∷ (spans.1 ∷ [])
     else if from.state == 1 then (spans.1 ∷ []) else []
 
+-- how a text begins: with the keyword, or with a plain byte
+abbrev pub first_word : List ℕ → Style → List ℕ → Span
+first_word keyword style text =
+    if starts_with nat_eq text keyword then record { len = length keyword; style = style }
+    else record { len = 1; style = plain }
+
+-- the keywords and the other bytes of a text from a place on
+abbrev pub words_from : List ℕ → Style → ℕ → List ℕ → List Span
+words_from keyword style place [] = []
+words_from keyword style (suc place) (c ∷ text) = words_from keyword style place text
+words_from keyword style zero (c ∷ text) =
+    first_word keyword style (c ∷ text)
+    ∷ words_from keyword style ((first_word keyword style (c ∷ text)).len - 1) text
+
+-- a line with a keyword has its spans by it
 abbrev pub text_with_styles : Styles → Part → List ℕ → Mark → List Span
+text_with_styles s (Line pos) text from =
+    if length s.keyword.now == 0 then both_from (spans_of s (Line pos) text) from
+    else words_from s.keyword.now s.line from.at text
 text_with_styles s part text from = both_from (spans_of s part text) from

@@ -14,3 +14,4 @@ pub mod rows;
 pub mod sinks;
 pub mod sources;
 pub mod tables;
+pub mod typing;

@@ -23,6 +23,24 @@ pub fn rows_hold<P: Player>(alloc: Global, player: &mut P, table: &str) -> Resul
     Ok(())
 }
 
+/// A player that starts anew for each table.
+pub trait Starts: Player {
+    fn start(alloc: Global) -> Result<Self, Fail>;
+}
+
+fn table_holds<P: Starts + Drop>(alloc: Global, table: &str) -> Result<(), Fail> {
+    let mut player = P::start(alloc)?;
+    rows_hold(alloc, &mut player, table)
+}
+
+/// Makes the calls of each table, from a start of its own.
+pub fn tables_hold<P: Starts + Drop>(alloc: Global, tables: &[&str]) -> Result<(), Fail> {
+    for table in tables {
+        table_holds::<P>(alloc, table)?;
+    }
+    Ok(())
+}
+
 /// A text without the blanks at its ends.
 pub fn trimmed(alloc: Global, text: &str) -> Result<String, Fail> {
     raised(String::from_str(alloc, text.trim()))
@@ -37,11 +55,24 @@ pub fn same(found: &str, wanted: &str) -> Result<(), Fail> {
     }
 }
 
+/// Fails with these words if a fact doesn't hold. As a test's `assert!` it costs half of that.
+pub fn stands(holds: bool, wrong: &'static str) -> Result<(), Fail> {
+    if holds { Ok(()) } else { Err(Fail::new(wrong)) }
+}
+
 /// An answer, its error converted to the caller's like `?` does. As a last call this costs the
 /// prover half of `Ok(call()?)`.
 pub fn raised<T, E, F: From<E>>(answer: Result<T, E>) -> Result<T, F> {
     match answer {
         Ok(value) => Ok(value),
+        Err(why) => Err(F::from(why)),
+    }
+}
+
+/// The same without the answer's value.
+pub fn done<T: Drop, E, F: From<E>>(answer: Result<T, E>) -> Result<(), F> {
+    match answer {
+        Ok(_) => Ok(()),
         Err(why) => Err(F::from(why)),
     }
 }

@@ -4,6 +4,7 @@
 //! ESC, `␍` is CR, `␊` is LF; `␠` is a blank that would be lost at an end.
 
 use std::alloc::{AllocError, Global};
+use std::fmt::Debug;
 
 /// The call of a row, and its answer; `None` for a row without ` = `. A blank line is no row.
 pub fn call_and_answer(row: &str) -> Option<(&str, &str)> {
@@ -46,6 +47,20 @@ pub(crate) fn picture_of(c: char) -> char {
         '\x7f' => '␡',
         _ => c,
     }
+}
+
+/// The words of a text with this mark between two.
+pub fn words_in(alloc: Global, text: &str, mark: char) -> Result<Vec<String>, AllocError> {
+    let mut words = Vec::new(alloc);
+    for word in text.split(mark) {
+        words.push(String::from_str(alloc, word)?)?;
+    }
+    Ok(words)
+}
+
+/// A value as `{:?}` writes it.
+pub fn shown<D: Debug + Drop>(alloc: Global, value: D) -> Result<String, AllocError> {
+    format!(in alloc; "{value:?}")
 }
 
 /// The text with its pictures replaced by their characters.

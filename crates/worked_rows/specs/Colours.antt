@@ -2,7 +2,7 @@
 use Rattle.line_config.specs.declared.errors.ReadlineError.TheVariants.{Interrupted}
 use Rattle.std.specs.Prelude.{List, [], ◌∷◌, ◌++◌, None, Some, true, false, codes, encode_utf8_all}
 use Rattle.worked_rows.specs.Playing.{Row, row}
-use Rattle.worked_rows.specs.Settings.{Settings, aide, colours, listed, modal, plain, vi}
+use Rattle.worked_rows.specs.Settings.{Settings, aide, colours, listed, modal, partial, plain, vi}
 
 -- colours helped
 abbrev pub settings_8 : Settings
@@ -321,47 +321,45 @@ row_56 = record (row 56 settings_54 (codes "al\t\t\u{3}") []) {
       codes "[m\u{1b}[2A\r\u{1b}[J\u{1b}[m> \u{1b}[mal(\u{1b}[m\u{1b}[m\r\n");
 }
 
--- colours modal listed helped columns:40
+-- colours modal partial listed helped columns:40
 abbrev pub settings_59 : Settings
 settings_59 = record plain {
-  config = listed (colours (modal plain.config));
+  config = listed (partial (colours (modal plain.config)));
   columns = 40;
   helping = aide true None;
 }
 
--- (a) Left Left Left x Enter = x(a) | shows {} ( a {␛[0;1;34m(␛[ma)} {␛[0;1;34m(␛[ma)}␛[1D {(a␛[0;1;34m)␛[m}␛[2D {(a␛[0;1;34m)␛[m}␛[3D {x(a␛[0;1;34m)␛[m}␛[3D {x(a)}␛[3D ␛[3C␍␊ {} ␍␊
+-- (a) Left Left Left x Enter = x(a) | shows {} ( a ␛[2D␛[J␛[0;1;34m(␛[ma) {␛[0;1;34m(␛[ma)}␛[1D {(a␛[0;1;34m)␛[m}␛[2D {(a␛[0;1;34m)␛[m}␛[3D ␛[Jx(a␛[0;1;34m)␛[m␛[3D {x(a)}␛[3D ␛[3C␍␊ {} ␍␊
 abbrev pub row_59 : Row
 row_59 = record (row 59 settings_59 (codes "(a)\u{1b}[D\u{1b}[D\u{1b}[Dx\r") (codes "x(a)\n")) {
-  shows = Some (codes "\r\u{1b}[J\u{1b}[m> \u{1b}[m\u{1b}[m\u{1b}[m(a\r\u{1b}[J\u{1b}[m> \u{1b}[m"
-      ++ codes "\u{1b}[0;1;34m(\u{1b}[ma)\u{1b}[m\u{1b}[m\r\u{1b}[J\u{1b}[m> \u{1b}[m\u{1b}[0;" ++
-      codes "1;34m(\u{1b}[ma)\u{1b}[m\u{1b}[m\u{1b}[1D\r\u{1b}[J\u{1b}[m> \u{1b}[m(a\u{1b}[" ++
-      codes "0;1;34m)\u{1b}[m\u{1b}[m\u{1b}[m\u{1b}[2D\r\u{1b}[J\u{1b}[m> \u{1b}[m(a\u{1b}[" ++
-      codes "0;1;34m)\u{1b}[m\u{1b}[m\u{1b}[m\u{1b}[3D\r\u{1b}[J\u{1b}[m> \u{1b}[mx(a\u{1b}" ++
-      codes "[0;1;34m)\u{1b}[m\u{1b}[m\u{1b}[m\u{1b}[3D\r\u{1b}[J\u{1b}[m> \u{1b}[mx(a)" ++
-      codes "\u{1b}[m\u{1b}[m\u{1b}[3D\u{1b}[3C\r\n\r\u{1b}[J\u{1b}[m> \u{1b}[m\u{1b}[m" ++
-      codes "\u{1b}[m\r\n");
+  shows = Some
+      (codes "\r\u{1b}[J\u{1b}[m> \u{1b}[m\u{1b}[m\u{1b}[m(a\u{1b}[2D\u{1b}[J\u{1b}[0;1;34m(" ++
+      codes "\u{1b}[ma)\r\u{1b}[J\u{1b}[m> \u{1b}[m\u{1b}[0;1;34m(\u{1b}[ma)\u{1b}[m\u{1b}[" ++
+      codes "m\u{1b}[1D\r\u{1b}[J\u{1b}[m> \u{1b}[m(a\u{1b}[0;1;34m)\u{1b}[m\u{1b}[m\u{1b}[" ++
+      codes "m\u{1b}[2D\r\u{1b}[J\u{1b}[m> \u{1b}[m(a\u{1b}[0;1;34m)\u{1b}[m\u{1b}[m\u{1b}[" ++
+      codes "m\u{1b}[3D\u{1b}[Jx(a\u{1b}[0;1;34m)\u{1b}[m\u{1b}[3D\r\u{1b}[J\u{1b}[m> " ++
+      codes "\u{1b}[mx(a)\u{1b}[m\u{1b}[m\u{1b}[3D\u{1b}[3C\r\n\r\u{1b}[J\u{1b}[m> \u{1b}[m" ++
+      codes "\u{1b}[m\u{1b}[m\r\n");
 }
 
--- ] Enter C-C = nothing | ends Interrupted | shows {} {]} {]} {]␛[m␛[0;31mMismatched␠brackets:␠']'␠is␠unpaired␛[m␛[m␛[36D ␛[36C␍␊
+-- ] Enter C-C = nothing | ends Interrupted | shows {} ␛[J] {]} {]␛[m␛[0;31mMismatched␠brackets:␠']'␠is␠unpaired␛[m␛[m␛[36D ␛[36C␍␊
 abbrev pub row_60 : Row
 row_60 = record (row 60 settings_59 (codes "]\r\u{3}") []) {
   ends = Interrupted;
-  shows = Some (codes "\r\u{1b}[J\u{1b}[m> \u{1b}[m\u{1b}[m\u{1b}[m\r\u{1b}[J\u{1b}[m> \u{1b}[m]" ++
-      codes "\u{1b}[m\u{1b}[m\r\u{1b}[J\u{1b}[m> \u{1b}[m]\u{1b}[m\u{1b}[m\r\u{1b}[J\u{1b}[" ++
-      codes "m> \u{1b}[m]\u{1b}[m\u{1b}[0;31mMismatched brackets: ']' is unpaired\u{1b}[m" ++
-      codes "\u{1b}[m\u{1b}[36D\u{1b}[36C\r\n");
+  shows = Some (codes "\r\u{1b}[J\u{1b}[m> \u{1b}[m\u{1b}[m\u{1b}[m\u{1b}[J]\r\u{1b}[J\u{1b}[m> " ++
+      codes "\u{1b}[m]\u{1b}[m\u{1b}[m\r\u{1b}[J\u{1b}[m> \u{1b}[m]\u{1b}[m\u{1b}[0;31mMism" ++
+      codes "atched brackets: ']' is unpaired\u{1b}[m\u{1b}[m\u{1b}[36D\u{1b}[36C\r\n");
 }
 
--- (] Enter Backspace ) Enter = () | shows {} ( {(]} {(]} {(]␛[m␛[0;31mMismatched␠brackets:␠'('␠is␠not␠prop␛[m␍␊␛[0;31merly␠closed␛[m␛[m␛[1A␛[7D {(} {␛[0;1;34m(␛[m)} {()} ␍␊ {} ␍␊
+-- (] Enter Backspace ) Enter = () | shows {} ( ␛[J] {(]} {(]␛[m␛[0;31mMismatched␠brackets:␠'('␠is␠not␠prop␛[m␍␊␛[0;31merly␠closed␛[m␛[m␛[1A␛[7D ␛[1D␛[J ␛[1D␛[J␛[0;1;34m(␛[m) {()} ␍␊ {} ␍␊
 abbrev pub row_61 : Row
 row_61 = record (row 61 settings_59 (codes "(]\r\u{7f})\r") (codes "()\n")) {
-  shows = Some (codes "\r\u{1b}[J\u{1b}[m> \u{1b}[m\u{1b}[m\u{1b}[m(\r\u{1b}[J\u{1b}[m> \u{1b}[m(]"
-      ++ codes "\u{1b}[m\u{1b}[m\r\u{1b}[J\u{1b}[m> \u{1b}[m(]\u{1b}[m\u{1b}[m\r\u{1b}[J\u{1b}" ++
-      codes "[m> \u{1b}[m(]\u{1b}[m\u{1b}[0;31mMismatched brackets: '(' is not prop\u{1b}[m" ++
-      codes "\r\n\u{1b}[0;31merly closed\u{1b}[m\u{1b}[m\u{1b}[1A\u{1b}[7D\r\u{1b}[J\u{1b}[" ++
-      codes "m> \u{1b}[m(\u{1b}[m\u{1b}[m\r\u{1b}[J\u{1b}[m> \u{1b}[m\u{1b}[0;1;34m(\u{1b}[" ++
-      codes "m)\u{1b}[m\u{1b}[m\r\u{1b}[J\u{1b}[m> \u{1b}[m()\u{1b}[m\u{1b}[m\r\n\r\u{1b}[J" ++
-      codes "\u{1b}[m> \u{1b}[m\u{1b}[m\u{1b}[m\r\n");
+  shows = Some (codes "\r\u{1b}[J\u{1b}[m> \u{1b}[m\u{1b}[m\u{1b}[m(\u{1b}[J]\r\u{1b}[J\u{1b}[m> "
+      ++ codes "\u{1b}[m(]\u{1b}[m\u{1b}[m\r\u{1b}[J\u{1b}[m> \u{1b}[m(]\u{1b}[m\u{1b}[0;31mMi" ++
+      codes "smatched brackets: '(' is not prop\u{1b}[m\r\n\u{1b}[0;31merly closed\u{1b}[m" ++
+      codes "\u{1b}[m\u{1b}[1A\u{1b}[7D\u{1b}[1D\u{1b}[J\u{1b}[1D\u{1b}[J\u{1b}[0;1;34m(" ++
+      codes "\u{1b}[m)\r\u{1b}[J\u{1b}[m> \u{1b}[m()\u{1b}[m\u{1b}[m\r\n\r\u{1b}[J\u{1b}[m>" ++
+      codes " \u{1b}[m\u{1b}[m\u{1b}[m\r\n");
 }
 
 -- al Tab Tab Enter = al | shows {} a l ␇ ␇ ␍␊ {} ␍␊
@@ -372,15 +370,15 @@ row_62 = record (row 62 settings_59 (codes "al\t\t\r") (codes "al\n")) {
       codes "> \u{1b}[m\u{1b}[m\u{1b}[m\r\n");
 }
 
--- [(a) Enter ] Enter = [(a)␊] | shows {} [ ( a {[␛[0;1;34m(␛[ma)} {[(a)} {[(a)␍␊} ␛[1A{␛[0;1;34m[␛[m(a)␍␊]} ␛[1A{[(a)␍␊]} ␍␊ {} ␍␊
+-- [(a) Enter ] Enter = [(a)␊] | shows {} [ ( a ␛[2D␛[J␛[0;1;34m(␛[ma) {[(a)} ␛[J␍␊ ␛[1A␛[2C␛[J␛[0;1;34m[␛[m(a)␍␊] ␛[1A{[(a)␍␊]} ␍␊ {} ␍␊
 abbrev pub row_63 : Row
 row_63 = record (row 63 settings_59 (codes "[(a)\r]\r") (codes "[(a)\n]\n")) {
-  shows = Some (codes "\r\u{1b}[J\u{1b}[m> \u{1b}[m\u{1b}[m\u{1b}[m[(a\r\u{1b}[J\u{1b}[m> \u{1b}[m["
-      ++ codes "\u{1b}[0;1;34m(\u{1b}[ma)\u{1b}[m\u{1b}[m\r\u{1b}[J\u{1b}[m> \u{1b}[m[(a)" ++
-      codes "\u{1b}[m\u{1b}[m\r\u{1b}[J\u{1b}[m> \u{1b}[m[(a)\r\n\u{1b}[m\u{1b}[m\u{1b}[1A" ++
-      codes "\r\u{1b}[J\u{1b}[m> \u{1b}[m\u{1b}[0;1;34m[\u{1b}[m(a)\r\n]\u{1b}[m\u{1b}[m" ++
-      codes "\u{1b}[1A\r\u{1b}[J\u{1b}[m> \u{1b}[m[(a)\r\n]\u{1b}[m\u{1b}[m\r\n\r\u{1b}[J" ++
-      codes "\u{1b}[m> \u{1b}[m\u{1b}[m\u{1b}[m\r\n");
+  shows = Some
+      (codes "\r\u{1b}[J\u{1b}[m> \u{1b}[m\u{1b}[m\u{1b}[m[(a\u{1b}[2D\u{1b}[J\u{1b}[0;1;34m" ++
+      codes "(\u{1b}[ma)\r\u{1b}[J\u{1b}[m> \u{1b}[m[(a)\u{1b}[m\u{1b}[m\u{1b}[J\r\n\u{1b}[" ++
+      codes "1A\u{1b}[2C\u{1b}[J\u{1b}[0;1;34m[\u{1b}[m(a)\r\n]\u{1b}[1A\r\u{1b}[J\u{1b}[m>" ++
+      codes " \u{1b}[m[(a)\r\n]\u{1b}[m\u{1b}[m\r\n\r\u{1b}[J\u{1b}[m> \u{1b}[m\u{1b}[m" ++
+      codes "\u{1b}[m\r\n");
 }
 
 -- colours vi helped

@@ -407,24 +407,22 @@ row_71 = record (row 71 settings_69 (encode_utf8_all (codes "abcdefg漢a\r")) (e
           codes "\r\u{1b}[J\u{1b}[m> \u{1b}[m\u{1b}[m\u{1b}[m\r\n"));
     }
 
--- abcdefg漢 Backspace Enter = abcdefg | shows {} a b c d e f g ␍␊␛[m漢␛[m ␛[1A{abcdefg} ␍␊ {} ␍␊
+-- abcdefg漢 Backspace Enter = abcdefg | shows {} a b c d e f g ␍␊␛[m漢␛[m ␛[1A␛[7C␛[J ␍␊ {} ␍␊
 abbrev pub row_72 : Row
 row_72 = record (row 72 settings_69 (encode_utf8_all (codes "abcdefg漢\u{7f}\r"))
     (codes "abcdefg\n")) {
       shows = Some (encode_utf8_all
           (codes "\r\u{1b}[J\u{1b}[m> \u{1b}[m\u{1b}[m\u{1b}[mabcdefg\r\n\u{1b}[m漢\u{1b}[m\u{1b}" ++
-          codes "[1A\r\u{1b}[J\u{1b}[m> \u{1b}[mabcdefg\u{1b}[m\u{1b}[m\r\n\r\u{1b}[J\u{1b}[m> " ++
-          codes "\u{1b}[m\u{1b}[m\u{1b}[m\r\n"));
+          codes "[1A\u{1b}[7C\u{1b}[J\r\n\r\u{1b}[J\u{1b}[m> \u{1b}[m\u{1b}[m\u{1b}[m\r\n"));
     }
 
--- abcdefgh漢 Backspace Enter = abcdefgh | shows {} a b c d e f g h␍␊ ␛[m漢␛[m ␛[1A{abcdefgh␍␊} ␍␊ {} ␍␊
+-- abcdefgh漢 Backspace Enter = abcdefgh | shows {} a b c d e f g h␍␊ ␛[m漢␛[m ␛[2D␛[J ␍␊ {} ␍␊
 abbrev pub row_73 : Row
 row_73 = record (row 73 settings_69 (encode_utf8_all (codes "abcdefgh漢\u{7f}\r"))
     (codes "abcdefgh\n")) {
       shows = Some (encode_utf8_all
           (codes "\r\u{1b}[J\u{1b}[m> \u{1b}[m\u{1b}[m\u{1b}[mabcdefgh\r\n\u{1b}[m漢\u{1b}[m" ++
-          codes "\u{1b}[1A\r\u{1b}[J\u{1b}[m> \u{1b}[mabcdefgh\r\n\u{1b}[m\u{1b}[m\r\n\r\u{1b}[" ++
-          codes "J\u{1b}[m> \u{1b}[m\u{1b}[m\u{1b}[m\r\n"));
+          codes "\u{1b}[2D\u{1b}[J\r\n\r\u{1b}[J\u{1b}[m> \u{1b}[m\u{1b}[m\u{1b}[m\r\n"));
     }
 
 -- abcdefghi漢 Backspace Enter = abcdefghi | shows {} a b c d e f g h␍␊ i ␛[m漢␛[m ␛[2D␛[K ␍␊ {} ␍␊
@@ -554,12 +552,12 @@ row_93 = record (row 93 settings_69 (codes "abcdefghi\u{1}\u{4}\r") (codes "bcde
       codes "[J\u{1b}[m> \u{1b}[m\u{1b}[m\u{1b}[m\r\n");
 }
 
--- abcdefgh C-a C-d Enter = bcdefgh | shows {} a b c d e f g h␍␊ ␛[1A␛[2C {bcdefgh}␛[7D ␛[7C␍␊ {} ␍␊
+-- abcdefgh C-a C-d Enter = bcdefgh | shows {} a b c d e f g h␍␊ ␛[1A␛[2C ␛[Jbcdefgh␛[7D ␛[7C␍␊ {} ␍␊
 abbrev pub row_94 : Row
 row_94 = record (row 94 settings_69 (codes "abcdefgh\u{1}\u{4}\r") (codes "bcdefgh\n")) {
-  shows = Some (codes "\r\u{1b}[J\u{1b}[m> \u{1b}[m\u{1b}[m\u{1b}[mabcdefgh\r\n\u{1b}[1A\u{1b}[2C\r"
-      ++ codes "\u{1b}[J\u{1b}[m> \u{1b}[mbcdefgh\u{1b}[m\u{1b}[m\u{1b}[7D\u{1b}[7C\r\n\r" ++
-      codes "\u{1b}[J\u{1b}[m> \u{1b}[m\u{1b}[m\u{1b}[m\r\n");
+  shows = Some (codes "\r\u{1b}[J\u{1b}[m> \u{1b}[m\u{1b}[m\u{1b}[mabcdefgh\r\n\u{1b}[1A\u{1b}[2C"
+      ++ codes "\u{1b}[Jbcdefgh\u{1b}[7D\u{1b}[7C\r\n\r\u{1b}[J\u{1b}[m> \u{1b}[m\u{1b}[m" ++
+      codes "\u{1b}[m\r\n");
 }
 
 -- Paste ab␠cdefghijkl Pasted C-a M-d Enter = ␠cdefghijkl | shows {} ␛[Jab␠cdefg␍␊hijkl ␛[1A␛[3D ␛[2P␛[6Chi␍␊␛[2P␛[1A␛[2C ␛[1B␛[1C␍␊ {} ␍␊
@@ -582,9 +580,57 @@ row_96 = record (row 96 settings_69 (codes "\u{1b}[200~abcdefghijklmnopqrst\u{1b
           codes "[2C\u{1b}[2B\u{1b}[1D\r\n\r\u{1b}[J\u{1b}[m> \u{1b}[m\u{1b}[m\u{1b}[m\r\n");
     }
 
+-- ab␠cdefg Backspace Enter = ab␠cdef | shows {} a b ␠ c d e f g␍␊ ␛[1A␛[9C␛[J ␍␊ {} ␍␊
+abbrev pub row_100 : Row
+row_100 = record (row 100 settings_69 (codes "ab cdefg\u{7f}\r") (codes "ab cdef\n")) {
+  shows = Some (codes "\r\u{1b}[J\u{1b}[m> \u{1b}[m\u{1b}[m\u{1b}[mab cdefg\r\n\u{1b}[1A\u{1b}[9C"
+      ++ codes "\u{1b}[J\r\n\r\u{1b}[J\u{1b}[m> \u{1b}[m\u{1b}[m\u{1b}[m\r\n");
+}
+
+-- ab␠cdefghij C-w Enter = ab␠ | shows {} a b ␠ c d e f g␍␊ h i j ␛[1A␛[2C␛[J ␍␊ {} ␍␊
+abbrev pub row_101 : Row
+row_101 = record (row 101 settings_69 (codes "ab cdefghij\u{17}\r") (codes "ab \n")) {
+  shows = Some
+      (codes "\r\u{1b}[J\u{1b}[m> \u{1b}[m\u{1b}[m\u{1b}[mab cdefg\r\nhij\u{1b}[1A\u{1b}[2C" ++
+      codes "\u{1b}[J\r\n\r\u{1b}[J\u{1b}[m> \u{1b}[m\u{1b}[m\u{1b}[m\r\n");
+}
+
+-- ab␠cdefghij C-u Enter = "" | shows {} a b ␠ c d e f g␍␊ h i j ␛[1A␛[1D␛[J ␍␊ {} ␍␊
+abbrev pub row_102 : Row
+row_102 = record (row 102 settings_69 (codes "ab cdefghij\u{15}\r") (codes "\n")) {
+  shows = Some
+      (codes "\r\u{1b}[J\u{1b}[m> \u{1b}[m\u{1b}[m\u{1b}[mab cdefg\r\nhij\u{1b}[1A\u{1b}[1D" ++
+      codes "\u{1b}[J\r\n\r\u{1b}[J\u{1b}[m> \u{1b}[m\u{1b}[m\u{1b}[m\r\n");
+}
+
+-- Paste ab␠cdefghij Pasted Left C-w Enter = ab␠j | shows {} ␛[Jab␠cdefg␍␊hij ␛[1D ␛[1A␛[3C␛[Jj␛[1D ␛[1C␍␊ {} ␍␊
+abbrev pub row_103 : Row
+row_103 = record (row 103 settings_69 (codes "\u{1b}[200~ab cdefghij\u{1b}[201~\u{1b}[D\u{17}\r")
+    (codes "ab j\n")) {
+      shows = Some (codes "\r\u{1b}[J\u{1b}[m> \u{1b}[m\u{1b}[m\u{1b}[m\u{1b}[Jab cdefg\r\nhij\u{1b}[1D"
+          ++ codes "\u{1b}[1A\u{1b}[3C\u{1b}[Jj\u{1b}[1D\u{1b}[1C\r\n\r\u{1b}[J\u{1b}[m> \u{1b}[m" ++
+          codes "\u{1b}[m\u{1b}[m\r\n");
+    }
+
+-- partial modal helped
+abbrev pub settings_106 : Settings
+settings_106 = record plain {
+  config = partial (modal plain.config);
+  helping = aide true None;
+}
+
+-- ab] Enter Backspace Enter = ab | shows {} a b ] {ab]␛[mMismatched␠brackets:␠']'␠is␠unpaired␛[m␛[36D ␛[1D␛[J ␍␊ {} ␍␊
+abbrev pub row_106 : Row
+row_106 = record (row 106 settings_106 (codes "ab]\r\u{7f}\r") (codes "ab\n")) {
+  shows = Some
+      (codes "\r\u{1b}[J\u{1b}[m> \u{1b}[m\u{1b}[m\u{1b}[mab]\r\u{1b}[J\u{1b}[m> \u{1b}[mab]" ++
+      codes "\u{1b}[mMismatched brackets: ']' is unpaired\u{1b}[m\u{1b}[36D\u{1b}[1D\u{1b}[" ++
+      codes "J\r\n\r\u{1b}[J\u{1b}[m> \u{1b}[m\u{1b}[m\u{1b}[m\r\n");
+}
+
 -- Paste abcdefgh漢字 Pasted C-a x Enter = xabcdefgh漢字 | shows {} ␛[Jabcdefgh␍␊␛[m漢␛[m␛[m字␛[m ␛[1A␛[2D ␛[Jxabcdefg␍␊h␛[m漢␛[m␛[m字␛[m␛[1A␛[2D ␛[1B␛[2C␍␊ {} ␍␊
-abbrev pub row_99 : Row
-row_99 = record (row 99 settings_69 (encode_utf8_all
+abbrev pub row_110 : Row
+row_110 = record (row 110 settings_69 (encode_utf8_all
     (codes "\u{1b}[200~abcdefgh漢字\u{1b}[201~\u{1}x\r")) (encode_utf8_all (codes "xabcdefgh漢字\n"))) {
       shows = Some (encode_utf8_all
           (codes "\r\u{1b}[J\u{1b}[m> \u{1b}[m\u{1b}[m\u{1b}[m\u{1b}[Jabcdefgh\r\n\u{1b}[m漢" ++
@@ -594,8 +640,8 @@ row_99 = record (row 99 settings_69 (encode_utf8_all
     }
 
 -- abcdefg漢 Left x Enter = abcdefgx漢 | shows {} a b c d e f g ␍␊␛[m漢␛[m ␛[1A␛[7C ␛[Jx␍␊␛[m漢␛[m␛[2D ␛[2C␍␊ {} ␍␊
-abbrev pub row_100 : Row
-row_100 = record (row 100 settings_69 (encode_utf8_all (codes "abcdefg漢\u{1b}[Dx\r"))
+abbrev pub row_111 : Row
+row_111 = record (row 111 settings_69 (encode_utf8_all (codes "abcdefg漢\u{1b}[Dx\r"))
     (encode_utf8_all (codes "abcdefgx漢\n"))) {
       shows = Some (encode_utf8_all
           (codes "\r\u{1b}[J\u{1b}[m> \u{1b}[m\u{1b}[m\u{1b}[mabcdefg\r\n\u{1b}[m漢\u{1b}[m\u{1b}" ++
@@ -604,31 +650,31 @@ row_100 = record (row 100 settings_69 (encode_utf8_all (codes "abcdefg漢\u{1b}[
     }
 
 -- abc Left Left C-t Enter = bac | shows {} a b c ␛[1D ␛[1D ␈ba ␛[1C␍␊ {} ␍␊
-abbrev pub row_104 : Row
-row_104 = record (row 104 settings_8 (codes "abc\u{1b}[D\u{1b}[D\u{14}\r") (codes "bac\n")) {
+abbrev pub row_115 : Row
+row_115 = record (row 115 settings_8 (codes "abc\u{1b}[D\u{1b}[D\u{14}\r") (codes "bac\n")) {
   shows = Some
       (codes "\r\u{1b}[J\u{1b}[m> \u{1b}[m\u{1b}[m\u{1b}[mabc\u{1b}[1D\u{1b}[1D\u{8}ba\u{1b}" ++
       codes "[1C\r\n\r\u{1b}[J\u{1b}[m> \u{1b}[m\u{1b}[m\u{1b}[m\r\n");
 }
 
 -- abcd Left Left C-t Enter = acbd | shows {} a b c d ␛[1D ␛[1D ␈cb ␛[1C␍␊ {} ␍␊
-abbrev pub row_105 : Row
-row_105 = record (row 105 settings_8 (codes "abcd\u{1b}[D\u{1b}[D\u{14}\r") (codes "acbd\n")) {
+abbrev pub row_116 : Row
+row_116 = record (row 116 settings_8 (codes "abcd\u{1b}[D\u{1b}[D\u{14}\r") (codes "acbd\n")) {
   shows = Some (codes "\r\u{1b}[J\u{1b}[m> \u{1b}[m\u{1b}[m\u{1b}[mabcd\u{1b}[1D\u{1b}[1D\u{8}cb" ++
       codes "\u{1b}[1C\r\n\r\u{1b}[J\u{1b}[m> \u{1b}[m\u{1b}[m\u{1b}[m\r\n");
 }
 
 -- abc C-t C-t x Enter = abcx | shows {} a b c ␈␈cb ␈␈bc x ␍␊ {} ␍␊
-abbrev pub row_106 : Row
-row_106 = record (row 106 settings_8 (codes "abc\u{14}\u{14}x\r") (codes "abcx\n")) {
+abbrev pub row_117 : Row
+row_117 = record (row 117 settings_8 (codes "abc\u{14}\u{14}x\r") (codes "abcx\n")) {
   shows = Some
       (codes "\r\u{1b}[J\u{1b}[m> \u{1b}[m\u{1b}[m\u{1b}[mabc\u{8}\u{8}cb\u{8}\u{8}bcx\r\n\r" ++
       codes "\u{1b}[J\u{1b}[m> \u{1b}[m\u{1b}[m\u{1b}[m\r\n");
 }
 
 -- Paste a␊bc Pasted C-t Enter = a␊cb | shows {} ␛[Ja␍␊bc ␈␈cb ␍␊ {} ␍␊
-abbrev pub row_107 : Row
-row_107 = record (row 107 settings_8 (codes "\u{1b}[200~a\nbc\u{1b}[201~\u{14}\r")
+abbrev pub row_118 : Row
+row_118 = record (row 118 settings_8 (codes "\u{1b}[200~a\nbc\u{1b}[201~\u{14}\r")
     (codes "a\ncb\n")) {
       shows = Some
           (codes "\r\u{1b}[J\u{1b}[m> \u{1b}[m\u{1b}[m\u{1b}[m\u{1b}[Ja\r\nbc\u{8}\u{8}cb\r\n\r" ++
@@ -636,8 +682,8 @@ row_107 = record (row 107 settings_8 (codes "\u{1b}[200~a\nbc\u{1b}[201~\u{14}\r
     }
 
 -- Paste abc␊de Pasted Up Right C-t Enter = bac␊de | shows {} ␛[Jabc␍␊de ␛[1A ␛[1C ␈ba ␛[1B␛[2D␍␊ {} ␍␊
-abbrev pub row_108 : Row
-row_108 = record (row 108 settings_8 (codes "\u{1b}[200~abc\nde\u{1b}[201~\u{1b}[A\u{1b}[C\u{14}\r")
+abbrev pub row_119 : Row
+row_119 = record (row 119 settings_8 (codes "\u{1b}[200~abc\nde\u{1b}[201~\u{1b}[A\u{1b}[C\u{14}\r")
     (codes "bac\nde\n")) {
       shows = Some
           (codes "\r\u{1b}[J\u{1b}[m> \u{1b}[m\u{1b}[m\u{1b}[m\u{1b}[Jabc\r\nde\u{1b}[1A\u{1b}[1" ++
@@ -645,8 +691,8 @@ row_108 = record (row 108 settings_8 (codes "\u{1b}[200~abc\nde\u{1b}[201~\u{1b}
     }
 
 -- éab C-t Enter = éba | shows {} ␛[mé␛[m a b {␛[mé␛[mba} ␍␊ {} ␍␊
-abbrev pub row_111 : Row
-row_111 = record (row 111 settings_8 (encode_utf8_all (codes "éab\u{14}\r")) (encode_utf8_all
+abbrev pub row_122 : Row
+row_122 = record (row 122 settings_8 (encode_utf8_all (codes "éab\u{14}\r")) (encode_utf8_all
     (codes "éba\n"))) {
       shows = Some (encode_utf8_all
           (codes "\r\u{1b}[J\u{1b}[m> \u{1b}[m\u{1b}[m\u{1b}[m\u{1b}[mé\u{1b}[mab\r\u{1b}[J" ++
@@ -655,8 +701,8 @@ row_111 = record (row 111 settings_8 (encode_utf8_all (codes "éab\u{14}\r")) (e
     }
 
 -- Paste a␊b Pasted C-t Enter = ab␊ | shows {} ␛[Ja␍␊b ␛[1A{ab␍␊} ␍␊ {} ␍␊
-abbrev pub row_112 : Row
-row_112 = record (row 112 settings_8 (codes "\u{1b}[200~a\nb\u{1b}[201~\u{14}\r") (codes "ab\n\n")) {
+abbrev pub row_123 : Row
+row_123 = record (row 123 settings_8 (codes "\u{1b}[200~a\nb\u{1b}[201~\u{14}\r") (codes "ab\n\n")) {
   shows = Some
       (codes "\r\u{1b}[J\u{1b}[m> \u{1b}[m\u{1b}[m\u{1b}[m\u{1b}[Ja\r\nb\u{1b}[1A\r\u{1b}[J" ++
       codes "\u{1b}[m> \u{1b}[mab\r\n\u{1b}[m\u{1b}[m\r\n\r\u{1b}[J\u{1b}[m> \u{1b}[m\u{1b}" ++
@@ -664,78 +710,77 @@ row_112 = record (row 112 settings_8 (codes "\u{1b}[200~a\nb\u{1b}[201~\u{14}\r"
 }
 
 -- partial helped loaded:#V2␊abc␊
-abbrev pub settings_116 : Settings
-settings_116 = record plain {
+abbrev pub settings_127 : Settings
+settings_127 = record plain {
   config = partial plain.config;
   helping = aide true None;
   loaded = codes "#V2\nabc\n";
 }
 
 -- ab C-t Enter = ba | shows {} ␛[Ja␛[mbc␛[m␛[2D ␛[Jb␛[mc␛[m␛[1D {ba} ␍␊ {} ␍␊
-abbrev pub row_116 : Row
-row_116 = record (row 116 settings_116 (codes "ab\u{14}\r") (codes "ba\n")) {
+abbrev pub row_127 : Row
+row_127 = record (row 127 settings_127 (codes "ab\u{14}\r") (codes "ba\n")) {
   shows = Some
       (codes "\r\u{1b}[J\u{1b}[m> \u{1b}[m\u{1b}[m\u{1b}[m\u{1b}[Ja\u{1b}[mbc\u{1b}[m\u{1b}[" ++
       codes "2D\u{1b}[Jb\u{1b}[mc\u{1b}[m\u{1b}[1D\r\u{1b}[J\u{1b}[m> \u{1b}[mba\u{1b}[m" ++
       codes "\u{1b}[m\r\n\r\u{1b}[J\u{1b}[m> \u{1b}[m\u{1b}[m\u{1b}[m\r\n");
 }
 
--- abcdefghi Left Left C-t Enter = abcdefhgi | shows {} a b c d e f g h␍␊ i ␛[1D ␛[1A␛[9C {abcdefhg␍␊i}␛[1D ␛[1C␍␊ {} ␍␊
-abbrev pub row_120 : Row
-row_120 = record (row 120 settings_69 (codes "abcdefghi\u{1b}[D\u{1b}[D\u{14}\r")
+-- abcdefghi Left Left C-t Enter = abcdefhgi | shows {} a b c d e f g h␍␊ i ␛[1D ␛[1A␛[9C ␛[1D␛[Jhg␍␊i␛[1D ␛[1C␍␊ {} ␍␊
+abbrev pub row_131 : Row
+row_131 = record (row 131 settings_69 (codes "abcdefghi\u{1b}[D\u{1b}[D\u{14}\r")
     (codes "abcdefhgi\n")) {
       shows = Some (codes "\r\u{1b}[J\u{1b}[m> \u{1b}[m\u{1b}[m\u{1b}[mabcdefgh\r\ni\u{1b}[1D\u{1b}[1A"
-          ++ codes "\u{1b}[9C\r\u{1b}[J\u{1b}[m> \u{1b}[mabcdefhg\r\ni\u{1b}[m\u{1b}[m\u{1b}[1D" ++
-          codes "\u{1b}[1C\r\n\r\u{1b}[J\u{1b}[m> \u{1b}[m\u{1b}[m\u{1b}[m\r\n");
+          ++ codes "\u{1b}[9C\u{1b}[1D\u{1b}[Jhg\r\ni\u{1b}[1D\u{1b}[1C\r\n\r\u{1b}[J\u{1b}[m> " ++
+          codes "\u{1b}[m\u{1b}[m\u{1b}[m\r\n");
     }
 
--- abcdefghi C-t Enter = abcdefgih | shows {} a b c d e f g h␍␊ i ␛[1A{abcdefgi␍␊h} ␍␊ {} ␍␊
-abbrev pub row_121 : Row
-row_121 = record (row 121 settings_69 (codes "abcdefghi\u{14}\r") (codes "abcdefgih\n")) {
-  shows = Some (codes "\r\u{1b}[J\u{1b}[m> \u{1b}[m\u{1b}[m\u{1b}[mabcdefgh\r\ni\u{1b}[1A\r\u{1b}[J"
-      ++ codes "\u{1b}[m> \u{1b}[mabcdefgi\r\nh\u{1b}[m\u{1b}[m\r\n\r\u{1b}[J\u{1b}[m> \u{1b}[" ++
-      codes "m\u{1b}[m\u{1b}[m\r\n");
+-- abcdefghi C-t Enter = abcdefgih | shows {} a b c d e f g h␍␊ i ␛[1A␛[8C␛[Ji␍␊h ␍␊ {} ␍␊
+abbrev pub row_132 : Row
+row_132 = record (row 132 settings_69 (codes "abcdefghi\u{14}\r") (codes "abcdefgih\n")) {
+  shows = Some (codes "\r\u{1b}[J\u{1b}[m> \u{1b}[m\u{1b}[m\u{1b}[mabcdefgh\r\ni\u{1b}[1A\u{1b}[8C"
+      ++ codes "\u{1b}[Ji\r\nh\r\n\r\u{1b}[J\u{1b}[m> \u{1b}[m\u{1b}[m\u{1b}[m\r\n");
 }
 
 -- abcdefghij C-t Enter = abcdefghji | shows {} a b c d e f g h␍␊ i j ␈␈ji ␍␊ {} ␍␊
-abbrev pub row_122 : Row
-row_122 = record (row 122 settings_69 (codes "abcdefghij\u{14}\r") (codes "abcdefghji\n")) {
+abbrev pub row_133 : Row
+row_133 = record (row 133 settings_69 (codes "abcdefghij\u{14}\r") (codes "abcdefghji\n")) {
   shows = Some (codes "\r\u{1b}[J\u{1b}[m> \u{1b}[m\u{1b}[m\u{1b}[mabcdefgh\r\nij\u{8}\u{8}ji\r\n\r"
       ++ codes "\u{1b}[J\u{1b}[m> \u{1b}[m\u{1b}[m\u{1b}[m\r\n");
 }
 
 -- partial vi
-abbrev pub settings_125 : Settings
-settings_125 = record plain {
+abbrev pub settings_136 : Settings
+settings_136 = record plain {
   config = partial (vi plain.config);
 }
 
 -- abc Esc 0iX Enter = Xabc | shows {} a b c ␛[1D ␛[2D ␛[@X ␛[3C␍␊ {} ␍␊
-abbrev pub row_125 : Row
-row_125 = record (row 125 settings_125 (codes "abc\u{1b}0iX\r") (codes "Xabc\n")) {
+abbrev pub row_136 : Row
+row_136 = record (row 136 settings_136 (codes "abc\u{1b}0iX\r") (codes "Xabc\n")) {
   shows = Some (codes "\r\u{1b}[J\u{1b}[m> \u{1b}[m\u{1b}[m\u{1b}[mabc\u{1b}[1D\u{1b}[2D\u{1b}[@X"
       ++ codes "\u{1b}[3C\r\n\r\u{1b}[J\u{1b}[m> \u{1b}[m\u{1b}[m\u{1b}[m\r\n");
 }
 
 -- partial helped loaded:#V2␊hello␊
-abbrev pub settings_129 : Settings
-settings_129 = record plain {
+abbrev pub settings_140 : Settings
+settings_140 = record plain {
   config = partial plain.config;
   helping = aide true None;
   loaded = codes "#V2\nhello\n";
 }
 
 -- he Enter = he | shows {} ␛[Jh␛[mello␛[m␛[4D ␛[Je␛[mllo␛[m␛[3D {he} ␍␊ {} ␍␊
-abbrev pub row_129 : Row
-row_129 = record (row 129 settings_129 (codes "he\r") (codes "he\n")) {
+abbrev pub row_140 : Row
+row_140 = record (row 140 settings_140 (codes "he\r") (codes "he\n")) {
   shows = Some (codes "\r\u{1b}[J\u{1b}[m> \u{1b}[m\u{1b}[m\u{1b}[m\u{1b}[Jh\u{1b}[mello\u{1b}[m" ++
       codes "\u{1b}[4D\u{1b}[Je\u{1b}[mllo\u{1b}[m\u{1b}[3D\r\u{1b}[J\u{1b}[m> \u{1b}[mhe" ++
       codes "\u{1b}[m\u{1b}[m\r\n\r\u{1b}[J\u{1b}[m> \u{1b}[m\u{1b}[m\u{1b}[m\r\n");
 }
 
 -- he Backspace Enter = h | shows {} ␛[Jh␛[mello␛[m␛[4D ␛[Je␛[mllo␛[m␛[3D ␛[1D␛[J␛[mello␛[m␛[4D {h} ␍␊ {} ␍␊
-abbrev pub row_130 : Row
-row_130 = record (row 130 settings_129 (codes "he\u{7f}\r") (codes "h\n")) {
+abbrev pub row_141 : Row
+row_141 = record (row 141 settings_140 (codes "he\u{7f}\r") (codes "h\n")) {
   shows = Some (codes "\r\u{1b}[J\u{1b}[m> \u{1b}[m\u{1b}[m\u{1b}[m\u{1b}[Jh\u{1b}[mello\u{1b}[m" ++
       codes "\u{1b}[4D\u{1b}[Je\u{1b}[mllo\u{1b}[m\u{1b}[3D\u{1b}[1D\u{1b}[J\u{1b}[mello" ++
       codes "\u{1b}[m\u{1b}[4D\r\u{1b}[J\u{1b}[m> \u{1b}[mh\u{1b}[m\u{1b}[m\r\n\r\u{1b}[J" ++
@@ -743,8 +788,8 @@ row_130 = record (row 130 settings_129 (codes "he\u{7f}\r") (codes "h\n")) {
 }
 
 -- é] Enter Left x C-C = nothing | ends Interrupted | shows {} ␛[mé␛[m ] {␛[mé␛[m]␛[mMismatched␠brackets:␠']'␠is␠unpaired␛[m␛[36D ␛[1D ␛[Jx]␛[1D ␛[1C␍␊
-abbrev pub row_131 : Row
-row_131 = record (row 131 settings_129 (encode_utf8_all (codes "é]\r\u{1b}[Dx\u{3}")) []) {
+abbrev pub row_142 : Row
+row_142 = record (row 142 settings_140 (encode_utf8_all (codes "é]\r\u{1b}[Dx\u{3}")) []) {
   ends = Interrupted;
   shows = Some (encode_utf8_all
       (codes "\r\u{1b}[J\u{1b}[m> \u{1b}[m\u{1b}[m\u{1b}[m\u{1b}[mé\u{1b}[m]\r\u{1b}[J\u{1b}" ++
@@ -753,19 +798,185 @@ row_131 = record (row 131 settings_129 (encode_utf8_all (codes "é]\r\u{1b}[Dx\u
 }
 
 -- partial colours helped loaded:#V2␊hello␊
-abbrev pub settings_134 : Settings
-settings_134 = record plain {
+abbrev pub settings_145 : Settings
+settings_145 = record plain {
   config = partial (colours plain.config);
   helping = aide true None;
   loaded = codes "#V2\nhello\n";
 }
 
 -- h Enter = h | shows {} ␛[Jh␛[m␛[0;2mello␛[m␛[m␛[4D {h} ␍␊ {} ␍␊
-abbrev pub row_134 : Row
-row_134 = record (row 134 settings_134 (codes "h\r") (codes "h\n")) {
+abbrev pub row_145 : Row
+row_145 = record (row 145 settings_145 (codes "h\r") (codes "h\n")) {
   shows = Some (codes "\r\u{1b}[J\u{1b}[m> \u{1b}[m\u{1b}[m\u{1b}[m\u{1b}[Jh\u{1b}[m\u{1b}[0;2mello"
       ++ codes "\u{1b}[m\u{1b}[m\u{1b}[4D\r\u{1b}[J\u{1b}[m> \u{1b}[mh\u{1b}[m\u{1b}[m\r\n\r" ++
       codes "\u{1b}[J\u{1b}[m> \u{1b}[m\u{1b}[m\u{1b}[m\r\n");
+}
+
+-- partial modal colours helped
+abbrev pub settings_149 : Settings
+settings_149 = record plain {
+  config = partial (colours (modal plain.config));
+  helping = aide true None;
+}
+
+-- (a) Enter = (a) | shows {} ( a ␛[2D␛[J␛[0;1;34m(␛[ma) {(a)} ␍␊ {} ␍␊
+abbrev pub row_149 : Row
+row_149 = record (row 149 settings_149 (codes "(a)\r") (codes "(a)\n")) {
+  shows = Some
+      (codes "\r\u{1b}[J\u{1b}[m> \u{1b}[m\u{1b}[m\u{1b}[m(a\u{1b}[2D\u{1b}[J\u{1b}[0;1;34m(" ++
+      codes "\u{1b}[ma)\r\u{1b}[J\u{1b}[m> \u{1b}[m(a)\u{1b}[m\u{1b}[m\r\n\r\u{1b}[J\u{1b}[" ++
+      codes "m> \u{1b}[m\u{1b}[m\u{1b}[m\r\n");
+}
+
+-- xy(a) Enter = xy(a) | shows {} x y ( a ␛[2D␛[J␛[0;1;34m(␛[ma) {xy(a)} ␍␊ {} ␍␊
+abbrev pub row_150 : Row
+row_150 = record (row 150 settings_149 (codes "xy(a)\r") (codes "xy(a)\n")) {
+  shows = Some
+      (codes "\r\u{1b}[J\u{1b}[m> \u{1b}[m\u{1b}[m\u{1b}[mxy(a\u{1b}[2D\u{1b}[J\u{1b}[0;1;34" ++
+      codes "m(\u{1b}[ma)\r\u{1b}[J\u{1b}[m> \u{1b}[mxy(a)\u{1b}[m\u{1b}[m\r\n\r\u{1b}[J" ++
+      codes "\u{1b}[m> \u{1b}[m\u{1b}[m\u{1b}[m\r\n");
+}
+
+-- (a)bc Enter = (a)bc | shows {} ( a ␛[2D␛[J␛[0;1;34m(␛[ma) ␛[3D␛[J(a)b c ␍␊ {} ␍␊
+abbrev pub row_151 : Row
+row_151 = record (row 151 settings_149 (codes "(a)bc\r") (codes "(a)bc\n")) {
+  shows = Some
+      (codes "\r\u{1b}[J\u{1b}[m> \u{1b}[m\u{1b}[m\u{1b}[m(a\u{1b}[2D\u{1b}[J\u{1b}[0;1;34m(" ++
+      codes "\u{1b}[ma)\u{1b}[3D\u{1b}[J(a)bc\r\n\r\u{1b}[J\u{1b}[m> \u{1b}[m\u{1b}[m\u{1b}" ++
+      codes "[m\r\n");
+}
+
+-- ((a) Backspace x) ) Enter = ((ax)) | shows {} ( ( a ␛[2D␛[J␛[0;1;34m(␛[ma) ␛[3D␛[J(a x ␛[3D␛[J␛[0;1;34m(␛[max) ␛[5D␛[J␛[0;1;34m(␛[m(ax)) {((ax))} ␍␊ {} ␍␊
+abbrev pub row_152 : Row
+row_152 = record (row 152 settings_149 (codes "((a)\u{7f}x))\r") (codes "((ax))\n")) {
+  shows = Some
+      (codes "\r\u{1b}[J\u{1b}[m> \u{1b}[m\u{1b}[m\u{1b}[m((a\u{1b}[2D\u{1b}[J\u{1b}[0;1;34m" ++
+      codes "(\u{1b}[ma)\u{1b}[3D\u{1b}[J(ax\u{1b}[3D\u{1b}[J\u{1b}[0;1;34m(\u{1b}[max)" ++
+      codes "\u{1b}[5D\u{1b}[J\u{1b}[0;1;34m(\u{1b}[m(ax))\r\u{1b}[J\u{1b}[m> \u{1b}[m((ax)" ++
+      codes ")\u{1b}[m\u{1b}[m\r\n\r\u{1b}[J\u{1b}[m> \u{1b}[m\u{1b}[m\u{1b}[m\r\n");
+}
+
+-- (a) Left Left Left x Enter = x(a) | shows {} ( a ␛[2D␛[J␛[0;1;34m(␛[ma) {␛[0;1;34m(␛[ma)}␛[1D {(a␛[0;1;34m)␛[m}␛[2D {(a␛[0;1;34m)␛[m}␛[3D ␛[Jx(a␛[0;1;34m)␛[m␛[3D {x(a)}␛[3D ␛[3C␍␊ {} ␍␊
+abbrev pub row_155 : Row
+row_155 = record (row 155 settings_149 (codes "(a)\u{1b}[D\u{1b}[D\u{1b}[Dx\r") (codes "x(a)\n")) {
+  shows = Some
+      (codes "\r\u{1b}[J\u{1b}[m> \u{1b}[m\u{1b}[m\u{1b}[m(a\u{1b}[2D\u{1b}[J\u{1b}[0;1;34m(" ++
+      codes "\u{1b}[ma)\r\u{1b}[J\u{1b}[m> \u{1b}[m\u{1b}[0;1;34m(\u{1b}[ma)\u{1b}[m\u{1b}[" ++
+      codes "m\u{1b}[1D\r\u{1b}[J\u{1b}[m> \u{1b}[m(a\u{1b}[0;1;34m)\u{1b}[m\u{1b}[m\u{1b}[" ++
+      codes "m\u{1b}[2D\r\u{1b}[J\u{1b}[m> \u{1b}[m(a\u{1b}[0;1;34m)\u{1b}[m\u{1b}[m\u{1b}[" ++
+      codes "m\u{1b}[3D\u{1b}[Jx(a\u{1b}[0;1;34m)\u{1b}[m\u{1b}[3D\r\u{1b}[J\u{1b}[m> " ++
+      codes "\u{1b}[mx(a)\u{1b}[m\u{1b}[m\u{1b}[3D\u{1b}[3C\r\n\r\u{1b}[J\u{1b}[m> \u{1b}[m" ++
+      codes "\u{1b}[m\u{1b}[m\r\n");
+}
+
+-- (a) C-B C-K C-Y Enter = (a) | shows {} ( a ␛[2D␛[J␛[0;1;34m(␛[ma) {␛[0;1;34m(␛[ma)}␛[1D ␛[2D␛[J(a ␛[2D␛[J␛[0;1;34m(␛[ma) {(a)} ␍␊ {} ␍␊
+abbrev pub row_156 : Row
+row_156 = record (row 156 settings_149 (codes "(a)\u{2}\u{b}\u{19}\r") (codes "(a)\n")) {
+  shows = Some
+      (codes "\r\u{1b}[J\u{1b}[m> \u{1b}[m\u{1b}[m\u{1b}[m(a\u{1b}[2D\u{1b}[J\u{1b}[0;1;34m(" ++
+      codes "\u{1b}[ma)\r\u{1b}[J\u{1b}[m> \u{1b}[m\u{1b}[0;1;34m(\u{1b}[ma)\u{1b}[m\u{1b}[" ++
+      codes "m\u{1b}[1D\u{1b}[2D\u{1b}[J(a\u{1b}[2D\u{1b}[J\u{1b}[0;1;34m(\u{1b}[ma)\r" ++
+      codes "\u{1b}[J\u{1b}[m> \u{1b}[m(a)\u{1b}[m\u{1b}[m\r\n\r\u{1b}[J\u{1b}[m> \u{1b}[m" ++
+      codes "\u{1b}[m\u{1b}[m\r\n");
+}
+
+-- ] Enter x C-U ok Enter = ok | shows {} ␛[J] {]} {]␛[m␛[0;31mMismatched␠brackets:␠']'␠is␠unpaired␛[m␛[m␛[36D ␛[Jx ␛[2D␛[K o k ␍␊ {} ␍␊
+abbrev pub row_157 : Row
+row_157 = record (row 157 settings_149 (codes "]\rx\u{15}ok\r") (codes "ok\n")) {
+  shows = Some (codes "\r\u{1b}[J\u{1b}[m> \u{1b}[m\u{1b}[m\u{1b}[m\u{1b}[J]\r\u{1b}[J\u{1b}[m> " ++
+      codes "\u{1b}[m]\u{1b}[m\u{1b}[m\r\u{1b}[J\u{1b}[m> \u{1b}[m]\u{1b}[m\u{1b}[0;31mMism" ++
+      codes "atched brackets: ']' is unpaired\u{1b}[m\u{1b}[m\u{1b}[36D\u{1b}[Jx\u{1b}[2D" ++
+      codes "\u{1b}[Kok\r\n\r\u{1b}[J\u{1b}[m> \u{1b}[m\u{1b}[m\u{1b}[m\r\n");
+}
+
+-- 漢(é) Enter = 漢(é) | shows {} ␛[m漢␛[m ( ␛[mé␛[m ␛[2D␛[J␛[0;1;34m(␛[m␛[mé␛[m) {␛[m漢␛[m(␛[mé␛[m)} ␍␊ {} ␍␊
+abbrev pub row_158 : Row
+row_158 = record (row 158 settings_149 (encode_utf8_all (codes "漢(é)\r")) (encode_utf8_all
+    (codes "漢(é)\n"))) {
+      shows = Some (encode_utf8_all
+          (codes "\r\u{1b}[J\u{1b}[m> \u{1b}[m\u{1b}[m\u{1b}[m\u{1b}[m漢\u{1b}[m(\u{1b}[mé\u{1b}[" ++
+          codes "m\u{1b}[2D\u{1b}[J\u{1b}[0;1;34m(\u{1b}[m\u{1b}[mé\u{1b}[m)\r\u{1b}[J\u{1b}[m>" ++
+          codes " \u{1b}[m\u{1b}[m漢\u{1b}[m(\u{1b}[mé\u{1b}[m)\u{1b}[m\u{1b}[m\r\n\r\u{1b}[J" ++
+          codes "\u{1b}[m> \u{1b}[m\u{1b}[m\u{1b}[m\r\n"));
+    }
+
+-- partial modal colours vi helped
+abbrev pub settings_161 : Settings
+settings_161 = record plain {
+  config = partial (colours (modal (vi plain.config)));
+  helping = aide true None;
+}
+
+-- (a) Esc rX C-C = nothing | ends Interrupted | shows {} ( a ␛[2D␛[J␛[0;1;34m(␛[ma) {␛[0;1;34m(␛[ma)}␛[1D ␛[2D␛[J(aX␛[1D ␛[1C␍␊
+abbrev pub row_161 : Row
+row_161 = record (row 161 settings_161 (codes "(a)\u{1b}rX\u{3}") []) {
+  ends = Interrupted;
+  shows = Some
+      (codes "\r\u{1b}[J\u{1b}[m> \u{1b}[m\u{1b}[m\u{1b}[m(a\u{1b}[2D\u{1b}[J\u{1b}[0;1;34m(" ++
+      codes "\u{1b}[ma)\r\u{1b}[J\u{1b}[m> \u{1b}[m\u{1b}[0;1;34m(\u{1b}[ma)\u{1b}[m\u{1b}[" ++
+      codes "m\u{1b}[1D\u{1b}[2D\u{1b}[J(aX\u{1b}[1D\u{1b}[1C\r\n");
+}
+
+-- partial modal colours helped columns:8
+abbrev pub settings_165 : Settings
+settings_165 = record plain {
+  config = partial (colours (modal plain.config));
+  columns = 8;
+  helping = aide true None;
+}
+
+-- (abcdef) Enter = (abcdef) | shows {} ( a b c d e␍␊ f ␛[1A␛[1C␛[J␛[0;1;34m(␛[mabcde␍␊f) ␛[1A{(abcde␍␊f)} ␍␊ {} ␍␊
+abbrev pub row_165 : Row
+row_165 = record (row 165 settings_165 (codes "(abcdef)\r") (codes "(abcdef)\n")) {
+  shows = Some (codes "\r\u{1b}[J\u{1b}[m> \u{1b}[m\u{1b}[m\u{1b}[m(abcde\r\nf\u{1b}[1A\u{1b}[1C" ++
+      codes "\u{1b}[J\u{1b}[0;1;34m(\u{1b}[mabcde\r\nf)\u{1b}[1A\r\u{1b}[J\u{1b}[m> \u{1b}[" ++
+      codes "m(abcde\r\nf)\u{1b}[m\u{1b}[m\r\n\r\u{1b}[J\u{1b}[m> \u{1b}[m\u{1b}[m\u{1b}[m" ++
+      codes "\r\n");
+}
+
+-- xyabcdef(g) Enter = xyabcdef(g) | shows {} x y a b c d␍␊ e f ( g ␛[2D␛[J␛[0;1;34m(␛[mg) ␛[1A{xyabcd␍␊ef(g)} ␍␊ {} ␍␊
+abbrev pub row_166 : Row
+row_166 = record (row 166 settings_165 (codes "xyabcdef(g)\r") (codes "xyabcdef(g)\n")) {
+  shows = Some (codes "\r\u{1b}[J\u{1b}[m> \u{1b}[m\u{1b}[m\u{1b}[mxyabcd\r\nef(g\u{1b}[2D\u{1b}[J"
+      ++ codes "\u{1b}[0;1;34m(\u{1b}[mg)\u{1b}[1A\r\u{1b}[J\u{1b}[m> \u{1b}[mxyabcd\r\nef(g)" ++
+      codes "\u{1b}[m\u{1b}[m\r\n\r\u{1b}[J\u{1b}[m> \u{1b}[m\u{1b}[m\u{1b}[m\r\n");
+}
+
+-- xyabcd(e) Enter = xyabcd(e) | shows {} x y a b c d␍␊ ( e ␛[2D␛[J␛[0;1;34m(␛[me) ␛[1A{xyabcd␍␊(e)} ␍␊ {} ␍␊
+abbrev pub row_167 : Row
+row_167 = record (row 167 settings_165 (codes "xyabcd(e)\r") (codes "xyabcd(e)\n")) {
+  shows = Some (codes "\r\u{1b}[J\u{1b}[m> \u{1b}[m\u{1b}[m\u{1b}[mxyabcd\r\n(e\u{1b}[2D\u{1b}[J" ++
+      codes "\u{1b}[0;1;34m(\u{1b}[me)\u{1b}[1A\r\u{1b}[J\u{1b}[m> \u{1b}[mxyabcd\r\n(e)" ++
+      codes "\u{1b}[m\u{1b}[m\r\n\r\u{1b}[J\u{1b}[m> \u{1b}[m\u{1b}[m\u{1b}[m\r\n");
+}
+
+-- abcde(f) Enter = abcde(f) | shows {} a b c d e (␍␊ f ␛[1A␛[6C␛[J␛[0;1;34m(␛[m␍␊␛[0;1;34m␛[mf) ␛[1A{abcde(␍␊f)} ␍␊ {} ␍␊
+abbrev pub row_168 : Row
+row_168 = record (row 168 settings_165 (codes "abcde(f)\r") (codes "abcde(f)\n")) {
+  shows = Some (codes "\r\u{1b}[J\u{1b}[m> \u{1b}[m\u{1b}[m\u{1b}[mabcde(\r\nf\u{1b}[1A\u{1b}[6C" ++
+      codes "\u{1b}[J\u{1b}[0;1;34m(\u{1b}[m\r\n\u{1b}[0;1;34m\u{1b}[mf)\u{1b}[1A\r\u{1b}[J" ++
+      codes "\u{1b}[m> \u{1b}[mabcde(\r\nf)\u{1b}[m\u{1b}[m\r\n\r\u{1b}[J\u{1b}[m> \u{1b}[m" ++
+      codes "\u{1b}[m\u{1b}[m\r\n");
+}
+
+-- partial colours helped loaded:#V2␊f(x)y␊
+abbrev pub settings_172 : Settings
+settings_172 = record plain {
+  config = partial (colours plain.config);
+  helping = aide true None;
+  loaded = codes "#V2\nf(x)y\n";
+}
+
+-- f(x) Enter = f(x) | shows {} ␛[Jf␛[m␛[0;2m(x)y␛[m␛[m␛[4D ␛[J(␛[m␛[0;2mx)y␛[m␛[m␛[3D ␛[Jx␛[m␛[0;2m)y␛[m␛[m␛[2D ␛[2D␛[J␛[0;1;34m(␛[mx)␛[m␛[0;2my␛[m␛[m␛[1D {f(x)} ␍␊ {} ␍␊
+abbrev pub row_172 : Row
+row_172 = record (row 172 settings_172 (codes "f(x)\r") (codes "f(x)\n")) {
+  shows = Some (codes "\r\u{1b}[J\u{1b}[m> \u{1b}[m\u{1b}[m\u{1b}[m\u{1b}[Jf\u{1b}[m\u{1b}[0;2m(x)y"
+      ++ codes "\u{1b}[m\u{1b}[m\u{1b}[4D\u{1b}[J(\u{1b}[m\u{1b}[0;2mx)y\u{1b}[m\u{1b}[m\u{1b}" ++
+      codes "[3D\u{1b}[Jx\u{1b}[m\u{1b}[0;2m)y\u{1b}[m\u{1b}[m\u{1b}[2D\u{1b}[2D\u{1b}[J" ++
+      codes "\u{1b}[0;1;34m(\u{1b}[mx)\u{1b}[m\u{1b}[0;2my\u{1b}[m\u{1b}[m\u{1b}[1D\r\u{1b}" ++
+      codes "[J\u{1b}[m> \u{1b}[mf(x)\u{1b}[m\u{1b}[m\r\n\r\u{1b}[J\u{1b}[m> \u{1b}[m\u{1b}" ++
+      codes "[m\u{1b}[m\r\n");
 }
 
 abbrev pub partial_rows : List Row
@@ -775,6 +986,8 @@ partial_rows = row_8 ∷ row_9 ∷ row_10 ∷ row_11 ∷ row_12 ∷ row_15 ∷ r
     ∷ row_51 ∷ row_52 ∷ row_53 ∷ row_54 ∷ row_55 ∷ row_56 ∷ row_57 ∷ row_60 ∷ row_63 ∷ row_64 ∷
     row_65 ∷ row_69 ∷ row_70 ∷ row_71 ∷ row_72 ∷ row_73 ∷ row_74 ∷ row_79 ∷ row_80 ∷ row_81 ∷ row_82
     ∷ row_83 ∷ row_84 ∷ row_85 ∷ row_86 ∷ row_87 ∷ row_88 ∷ row_91 ∷ row_92 ∷ row_93 ∷ row_94 ∷
-    row_95 ∷ row_96 ∷ row_99 ∷ row_100 ∷ row_104 ∷ row_105 ∷ row_106 ∷ row_107 ∷ row_108 ∷ row_111 ∷
-    row_112 ∷ row_116 ∷ row_120 ∷ row_121 ∷ row_122 ∷ row_125 ∷ row_129 ∷ row_130 ∷ row_131 ∷
-    row_134 ∷ []
+    row_95 ∷ row_96 ∷ row_100 ∷ row_101 ∷ row_102 ∷ row_103 ∷ row_106 ∷ row_110 ∷ row_111 ∷ row_115
+    ∷ row_116 ∷ row_117 ∷ row_118 ∷ row_119 ∷ row_122 ∷ row_123 ∷ row_127 ∷ row_131 ∷ row_132 ∷
+    row_133 ∷ row_136 ∷ row_140 ∷ row_141 ∷ row_142 ∷ row_145 ∷ row_149 ∷ row_150 ∷ row_151 ∷
+    row_152 ∷ row_155 ∷ row_156 ∷ row_157 ∷ row_158 ∷ row_161 ∷ row_165 ∷ row_166 ∷ row_167 ∷
+    row_168 ∷ row_172 ∷ []

@@ -630,13 +630,13 @@ settings_137 = record plain {
   helping = aide true None;
 }
 
--- Paste (␉) Pasted Enter = (␉) | shows {} {␛[0;1;34m(␛[m␠␠␠␠␠)} {(␠␠␠␠␠)} ␍␊ {} ␍␊
+-- Paste (␉) Pasted Enter = (␉) | shows {} ␛[J␛[0;1;34m(␛[m␠␠␠␠␠) {(␠␠␠␠␠)} ␍␊ {} ␍␊
 abbrev pub row_137 : Row
 row_137 = record (row 137 settings_137 (codes "\u{1b}[200~(\t)\u{1b}[201~\r") (codes "(\t)\n")) {
   shows = Some
-      (codes "\r\u{1b}[J\u{1b}[m> \u{1b}[m\u{1b}[m\u{1b}[m\r\u{1b}[J\u{1b}[m> \u{1b}[m\u{1b}" ++
-      codes "[0;1;34m(\u{1b}[m     )\u{1b}[m\u{1b}[m\r\u{1b}[J\u{1b}[m> \u{1b}[m(     )" ++
-      codes "\u{1b}[m\u{1b}[m\r\n\r\u{1b}[J\u{1b}[m> \u{1b}[m\u{1b}[m\u{1b}[m\r\n");
+      (codes "\r\u{1b}[J\u{1b}[m> \u{1b}[m\u{1b}[m\u{1b}[m\u{1b}[J\u{1b}[0;1;34m(\u{1b}[m   " ++
+      codes "  )\r\u{1b}[J\u{1b}[m> \u{1b}[m(     )\u{1b}[m\u{1b}[m\r\n\r\u{1b}[J\u{1b}[m> " ++
+      codes "\u{1b}[m\u{1b}[m\u{1b}[m\r\n");
 }
 
 -- Paste a␉ Pasted ( x Enter ) Enter = a␉(x␊) | shows {} ␛[Ja␠␠␠␠␠ ( x ␛[J␍␊ ␛[1A{a␠␠␠␠␠␛[0;1;34m(␛[mx␍␊)} ␛[1A{a␠␠␠␠␠(x␍␊)} ␍␊ {} ␍␊

@@ -7,7 +7,7 @@ use line_editor::Renderer;
 use line_help::StandardHighlighter;
 use line_screen::{ScreenRenderer, laws};
 use stand_ins::lines::line_of;
-use stand_ins::rows::{Player, raised, rows_hold, same};
+use stand_ins::rows::{Player, raised, rows_hold, same, stands};
 use stand_ins::sinks::FailingSink;
 use stand_ins::tables::{meant, pictured_bytes, word_and_rest};
 use std::alloc::{AllocError, Global};
@@ -114,7 +114,7 @@ const TABS: &str = "
 ";
 
 /// The calls of a table's rows.
-#[derive(Drop)]
+#[derive(Clone, Copy, Drop)]
 enum Ask {
     Drawing,
     Tabs,
@@ -194,13 +194,6 @@ fn drawn(alloc: Global, stop: Option<u8>, call: &str) -> Result<String, Readline
 fn drawn_with_stops(alloc: Global, call: &str) -> Result<String, ReadlineError> {
     let (stop, call) = word_and_rest(call);
     drawn(alloc, stop.parse().ok(), call)
-}
-
-#[test]
-fn draws_lines(rt: HostRuntime) -> Result<(), Fail> {
-    rows_hold(rt.alloc(), &mut Ask::Drawing, LINES)?;
-    rows_hold(rt.alloc(), &mut Ask::Drawing, MARGINS)?;
-    rows_hold(rt.alloc(), &mut Ask::Tabs, TABS)
 }
 
 // Draws the longer line over the other one, which has no older drawing, and clears its rows; the
@@ -346,7 +339,7 @@ fn call_made<Out: Renderer>(
         "write_over" => written_over(screen, text.as_str(), NEAR, HERE),
         "write_far" => written_over(screen, text.as_str(), THERE, NEXT),
         "append_text" => screen.append_text(text.as_str(), HERE).map(|_| ()),
-        "refresh_rest" => draw_rest(screen, "plain", "", text, ""),
+        "refresh_rest" => draw_rest(screen, "plain", text, 0, ""),
         "clear_screen" => screen.clear_screen(),
         "clear_rows" => screen.clear_rows(&layout),
         "leftmost" => screen.move_cursor_at_leftmost(),
@@ -375,11 +368,16 @@ fn sent(alloc: Global, call: &str) -> Result<String, ReadlineError> {
 }
 
 #[test]
-fn makes_the_other_calls(rt: HostRuntime) -> Result<(), Fail> {
+fn draws_lines_and_makes_the_other_calls(rt: HostRuntime) -> Result<(), Fail> {
+    rows_hold(rt.alloc(), &mut Ask::Drawing, LINES)?;
+    rows_hold(rt.alloc(), &mut Ask::Drawing, MARGINS)?;
+    rows_hold(rt.alloc(), &mut Ask::Tabs, TABS)?;
     rows_hold(rt.alloc(), &mut Ask::Call, CALLS)?;
-    let mut screen = screen(VecSink::new(rt.alloc()), 80, BellStyle::Audible);
-    assert!(rt; keeps_its_size(&mut screen));
-    Ok(())
+    rows_hold(rt.alloc(), &mut Ask::Insertion, INSERTIONS)?;
+    rows_hold(rt.alloc(), &mut Ask::Rest, RESTS)?;
+    rows_hold(rt.alloc(), &mut Ask::FailedWrite, FAILED_WRITES)?;
+    rows_hold(rt.alloc(), &mut Ask::PassedOn, PASSED_ON)?;
+    stands(a_size_is_kept(rt.alloc()), "a renderer of another size")
 }
 
 // Columns, and letters before which `x` is put in column 1; the bytes.
@@ -408,14 +406,10 @@ fn inserted(alloc: Global, call: &str) -> Result<String, ReadlineError> {
     raised(pictured_bytes(alloc, screen.into_sink().bytes()))
 }
 
-#[test]
-fn puts_a_letter_before_others(rt: HostRuntime) -> Result<(), Fail> {
-    rows_hold(rt.alloc(), &mut Ask::Insertion, INSERTIONS)
-}
-
-// How a rest is drawn: without a highlighter, or with one that draws hints faint and messages red.
-// Then columns, what stands before the rest, from the first cell on, the rest with the cursor, and
-// a hint or message; the bytes. The cursor was in the first cell.
+// How a rest is drawn: without a highlighter, or with one that draws hints faint and messages red,
+// and in a marked line the match of the bracket at the cursor bold and blue. Then columns, the line
+// before the rest, from the first cell on, the rest with the cursor, and a hint or message; the
+// bytes. The cursor was in the first cell.
 const RESTS: &str = "
     plain 80 ab c|d         = ␛[2C␛[Jcd␛[1D
     plain 80 ab |           = ␛[2C␛[J
@@ -428,26 +422,53 @@ const RESTS: &str = "
     hint 80 h i|            = ␛[1C␛[Ji
     hint 80 h i| there      = ␛[1C␛[Ji␛[m␛[0;2mthere␛[m␛[m␛[5D
     message 80 a | no       = ␛[1C␛[J␛[m␛[0;31mno␛[m␛[m␛[2D
+    hint 80 a (b)|          = ␛[1C␛[J(b)
+    marked 80 a (b)|        = ␛[1C␛[J␛[0;1;34m(␛[mb)
+    marked 80 a |(b)        = ␛[1C␛[J(b␛[0;1;34m)␛[m␛[3D
+    marked 80 a(b |c)d      = ␛[3C␛[Jc)d␛[3D
+    marked 80 a(b )|        = ␛[3C␛[J)
+    marked 4 ab (c)|        = ␛[2C␛[J␛[0;1;34m(␛[mc␍␊)
+    marked 4 abc ()|        = ␛[3C␛[J␛[0;1;34m(␛[m␍␊␛[0;1;34m␛[m)
+    marked 80 漢 (b)|       = ␛[2C␛[J␛[0;1;34m(␛[mb)
+    marked 80 none (漢)|    = ␛[J␛[0;1;34m(␛[m␛[m漢␛[m)
+    marked 80 none (␉)|     = ␛[J␛[0;1;34m(␛[m␛[m?␛[m)
+    marked 80 a (␊)|        = ␛[1C␛[J␛[0;1;34m(␛[m␍␊)
+    marked 80 a (b)| !      = ␛[1C␛[J␛[0;1;34m(␛[mb)␛[m␛[0;2m!␛[m␛[m␛[1D
+    marked 80 a |(b) !      = ␛[1C␛[J(b␛[0;1;34m)␛[m␛[m␛[0;2m!␛[m␛[m␛[4D
 ";
 
-// Draws a rest behind a text.
+// Draws a line from a place on.
 fn draw_rest<Out: Renderer>(
     screen: &mut Out,
     how: &str,
-    before: &str,
-    rest: &LineBuffer,
+    line: &LineBuffer,
+    from: usize,
     info: &str,
 ) -> Result<(), ReadlineError> {
-    let at = screen.calculate_position(before, ORIGIN);
+    let text = line.as_str();
+    if !text.is_char_boundary(from) {
+        return Ok(());
+    }
+    let at = screen.calculate_position(&text[..from], ORIGIN);
     let info = if info.is_empty() { None } else { Some(info) };
-    let new = screen.compute_layout(at, true, rest, info);
+    let new = screen.compute_layout(ORIGIN, true, line, info);
     let styled = StandardHighlighter::new();
     let highlighter = if how == "plain" { None } else { Some(&styled) };
-    let told = how == "message";
-    screen.refresh_rest(rest.as_str(), info, ORIGIN, at, &new, highlighter, told)
+    let (marked, told) = (how == "marked", how == "message");
+    screen.refresh_rest(
+        line,
+        from,
+        info,
+        ORIGIN,
+        at,
+        &new,
+        highlighter,
+        marked,
+        told,
+    )
 }
 
-// The bytes of a rest and what follows it.
+// The bytes of a line's rest and what follows it.
 fn rest_behind(
     alloc: Global,
     how: &str,
@@ -456,10 +477,23 @@ fn rest_behind(
     shown: &str,
 ) -> Result<String, ReadlineError> {
     let (rest, info) = word_and_rest(shown);
-    let rest = line_of(alloc, rest)?;
+    let line = format!(in alloc; "{before}{rest}")?;
+    let line = line_of(alloc, line.as_str())?;
     let info = meant(alloc, info)?;
+    rest_bytes(alloc, how, columns, &line, before.len(), info.as_str())
+}
+
+// The bytes of a line from a place on.
+fn rest_bytes(
+    alloc: Global,
+    how: &str,
+    columns: u16,
+    line: &LineBuffer,
+    from: usize,
+    info: &str,
+) -> Result<String, ReadlineError> {
     let mut screen = screen(VecSink::new(alloc), columns, BellStyle::Audible);
-    draw_rest(&mut screen, how, before, &rest, info.as_str())?;
+    draw_rest(&mut screen, how, line, from, info)?;
     raised(pictured_bytes(alloc, screen.into_sink().bytes()))
 }
 
@@ -473,9 +507,8 @@ fn rest_sent(alloc: Global, call: &str) -> Result<String, ReadlineError> {
     rest_behind(alloc, how, columns, before.as_str(), shown)
 }
 
-#[test]
-fn draws_rests(rt: HostRuntime) -> Result<(), Fail> {
-    rows_hold(rt.alloc(), &mut Ask::Rest, RESTS)
+fn a_size_is_kept(alloc: Global) -> bool {
+    keeps_its_size(&mut screen(VecSink::new(alloc), 80, BellStyle::Audible))
 }
 
 fn keeps_its_size(screen: &mut ScreenRenderer<VecSink>) -> bool {
@@ -529,12 +562,6 @@ const FAILED_WRITES: &str = "
     11  = refused
 ";
 
-/// The whole drawing takes more than twelve writes.
-#[test]
-fn answers_each_failed_write(rt: HostRuntime) -> Result<(), Fail> {
-    rows_hold(rt.alloc(), &mut Ask::FailedWrite, FAILED_WRITES)
-}
-
 // Calls, and whether they write anything; nothing is buffered after them.
 const PASSED_ON: &str = "
     refresh_line ab     = written
@@ -563,11 +590,6 @@ fn passed_on(alloc: Global, call: &str) -> Result<String, ReadlineError> {
     let mut screen = screen(Gathers::new(), 80, BellStyle::Audible);
     call_made(&mut screen, call, &line)?;
     raised(String::from_str(alloc, screen.into_sink().told()))
-}
-
-#[test]
-fn passes_on_what_it_wrote(rt: HostRuntime) -> Result<(), Fail> {
-    rows_hold(rt.alloc(), &mut Ask::PassedOn, PASSED_ON)
 }
 
 #[test]

@@ -1,6 +1,6 @@
 //! Bytes read as keys, characters and pasted texts.
 
-use crate::screen::sources::OneByOne;
+use crate::library::told::OneByOne;
 use line_config::{EditMode, ReadSource, ReadlineError, SliceSource, Source};
 use line_keys::{Cmd, KeyCode, KeyEvent, Modifiers, RawReader};
 use line_screen::KeyReader;
@@ -15,8 +15,7 @@ use std::test::Fail;
 fn tell_key<R: RawReader>(reader: &mut R, said: &mut String) -> Result<(), ReadlineError> {
     let key = reader.next_key(false)?;
     write_key(said, key)?;
-    said.push(' ')?;
-    Ok(())
+    raised(said.push(' '))
 }
 
 // Requests a pasted text, and writes it.
@@ -27,8 +26,7 @@ fn tell_text<R: RawReader>(
 ) -> Result<(), ReadlineError> {
     let text = reader.read_pasted_text(alloc)?;
     let shown = pictured(alloc, text.as_str())?;
-    write!(said, "text:{shown} ")?;
-    Ok(())
+    raised(write!(said, "text:{shown} "))
 }
 
 // Requests a text after a PasteStart, if texts are read, and otherwise a key.
@@ -65,11 +63,9 @@ fn tell_refusal<R: RawReader>(
     said: &mut String,
     why: ReadlineError,
 ) -> Result<(), AllocError> {
-    write!(said, "{why:?}")?;
-    if reader.next_key(true) != Err(why) {
-        said.push_str(", but not for good")?;
-    }
-    Ok(())
+    let lasts = reader.next_key(true) == Err(why);
+    let end = if lasts { "" } else { ", but not for good" };
+    write!(said, "{why:?}{end}")
 }
 
 /// What a reader gives until it fails, which it then does again: keys by their names, and, if texts
@@ -140,7 +136,7 @@ pub(crate) fn read_until_a_failure(
 }
 
 /// The calls of a table's rows.
-#[derive(Drop)]
+#[derive(Clone, Copy, Drop)]
 enum Ask {
     Keys,
     Texts,
@@ -248,7 +244,10 @@ const TEXTS: &str = "
 fn bytes_read_as_keys_and_texts(rt: HostRuntime) -> Result<(), Fail> {
     rows_hold(rt.alloc(), &mut Ask::Keys, KEYS)?;
     rows_hold(rt.alloc(), &mut Ask::Keys, NO_CHARACTERS)?;
-    rows_hold(rt.alloc(), &mut Ask::Texts, TEXTS)
+    rows_hold(rt.alloc(), &mut Ask::Texts, TEXTS)?;
+    rows_hold(rt.alloc(), &mut Ask::CutText, CUT_TEXTS)?;
+    rows_hold(rt.alloc(), &mut Ask::Character, CHARACTERS)?;
+    rows_hold(rt.alloc(), &mut Ask::Calls, CALLS)
 }
 
 // How many bytes of a text there are, and what they are read as if they end and if the source
@@ -291,11 +290,6 @@ fn cut_text_told(alloc: Global, count: &str) -> Result<String, AllocError> {
 
 // Reading a cut-off text fails as the bytes end: at their end, inside a character, or with a
 // failure.
-#[test]
-fn texts_are_cut_off_anywhere(rt: HostRuntime) -> Result<(), Fail> {
-    rows_hold(rt.alloc(), &mut Ask::CutText, CUT_TEXTS)
-}
-
 // The first and the last characters of each length, and those around the surrogates, by their numbers.
 const CHARACTERS: &str = "
     ‹00›            = 0
@@ -357,11 +351,6 @@ fn character_told(alloc: Global, bytes: &str) -> Result<String, AllocError> {
     number_told(alloc, &bytes)
 }
 
-#[test]
-fn characters_are_read(rt: HostRuntime) -> Result<(), Fail> {
-    rows_hold(rt.alloc(), &mut Ask::Character, CHARACTERS)
-}
-
 // Calls of a reader of bytes, one after the other; their answers, what the reader has read ahead
 // then, and the bytes that it leaves. `+` is for a single Esc that doesn't wait.
 const CALLS: &str = "
@@ -404,10 +393,10 @@ fn tell_answer<R: RawReader>(
     call: &str,
     said: &mut String,
 ) -> Result<(), AllocError> {
-    if let Err(why) = tell_call(alloc, reader, call, said) {
-        write!(said, "{why:?}")?;
+    match tell_call(alloc, reader, call, said) {
+        Ok(()) => said.push(' '),
+        Err(why) => write!(said, "{why:?} "),
     }
-    said.push(' ')
 }
 
 fn tell_answers<R: RawReader>(
@@ -437,18 +426,21 @@ fn tell_parts<S: Source>(
 }
 
 // Makes the calls, and writes the result.
-fn called(alloc: Global, bytes: &[u8], mode: EditMode, calls: &str) -> Result<String, AllocError> {
+fn tell_called(
+    alloc: Global,
+    bytes: &[u8],
+    mode: EditMode,
+    calls: &str,
+    said: &mut String,
+) -> Result<(), AllocError> {
     let mut reader = KeyReader::new(SliceSource::new(bytes), mode);
-    let mut said = String::new(alloc);
-    if let Some(calls) = calls.strip_suffix("unbuffer") {
-        tell_answers(alloc, &mut reader, calls, &mut said)?;
-        tell_kept(&mut said, reader.unbuffer())?;
-    } else {
-        tell_answers(alloc, &mut reader, calls, &mut said)?;
-        let (mut source, kept) = reader.into_parts();
-        tell_parts(alloc, &mut said, &mut source, kept)?;
+    let answered = calls.strip_suffix("unbuffer").unwrap_or(calls);
+    tell_answers(alloc, &mut reader, answered, said)?;
+    if calls.ends_with("unbuffer") {
+        return tell_kept(said, reader.unbuffer());
     }
-    Ok(said)
+    let (mut source, kept) = reader.into_parts();
+    tell_parts(alloc, said, &mut source, kept)
 }
 
 // The answers of a row's calls.
@@ -460,13 +452,9 @@ fn calls_told(alloc: Global, call: &str) -> Result<String, AllocError> {
         "vi" => EditMode::Vi,
         _ => EditMode::Emacs,
     };
-    let said = called(alloc, &bytes, mode, calls)?;
+    let mut said = String::new(alloc);
+    tell_called(alloc, &bytes, mode, calls, &mut said)?;
     String::from_str(alloc, said.as_str().trim())
-}
-
-#[test]
-fn calls_one_after_the_other(rt: HostRuntime) -> Result<(), Fail> {
-    rows_hold(rt.alloc(), &mut Ask::Calls, CALLS)
 }
 
 // A key and its command.

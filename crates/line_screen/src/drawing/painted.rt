@@ -1,11 +1,11 @@
 //! A text with styles, in the cells that it has without them.
 
-ghost use Rattle.std.specs.Prelude.{◌∷◌, ◌≡◌, ◌≤◌, ◌<◌, ◌==◌, ◌+◌, ◌++◌, [], true, IsTrue, OnOk, OnErr, IfOk, None, length, map, nat_le};
+ghost use Rattle.std.specs.Prelude.{◌∷◌, ◌≡◌, ◌≤◌, ◌<◌, ◌==◌, ◌+◌, ◌++◌, [], true, IsTrue, IsCharBoundary, OnOk, OnErr, IfOk, None, length, map, nat_le};
 ghost use Rattle.unicode_segmentation.specs.Grapheme.{graphemes};
 ghost use Rattle.line_screen.specs.Drawing.{left_col, drawn_item, SendsTo, col_after, break_if, break_unless, fitted_col, col_after_one, no_style};
 ghost use Rattle.line_screen.specs.Drawing.DrawnItem.{Cluster, Tab};
 ghost use Rattle.line_screen.specs.Measure.{widths_by};
-ghost use Rattle.line_screen.specs.Colours.{end_of, bytes_of_all_painted, style_bytes, letters_within, spans_within, shaded_break, letters_in_style, painted_letters, items_painted_after, painted_clusters, painted_row, painted_text, painted_item, bytes_of_painted, SendsPainted, spans_in, span_of, brush_paints, brush_spans, first_style, skip, next_painted, spans_behind, IsFirstSpan};
+ghost use Rattle.line_screen.specs.Colours.{end_of, bytes_of_all_painted, style_bytes, letters_within, spans_within, shaded_break, letters_in_style, painted_letters, items_painted_after, painted_clusters, painted_row, painted_text, painted_rest, painted_item, bytes_of_painted, SendsPainted, spans_in, span_of, brush_paints, brush_spans, first_style, skip, next_painted, spans_behind, IsFirstSpan};
 ghost use Rattle.line_screen.specs.Styles.{numbers};
 ghost use Rattle.line_help.specs.Paints.{IsNextSpan, first_mark};
 ghost use Rattle.line_screen.specs.Colours.PaintedItem.{Shaded, Fenced, Padded};
@@ -466,21 +466,22 @@ fn behind_row<H: Highlighter>(
     here.skip(brush, row.len())
 }
 
-/// A text with its styles, row by row.
+/// A text, or its end, with the spans that stand there, row by row.
 fn send_painted_rows<D: Sink, H: Highlighter>(
     sink: &mut D,
     grid: Grid,
     start: Unit,
     brush: &Brush<'_, H>,
+    spans: Spans,
+    text: &str,
 ) -> Result<Unit, DeviceFailed>
     requires inside { start < grid.columns }
     ensures { SendsPainted (painted_text (widths_by grid.mode grid.tab grid.columns)
-        (brush_spans H.marks brush.now) brush.now.text.now) start
+        (spans_in (brush_paints H.marks brush.now) spans) text.now) start
         grid.columns D.held D.has_failed sink.old sink.new result }
 {
-    let text = brush.text;
     let mut col = start;
-    let mut left = Spans::all();
+    let mut left = spans;
     let mut is_first = true;
     for row in text.split('\n') {
         col = send_next_painted(sink, grid, col, is_first, brush, left, row)?;
@@ -548,7 +549,7 @@ fn send_other<D: Sink, H: Highlighter>(
 {
     match brush.next(Mark::first()) {
         None => send_text(sink, grid, start, brush.text),
-        Some(_) => send_painted_rows(sink, grid, start, brush),
+        Some(_) => send_painted_rows(sink, grid, start, brush, Spans::all(), brush.text),
     }
 }
 
@@ -574,4 +575,29 @@ pub(crate) fn send_painted<D: Sink, H: Highlighter>(
         return Ok(start + letters.len() as Unit);
     }
     send_spans(sink, *grid, start, brush, Spans::all(), letters)
+}
+
+/// A text from a place on, with what is left of its spans there. One without a highlighter has no
+/// styles, and is drawn as such.
+pub(crate) fn send_painted_from<D: Sink, H: Highlighter>(
+    sink: &mut D,
+    grid: &Grid,
+    start: Unit,
+    brush: &Brush<'_, H>,
+    from: usize,
+) -> Result<Unit, DeviceFailed>
+    requires inside { start < grid.now.columns }
+    requires boundary { IsCharBoundary brush.now.text.now from }
+    ensures { SendsPainted (painted_rest (widths_by grid.now.mode grid.now.tab grid.now.columns)
+        (brush_spans H.marks brush.now) brush.now.text.now from) start
+        grid.now.columns D.held D.has_failed sink.old sink.new result }
+{
+    let rest = &brush.text[from..];
+    match brush.highlighter {
+        None => send_text(sink, *grid, start, rest),
+        Some(_) => {
+            let spans = Spans::all().skip(brush, from);
+            send_painted_rows(sink, *grid, start, brush, spans, rest)
+        }
+    }
 }

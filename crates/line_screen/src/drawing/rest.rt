@@ -1,25 +1,25 @@
 //! Draws the rest of a line from a cell on, and what stands after it.
 
-ghost use Rattle.std.specs.Prelude.{◌≡◌, ◌<◌, ◌++◌, [], IsTrue, OnOk, OnErr, IfOk};
+ghost use Rattle.std.specs.Prelude.{◌≡◌, ◌<◌, ◌++◌, [], IsTrue, IsCharBoundary, OnOk, OnErr, IfOk};
 ghost use Rattle.line_screen.specs.Drawing.{in_fence};
-ghost use Rattle.line_screen.specs.Colours.{bytes_of_all_painted, painted_text, brush_spans, rest_bytes, rest_from, rest_drawing};
+ghost use Rattle.line_screen.specs.Colours.{bytes_of_all_painted, painted_text, brush_spans, styles_after, rest_bytes, rest_from, rest_drawing};
 ghost use Rattle.line_screen.specs.Measure.{widths_by};
 ghost use Rattle.line_config.specs.Sending.{Sends};
 
 use crate::drawing::coloured::send_part;
-use crate::drawing::painted::Brush;
+use crate::drawing::painted::{Brush, send_painted_from};
 use crate::drawing::sequences::{flush, send, send_move};
-use crate::drawing::text::send_text;
 use crate::grid::Grid;
 use line_buffer::{Position, Unit};
 use line_config::{DeviceFailed, Sink};
 use line_help::Highlighter;
 
-/// The rest of a line, which has no styles, and what stands after it; the drawing's end and the
-/// cursor.
+/// A line of which the rest is drawn, from a place on, and what stands after it; the drawing's end
+/// and the cursor.
 #[derive(Drop)]
 pub(crate) struct Rest<'a, H> {
-    pub text: &'a str,
+    pub line: Brush<'a, H>,
+    pub from: usize,
     pub info: Brush<'a, H>,
     pub end: Position,
     pub cursor: Position,
@@ -54,12 +54,14 @@ fn send_rest<D: Sink, H: Highlighter>(
     rest: &Rest<'_, H>,
 ) -> Result<(), DeviceFailed>
     requires inside { start < grid.now.columns }
+    requires boundary { IsCharBoundary rest.now.line.text.now rest.now.from }
     ensures { Sends D.held D.has_failed
         (rest_bytes grid.now.columns (widths_by grid.now.mode grid.now.tab grid.now.columns)
-        rest.now.text.now rest.now.info.text.now (brush_spans H.marks rest.now.info) start)
+        (styles_after H.marks rest.now) rest.now.line.text.now rest.now.from
+        rest.now.info.text.now start)
         sink.old sink.new result }
 {
-    let end = send_text(sink, *grid, start, rest.text)?;
+    let end = send_painted_from(sink, grid, start, &rest.line, rest.from)?;
     send_info(sink, grid, end, &rest.info)
 }
 
@@ -71,9 +73,11 @@ fn draw_at<D: Sink, H: Highlighter>(
     at: Position,
     rest: &Rest<'_, H>,
 ) -> Result<(), DeviceFailed>
+    requires boundary { IsCharBoundary rest.now.line.text.now rest.now.from }
     ensures { Sends D.held D.has_failed
         (rest_from grid.now.columns (widths_by grid.now.mode grid.now.tab grid.now.columns)
-        rest.now.text.now rest.now.info.text.now (brush_spans H.marks rest.now.info) old at)
+        (styles_after H.marks rest.now) rest.now.line.text.now rest.now.from
+        rest.now.info.text.now old at)
         sink.old sink.new result }
 {
     send_move(sink, old, at)?;
@@ -90,10 +94,11 @@ pub(crate) fn draw_rest<D: Sink, H: Highlighter>(
     at: Position,
     rest: &Rest<'_, H>,
 ) -> Result<(), DeviceFailed>
+    requires boundary { IsCharBoundary rest.now.line.text.now rest.now.from }
     ensures sends { Sends D.held D.has_failed
         (rest_drawing grid.columns (widths_by grid.mode grid.tab grid.columns)
-        rest.now.text.now rest.now.info.text.now (brush_spans H.marks rest.now.info)
-        old at rest.now.end rest.now.cursor)
+        (styles_after H.marks rest.now) rest.now.line.text.now rest.now.from
+        rest.now.info.text.now old at rest.now.end rest.now.cursor)
         sink.old sink.new result }
     ensures passes { OnOk result (D.waits sink.new ≡ []) }
 {

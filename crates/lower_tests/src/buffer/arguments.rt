@@ -1,28 +1,25 @@
 //! The arguments of a call in a table, each known by its form.
 
 use line_buffer::{
-    At, CharSearch, GraphemeClusterMode, Movement, RepeatCount, TabStops, Unit, Word, WordAction,
+    At, CharSearch, GraphemeClusterMode, RepeatCount, TabStops, Unit, Word, WordAction,
 };
-use stand_ins::rows::raised;
-use std::test::Fail;
+use stand_ins::tables::{named, word_and_rest};
 
 /// A call by its name, with what it was given, and what it is given by default.
 ///
 /// - A number is the count, and a second one the column after the prompt.
 /// - `fx`, `tx`, `Fx` and `Tx` are searches for the character `x`, as Vi has them.
-/// - `>2` indents by two columns, and `<2` takes two away.
 /// - `tabs:8/80` draws tabs as blanks, with stops 8 columns apart on a display of 80.
 /// - `'ab'` is a text.
-/// - Words, their ends, cases and modes go by their names, and so does the movement of an indentation.
+/// - Words, their ends, cases and modes go by their names.
 #[derive(Clone, Copy)]
 pub(crate) struct Arguments<'a> {
     pub name: &'a str,
-    pub movement: &'a str,
+    /// The text after the name.
+    pub words: &'a str,
     pub count: Option<RepeatCount>,
     pub column: RepeatCount,
     pub search: CharSearch,
-    pub amount: u8,
-    pub dedent: bool,
     pub text: &'a str,
     pub word: Word,
     pub at: At,
@@ -31,16 +28,35 @@ pub(crate) struct Arguments<'a> {
     pub stops: Option<TabStops>,
 }
 
+const WORDS: [(&str, Word); 3] = [("Big", Word::Big), ("Emacs", Word::Emacs), ("Vi", Word::Vi)];
+
+const PLACES: [(&str, At); 3] = [
+    ("Start", At::Start),
+    ("BeforeEnd", At::BeforeEnd),
+    ("AfterEnd", At::AfterEnd),
+];
+
+const ACTIONS: [(&str, WordAction); 3] = [
+    ("Capitalize", WordAction::Capitalize),
+    ("Lowercase", WordAction::Lowercase),
+    ("Uppercase", WordAction::Uppercase),
+];
+
+const MODES: [(&str, GraphemeClusterMode); 3] = [
+    ("Unicode", GraphemeClusterMode::Unicode),
+    ("WcWidth", GraphemeClusterMode::WcWidth),
+    ("NoZwj", GraphemeClusterMode::NoZwj),
+];
+
 impl<'a> Arguments<'a> {
     pub(crate) fn of(call: &'a str) -> Self {
+        let (name, words) = word_and_rest(call);
         let mut arguments = Arguments {
-            name: "",
-            movement: "",
+            name,
+            words,
             count: None,
             column: 0,
             search: CharSearch::Forward(' '),
-            amount: 0,
-            dedent: false,
             text: "",
             word: Word::Emacs,
             at: At::Start,
@@ -48,7 +64,7 @@ impl<'a> Arguments<'a> {
             mode: GraphemeClusterMode::Unicode,
             stops: None,
         };
-        for word in call.split_whitespace() {
+        for word in words.split_whitespace() {
             arguments.take(word);
         }
         arguments
@@ -59,15 +75,12 @@ impl<'a> Arguments<'a> {
             self.take_number(number);
         } else if let Some(search) = search_of(word) {
             self.search = search;
-        } else if let Some((dedent, amount)) = indentation_of(word) {
-            self.dedent = dedent;
-            self.amount = amount;
         } else if let Some(stops) = stops_of(word) {
             self.stops = Some(stops);
         } else if word.starts_with('\'') {
             self.text = word.trim_matches('\'');
-        } else if !self.take_word(word) && !self.take_mode(word) {
-            self.take_name(word);
+        } else {
+            self.take_word(word);
         }
     }
 
@@ -79,72 +92,16 @@ impl<'a> Arguments<'a> {
         }
     }
 
-    fn take_word(&mut self, word: &str) -> bool {
-        match word {
-            "Big" => self.word = Word::Big,
-            "Emacs" => self.word = Word::Emacs,
-            "Vi" => self.word = Word::Vi,
-            "Start" => self.at = At::Start,
-            "BeforeEnd" => self.at = At::BeforeEnd,
-            "AfterEnd" => self.at = At::AfterEnd,
-            _ => return false,
-        }
-        true
-    }
-
-    fn take_mode(&mut self, word: &str) -> bool {
-        match word {
-            "Capitalize" => self.action = WordAction::Capitalize,
-            "Lowercase" => self.action = WordAction::Lowercase,
-            "Uppercase" => self.action = WordAction::Uppercase,
-            "Unicode" => self.mode = GraphemeClusterMode::Unicode,
-            "WcWidth" => self.mode = GraphemeClusterMode::WcWidth,
-            "NoZwj" => self.mode = GraphemeClusterMode::NoZwj,
-            _ => return false,
-        }
-        true
-    }
-
-    fn take_name(&mut self, word: &'a str) {
-        if self.name.is_empty() {
-            self.name = word;
-        } else {
-            self.movement = word;
-        }
+    fn take_word(&mut self, word: &str) {
+        self.word = named(&WORDS, word).unwrap_or(self.word);
+        self.at = named(&PLACES, word).unwrap_or(self.at);
+        self.action = named(&ACTIONS, word).unwrap_or(self.action);
+        self.mode = named(&MODES, word).unwrap_or(self.mode);
     }
 
     /// The count, 1 if none was given.
     pub(crate) fn n(&self) -> RepeatCount {
         self.count.unwrap_or(1)
-    }
-
-    /// A movement by its name.
-    pub(crate) fn movement(&self, name: &str) -> Result<Movement, Fail> {
-        let movement = match name {
-            "WholeLine" => Some(Movement::WholeLine),
-            "BeginningOfLine" => Some(Movement::BeginningOfLine),
-            "EndOfLine" => Some(Movement::EndOfLine),
-            "ViFirstPrint" => Some(Movement::ViFirstPrint),
-            "WholeBuffer" => Some(Movement::WholeBuffer),
-            "BeginningOfBuffer" => Some(Movement::BeginningOfBuffer),
-            "EndOfBuffer" => Some(Movement::EndOfBuffer),
-            _ => self.counted_movement(name),
-        };
-        raised(movement.ok_or("no movement"))
-    }
-
-    fn counted_movement(&self, name: &str) -> Option<Movement> {
-        let n = self.n();
-        match name {
-            "BackwardWord" => Some(Movement::BackwardWord(n, self.word)),
-            "ForwardWord" => Some(Movement::ForwardWord(n, self.at, self.word)),
-            "ViCharSearch" => Some(Movement::ViCharSearch(n, self.search)),
-            "BackwardChar" => Some(Movement::BackwardChar(n)),
-            "ForwardChar" => Some(Movement::ForwardChar(n)),
-            "LineUp" => Some(Movement::LineUp(n)),
-            "LineDown" => Some(Movement::LineDown(n)),
-            _ => None,
-        }
     }
 }
 
@@ -168,8 +125,9 @@ fn search_of(word: &str) -> Option<CharSearch> {
     }
 }
 
-/// Whether rows are to be dedented, and by how much.
-fn indentation_of(word: &str) -> Option<(bool, u8)> {
+/// Whether rows are to be dedented, and by how much: `>2` indents by two columns, and `<2` takes
+/// two away.
+pub(crate) fn indentation_of(word: &str) -> Option<(bool, u8)> {
     let (dedent, amount) = match word.strip_prefix('<') {
         Some(amount) => (true, amount),
         None => (false, word.strip_prefix('>')?),

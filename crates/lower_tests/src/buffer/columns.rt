@@ -1,13 +1,12 @@
 //! Widths of texts, and motions up and down by rows. A motion's first number is its count, the second the column where
 //! the prompt ends.
 
-use crate::buffer::table::{layout, plays};
-use line_buffer::{GraphemeClusterMode, Layout, Position};
+use crate::buffer::table::layout;
+use line_buffer::{GraphemeClusterMode, Layout, LineBuffer, OutOfMemory, Position};
 use stand_ins::lines::line_of;
-use stand_ins::rows::{Player, raised, rows_hold};
+use stand_ins::rows::{Player, raised, rows_hold, stands};
 use stand_ins::tables::meant;
 use std::alloc::Global;
-use std::process::Abort;
 use std::test::Fail;
 
 const UP_BY_ROWS: &str = "
@@ -168,40 +167,19 @@ impl Player for Widths {
 }
 
 /// A text, and its columns in each mode: `Unicode`, `WcWidth` and `NoZwj`.
-#[test]
-fn columns_by_mode(rt: HostRuntime) -> Result<(), Fail> {
-    let rows = "
-        '' = 0 0 0
-        'abc' = 3 3 3
-        '漢字' = 4 4 4
-        'e\u{301}' = 1 1 1
-        '👩\u{200D}🔬' = 2 4 4
-        '👩\u{200D}👩\u{200D}👧' = 2 6 6
-        '👍\u{1F3FD}' = 2 4 2
-        '❤\u{FE0F}' = 2 1 2
-        '🇩🇪' = 2 2 2
-        'a␉b' = 3 2 3
-        'a␍␊b' = 3 2 3
-        ";
-    rows_hold(rt.alloc(), &mut Widths, rows)
-}
-
-fn repeated(alloc: Global, count: usize) -> Result<String, Fail> {
-    let mut text = String::new(alloc);
-    for _ in 0..count {
-        text.push('m')?;
-    }
-    Ok(text)
-}
-
-/// Moves up from the end of a row of 70,000 characters and one of one character, and down again.
-fn long_rows_crossed(rt: &(impl AllocGlobal + Abort), text: &str) -> Result<(), Fail> {
-    let mut line = line_of(rt.alloc(), text)?;
-    let layout = layout(GraphemeClusterMode::Unicode, 2, None);
-    assert!(rt; line.move_to_line_up(1, &layout) && line.pos() == 0);
-    assert!(rt; line.move_to_line_down(1, &layout) && line.pos() == 70_002);
-    Ok(())
-}
+const COLUMNS_BY_MODE: &str = "
+    '' = 0 0 0
+    'abc' = 3 3 3
+    '漢字' = 4 4 4
+    'e\u{301}' = 1 1 1
+    '👩\u{200D}🔬' = 2 4 4
+    '👩\u{200D}👩\u{200D}👧' = 2 6 6
+    '👍\u{1F3FD}' = 2 4 2
+    '❤\u{FE0F}' = 2 1 2
+    '🇩🇪' = 2 2 2
+    'a␉b' = 3 2 3
+    'a␍␊b' = 3 2 3
+    ";
 
 /// Whether each mode returns the most columns.
 fn has_most_columns(text: &str) -> bool {
@@ -210,30 +188,48 @@ fn has_most_columns(text: &str) -> bool {
         && GraphemeClusterMode::NoZwj.width(text) == 65_535
 }
 
-#[test]
-fn widths_stop_at_the_most(rt: HostRuntime) -> Result<(), Fail> {
-    let mut text = repeated(rt.alloc(), 70_000)?;
-    assert!(rt; has_most_columns(text.as_str()));
-    text.push_str("\n|m")?;
-    long_rows_crossed(&rt, text.as_str())
+/// Moves up from the end of a row of 70,000 characters and one of one character, and down again.
+fn crosses_long_rows(line: &mut LineBuffer) -> bool {
+    let layout = layout(GraphemeClusterMode::Unicode, 2, None);
+    line.move_to_line_up(1, &layout)
+        && line.pos() == 0
+        && line.move_to_line_down(1, &layout)
+        && line.pos() == 70_002
 }
 
-#[test]
-fn cells_in_reading_order(rt: HostRuntime) {
+/// Moves in a row of 70,000 characters, with another one of a character after it.
+fn long_rows_are_crossed(alloc: Global, row: &str) -> Result<bool, OutOfMemory> {
+    let text = format!(in alloc; "{row}\n|m")?;
+    let mut line = line_of(alloc, text.as_str())?;
+    Ok(crosses_long_rows(&mut line))
+}
+
+fn widths_stop_at_the_most(alloc: Global) -> Result<bool, OutOfMemory> {
+    let row = "m".repeat(alloc, 70_000)?;
+    Ok(has_most_columns(row.as_str()) && long_rows_are_crossed(alloc, row.as_str())?)
+}
+
+fn cells_are_in_reading_order() -> bool {
     let early = Position { col: 9, row: 0 };
     let late = Position { col: 0, row: 1 };
-    assert!(rt; early < late && Position { col: 1, row: 1 } > late);
-    assert_eq!(rt; early.max(late), late);
+    early < late && Position { col: 1, row: 1 } > late && early.max(late) == late
 }
 
-const TABLES: [&str; 4] = [
+#[test]
+fn columns_by_mode(rt: HostRuntime) -> Result<(), Fail> {
+    rows_hold(rt.alloc(), &mut Widths, COLUMNS_BY_MODE)?;
+    stands(cells_are_in_reading_order(), "cells in another order")?;
+    stands(
+        widths_stop_at_the_most(rt.alloc())?,
+        "other widths or rows of a long text",
+    )
+}
+
+pub(crate) const TABLES: [&str; 10] = [
     UP_BY_ROWS,
     DOWN_BY_ROWS,
     NO_ROW_TO_GO_TO,
     JOINED_EMOJI_ABOVE,
-];
-
-const TABLES_OF_TABS: [&str; 6] = [
     UP_WITH_TABS,
     DOWN_WITH_TABS,
     TABS_AT_THE_END_OF_A_ROW,
@@ -241,13 +237,3 @@ const TABLES_OF_TABS: [&str; 6] = [
     TABS_BESIDE_WIDE_CLUSTERS,
     TABS_THAT_ARE_NOT_DRAWN,
 ];
-
-#[test]
-fn motions_by_rows(rt: HostRuntime) -> Result<(), Fail> {
-    plays(rt.alloc(), &TABLES)
-}
-
-#[test]
-fn motions_by_rows_with_tabs(rt: HostRuntime) -> Result<(), Fail> {
-    plays(rt.alloc(), &TABLES_OF_TABS)
-}

@@ -1,8 +1,10 @@
 //! Edits of a line, with their events.
 
-use crate::buffer::table::{plays, plays_on};
+use crate::buffer::kills::PARTS_DELETED_WITHOUT_A_KILL;
+use crate::buffer::table::plays_on;
 use line_buffer::{LineBuffer, NoListener, OutOfMemory};
 use stand_ins::lines::line_of;
+use stand_ins::rows::{done, stands};
 use std::alloc::Global;
 use std::test::Fail;
 
@@ -45,62 +47,60 @@ fn most_inserted(
     Ok((most, line.len(), line.pos()))
 }
 
-#[test]
-fn characters_inserted(rt: HostRuntime) -> Result<(), Fail> {
-    let rows = "
-        insert 1 'ß' = Some(false) 'aß|b' insert_char 1 'ß'
-        insert 2 'é' = Some(false) 'aßéé|b' insert_str 3 'éé'
-        insert 0 'x' = Some(false) 'aßéé|b' insert_str 7 ''
-        ";
-    let line = plays_on(rt.alloc(), line_of(rt.alloc(), "a|b")?, rows)?;
-    let told = most_inserted(rt.alloc(), line)?;
-    assert_eq!(rt; told, (Some(false), 65_543, 65_542));
-    Ok(())
-}
+const CHARACTERS_INSERTED: &str = "
+    insert 1 'ß' = Some(false) 'aß|b' insert_char 1 'ß'
+    insert 2 'é' = Some(false) 'aßéé|b' insert_str 3 'éé'
+    insert 0 'x' = Some(false) 'aßéé|b' insert_str 7 ''
+    ";
+
+const WITHOUT_LEAVE_TO_GROW: &str = "
+    insert 2 'é' = Some(true) 'éé|' insert_str 0 'éé'
+    insert 1 'x' = None 'éé|'
+    yank 1 'ab' = None 'éé|'
+    insert 65535 'x' = None 'éé|'
+    yank 65535 'ab' = None 'éé|'
+    insert 0 'x' = Some(true) 'éé|' insert_str 4 ''
+    replace 4 'efg' = 'ééefg|' replace 4 '' 'efg'
+    insert 0 'x' = None 'ééefg|'
+    ";
+
+const POPPED_WITHOUT_LEAVE_TO_GROW: &str = "
+    insert 2 'é' = Some(true) 'éé|' insert_str 0 'éé'
+    yank_pop 2 'abc' = None 'é|' delete 2 'é' Forward
+    yank_pop 2 'abcd' = Some(true) 'abcd|' delete 0 'é' Forward; insert_str 0 'abcd'
+    ";
+
+const UPDATES_WITHOUT_LEAVE_TO_GROW: &str = "
+    update 6 'abéé' = 'abé|' delete 0 '' Forward; insert_str 0 'abé'
+    update 1 'abcéé' = 'a|bc' delete 0 'abé' Forward; insert_str 0 'abc'
+    ";
+
+const UPDATE_WITH_LEAVE: &str =
+    "update 4 'abéé' = 'abé|é' delete 0 'abc' Forward; insert_str 0 'abéé'";
 
 /// Plays rows on a line of four bytes that can't grow; the line then.
 fn plays_without_leave(alloc: Global, rows: &str) -> Result<LineBuffer, Fail> {
     plays_on(alloc, LineBuffer::with_capacity(alloc, 4)?, rows)
 }
 
-/// Lines of four bytes that can't grow.
+/// Lines of four bytes that can't grow, and the last of them when it can.
 #[test]
 fn lines_without_leave_to_grow(rt: HostRuntime) -> Result<(), Fail> {
-    let rows = "
-        insert 2 'é' = Some(true) 'éé|' insert_str 0 'éé'
-        insert 1 'x' = None 'éé|'
-        yank 1 'ab' = None 'éé|'
-        insert 65535 'x' = None 'éé|'
-        yank 65535 'ab' = None 'éé|'
-        insert 0 'x' = Some(true) 'éé|' insert_str 4 ''
-        replace 4 'efg' = 'ééefg|' replace 4 '' 'efg'
-        insert 0 'x' = None 'ééefg|'
-        ";
-    plays_without_leave(rt.alloc(), rows)?;
-    Ok(())
+    plays_without_leave(rt.alloc(), WITHOUT_LEAVE_TO_GROW)?;
+    plays_without_leave(rt.alloc(), POPPED_WITHOUT_LEAVE_TO_GROW)?;
+    let last = plays_without_leave(rt.alloc(), UPDATES_WITHOUT_LEAVE_TO_GROW)?;
+    done(plays_on(rt.alloc(), last.can_growth(true), UPDATE_WITH_LEAVE))
 }
 
 #[test]
-fn texts_popped_without_leave_to_grow(rt: HostRuntime) -> Result<(), Fail> {
-    let rows = "
-        insert 2 'é' = Some(true) 'éé|' insert_str 0 'éé'
-        yank_pop 2 'abc' = None 'é|' delete 2 'é' Forward
-        yank_pop 2 'abcd' = Some(true) 'abcd|' delete 0 'é' Forward; insert_str 0 'abcd'
-        ";
-    plays_without_leave(rt.alloc(), rows)?;
-    Ok(())
-}
-
-#[test]
-fn updates_without_leave_to_grow(rt: HostRuntime) -> Result<(), Fail> {
-    let rows = "
-        update 6 'abéé' = 'abé|' delete 0 '' Forward; insert_str 0 'abé'
-        update 1 'abcéé' = 'a|bc' delete 0 'abé' Forward; insert_str 0 'abc'
-        ";
-    let grown = plays_without_leave(rt.alloc(), rows)?.can_growth(true);
-    let rows = "update 4 'abéé' = 'abé|é' delete 0 'abc' Forward; insert_str 0 'abéé'";
-    plays_on(rt.alloc(), grown, rows)?;
-    Ok(())
+fn characters_inserted(rt: HostRuntime) -> Result<(), Fail> {
+    let line = line_of(rt.alloc(), "a|b")?;
+    let line = plays_on(rt.alloc(), line, CHARACTERS_INSERTED)?;
+    let told = most_inserted(rt.alloc(), line)?;
+    stands(
+        told == (Some(false), 65_543, 65_542),
+        "another line after the most insertions",
+    )
 }
 
 const WORDS_TRANSPOSED: &str = "
@@ -150,7 +150,8 @@ const ROWS_THAT_A_MOVEMENT_COVERS: &str = "
     'a|b'                indent EndOfLine <0 = true 'a|b' delete 0 '' Forward
     ";
 
-const TABLES: [&str; 7] = [
+pub(crate) const TABLES: [&str; 8] = [
+    PARTS_DELETED_WITHOUT_A_KILL,
     CLUSTERS_TRANSPOSED,
     ROWS_KILLED_TO_THEIR_ENDS,
     TEXTS_YANKED,
@@ -159,8 +160,3 @@ const TABLES: [&str; 7] = [
     ROWS_INDENTED,
     ROWS_THAT_A_MOVEMENT_COVERS,
 ];
-
-#[test]
-fn edits(rt: HostRuntime) -> Result<(), Fail> {
-    plays(rt.alloc(), &TABLES)
-}

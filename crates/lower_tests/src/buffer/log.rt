@@ -1,6 +1,7 @@
 //! A listener that logs its events, and fails on deletions if a test says so.
 
 use line_buffer::{ChangeListener, DeleteListener, Direction, OutOfMemory};
+use stand_ins::rows::raised;
 use std::alloc::Global;
 
 /// The events so far, with `; ` between two of them.
@@ -27,11 +28,8 @@ impl Log {
     }
 
     fn write(&mut self, event: &str) -> Result<(), OutOfMemory> {
-        if !self.events.is_empty() {
-            self.events.push_str("; ")?;
-        }
-        self.events.push_str(event)?;
-        Ok(())
+        let gap = if self.events.is_empty() { "" } else { "; " };
+        raised(write!(self.events, "{gap}{event}"))
     }
 }
 

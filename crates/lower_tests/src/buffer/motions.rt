@@ -1,6 +1,5 @@
 //! Motions of a line: by clusters, to the ends of rows, by words and by character searches.
 
-use crate::buffer::table::plays;
 use line_buffer::{LineBuffer, OutOfMemory};
 use stand_ins::lines::line_of;
 use stand_ins::rows::{raised, same};
@@ -195,7 +194,7 @@ fn lines_as_values(rt: HostRuntime) -> Result<(), Fail> {
     )
 }
 
-const TABLES: [&str; 11] = [
+pub(crate) const TABLES: [&str; 11] = [
     PREVIOUS_WORD_STARTS,
     EARLIER_WORDS,
     NEXT_WORD_PLACES,
@@ -208,8 +207,3 @@ const TABLES: [&str; 11] = [
     CHARACTER_SEARCHES,
     ENDS_OF_INPUT,
 ];
-
-#[test]
-fn motions(rt: HostRuntime) -> Result<(), Fail> {
-    plays(rt.alloc(), &TABLES)
-}

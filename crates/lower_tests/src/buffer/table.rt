@@ -2,20 +2,21 @@
 //! at the cursor, the call, its answer, the line then, and the events of the listener. A row
 //! without a line continues with the line that the row before it left.
 
-use crate::buffer::arguments::Arguments;
+use crate::buffer::arguments::{Arguments, indentation_of};
 use crate::buffer::log::Log;
 use line_buffer::{
     GraphemeClusterMode, Layout, LineBuffer, OutOfMemory, Position, RepeatCount, TabStops,
 };
+use stand_ins::commands::movement_named;
 use stand_ins::lines::{line_of, shown_of};
-use stand_ins::rows::{Player, raised, rows_hold};
+use stand_ins::rows::{Player, Starts, raised, rows_hold};
 use stand_ins::tables::pictured;
 use std::alloc::{AllocError, Global};
 use std::test::Fail;
 
 /// A line on which each row's call is made.
 #[derive(Drop)]
-struct Desk {
+pub(crate) struct Desk {
     line: LineBuffer,
 }
 
@@ -26,17 +27,12 @@ impl Player for Desk {
     }
 }
 
-/// Plays the rows of each table, the first one on the empty line.
-pub(crate) fn plays(alloc: Global, tables: &[&str]) -> Result<(), Fail> {
-    for table in tables {
-        plays_anew(alloc, table)?;
+/// The first row is on the empty line.
+impl Starts for Desk {
+    fn start(alloc: Global) -> Result<Self, Fail> {
+        let line = line_of(alloc, "")?;
+        Ok(Desk { line })
     }
-    Ok(())
-}
-
-fn plays_anew(alloc: Global, rows: &str) -> Result<(), Fail> {
-    let line = line_of(alloc, "")?;
-    rows_hold(alloc, &mut Desk { line }, rows)
 }
 
 /// Plays rows, the first one on this line; the line then.
@@ -57,7 +53,7 @@ pub(crate) fn begun<'a>(
     };
     let (shown, call) = quoted.split_once('\'').unwrap_or((quoted, ""));
     *line = line_of(alloc, shown)?;
-    Ok(call)
+    Ok(call.trim_start())
 }
 
 /// The answer of a call, the line then, and the events.
@@ -199,18 +195,20 @@ fn changed(
         "edit_word" => line.edit_word(alloc, a.action, log),
         _ => return asked(alloc, line, a, log),
     };
-    Ok(told(alloc, changed?)?)
+    raised(told(alloc, changed?))
 }
 
-/// Indents or dedents rows.
+/// Indents or dedents the rows of a movement, as the last word says.
 fn indented(
     alloc: Global,
     line: &mut LineBuffer,
     a: &Arguments<'_>,
     log: &mut Log,
 ) -> Result<String, Fail> {
-    let movement = a.movement(a.movement)?;
-    let indented = line.indent(alloc, &movement, a.amount, a.dedent, log)?;
+    let (words, amount) = a.words.rsplit_once(' ').unwrap_or(("", ""));
+    let movement = movement_named(alloc, words).ok_or("no movement")?;
+    let (dedent, amount) = indentation_of(amount).unwrap_or((false, 0));
+    let indented = line.indent(alloc, &movement, amount, dedent, log)?;
     raised(told(alloc, indented))
 }
 

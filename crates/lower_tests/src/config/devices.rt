@@ -5,8 +5,8 @@ use line_config::{
     DeviceFailed, ReadSource, Recorded, Sink, SliceSource, Source, VecSink, WriteSink,
 };
 use stand_ins::devices::{Pieces, Taker, Turns};
-use stand_ins::rows::{Player, raised, rows_hold, same};
-use stand_ins::tables::{or_nothing, pictured_bytes};
+use stand_ins::rows::{Player, raised, rows_hold, trimmed};
+use stand_ins::tables::{or_nothing, pictured_bytes, shown};
 use std::alloc::{AllocError, Global};
 use std::cell::Cell;
 use std::io::Write;
@@ -69,12 +69,6 @@ fn both_told(alloc: Global) -> Result<String, Fail> {
     raised(format!(in alloc; "{whole}; {cut}"))
 }
 
-#[test]
-fn memory_sources(rt: HostRuntime) -> Result<(), Fail> {
-    let said = both_told(rt.alloc())?;
-    same(said.as_str(), "ab, end; ab, failure")
-}
-
 /// Whether a sink takes three letters and passes them on.
 fn takes_three<S: Sink>(sink: &mut S) -> bool {
     sink.write(b"ab").is_ok()
@@ -90,16 +84,12 @@ fn holds_three(mut sink: VecSink) -> bool {
         && sink.into_bytes().as_slice() == b"abc".as_slice()
 }
 
-#[test]
-fn memory_sinks(rt: HostRuntime) {
-    assert!(rt; holds_three(VecSink::new(rt.alloc())));
-}
-
 /// The calls of a table's rows.
 #[derive(Clone, Copy, Drop)]
 enum Ask {
     Read,
     Written,
+    Named,
 }
 
 impl Player for Ask {
@@ -107,8 +97,80 @@ impl Player for Ask {
         match self {
             Ask::Read => read_by(alloc, call),
             Ask::Written => written_by(alloc, call),
+            Ask::Named => named(alloc, call),
         }
     }
+}
+
+/// What the case of this name comes to.
+fn named(alloc: Global, name: &str) -> Result<String, Fail> {
+    match name {
+        "memory sources" => both_told(alloc),
+        "reads once for what is there" => four_told(alloc),
+        "writes once for each flush" => flushes_told(alloc),
+        "a recorded writer" => recorded(alloc),
+        _ => raised(shown(alloc, holds(alloc, name)?)),
+    }
+}
+
+/// Whether the promise of this name holds.
+fn holds(alloc: Global, name: &str) -> Result<bool, Fail> {
+    match name {
+        "memory sinks" => Ok(holds_three(VecSink::new(alloc))),
+        "hands back what was read" => Ok(hands_back()),
+        "reads more than its array" => reads_all(alloc),
+        "writes more than its array" => writes_all(alloc),
+        other => Err(Fail::new(format_args!("no case: {other}"))),
+    }
+}
+
+const READS_IN_PIECES: &str = "
+    1000 = abcdef, end
+    1 1 1 1 1 1 = abcdef, end
+    2 3 = abcdef, end
+    interrupted 1 interrupted interrupted 2 = abcdef, end
+    3 broken = abc, failure
+    broken = nothing, failure
+    6 interrupted broken = abcdef, failure
+    ";
+
+/// The turns at writes, and after a bar those at flushes; what is taken, what stays unsent, and how
+/// the flush ends.
+const WRITES_THAT_TAKE_A_PART_OR_FAIL: &str = "
+    1000 = abcd, nothing, passed
+    1 1 1 = abcd, nothing, passed
+    3 interrupted interrupted 9 = abcd, nothing, passed
+    interrupted | interrupted = abcd, nothing, passed
+    broken = nothing, abcd, failed
+    1 broken = a, bcd, failed
+    0 = nothing, abcd, failed
+    3 0 = abc, d, failed
+    1000 | broken = abcd, nothing, failed
+    ";
+
+/// Four bytes are read, each with the number of calls so far. Nothing is sent before a flush: the
+/// calls of the writer before each and after it. Each call of a recorded writer is one of the
+/// writer below.
+const CASES: &str = "
+    memory sources = ab, end; ab, failure
+    memory sinks = true
+    reads once for what is there = Some(97) 1, Some(98) 1, Some(99) 2, None 3,
+    hands back what was read = true
+    reads more than its array = true
+    writes once for each flush = (0, 0) (1, 1); (1, 1) (2, 2); (2, 2) (3, 3); abcabcabc, 0 left
+    writes more than its array = true
+    a recorded writer = abc, 3 in (1, 1)
+    ";
+
+#[test]
+fn devices(rt: HostRuntime) -> Result<(), Fail> {
+    rows_hold(rt.alloc(), &mut Ask::Read, READS_IN_PIECES)?;
+    rows_hold(
+        rt.alloc(),
+        &mut Ask::Written,
+        WRITES_THAT_TAKE_A_PART_OR_FAIL,
+    )?;
+    rows_hold(rt.alloc(), &mut Ask::Named, CASES)
 }
 
 /// A reader of six letters with turns.
@@ -125,20 +187,6 @@ fn read_by(alloc: Global, turns: &str) -> Result<String, Fail> {
     told(alloc, &mut ReadSource::new(letters(turns, &calls)), &calls)
 }
 
-#[test]
-fn reads_in_pieces(rt: HostRuntime) -> Result<(), Fail> {
-    let rows = "
-        1000 = abcdef, end
-        1 1 1 1 1 1 = abcdef, end
-        2 3 = abcdef, end
-        interrupted 1 interrupted interrupted 2 = abcdef, end
-        3 broken = abc, failure
-        broken = nothing, failure
-        6 interrupted broken = abcdef, failure
-        ";
-    rows_hold(rt.alloc(), &mut Ask::Read, rows)
-}
-
 /// Writes four bytes, each with the number of calls so far.
 fn tell_four<S: Source>(
     source: &mut S,
@@ -153,19 +201,15 @@ fn tell_four<S: Source>(
     Ok(())
 }
 
-#[test]
-fn reads_once_for_what_is_there(rt: HostRuntime) -> Result<(), Fail> {
+fn four_told(alloc: Global) -> Result<String, Fail> {
     let calls = Cell::new(0);
     let mut source = ReadSource::new(Pieces {
         bytes: b"abc",
         turns: Turns::new("2", &calls),
     });
-    let mut said = String::new(rt.alloc());
+    let mut said = String::new(alloc);
     tell_four(&mut source, &calls, &mut said)?;
-    same(
-        said.as_str(),
-        "Some(97) 1, Some(98) 1, Some(99) 2, None 3, ",
-    )
+    trimmed(alloc, said.as_str())
 }
 
 fn has_read_nothing(source: ReadSource<Pieces<'_>>) -> bool {
@@ -182,11 +226,6 @@ fn hands_back() -> bool {
         && unread.as_slice() == b"bc".as_slice()
         && reader.bytes == b"def".as_slice()
         && has_read_nothing(ReadSource::new(reader))
-}
-
-#[test]
-fn hands_back_what_was_read(rt: HostRuntime) {
-    assert!(rt; hands_back());
 }
 
 /// Bytes of every value, more than the arrays of the adapters contain.
@@ -222,12 +261,6 @@ fn reads_all(alloc: Global) -> Result<bool, Fail> {
     let text = long_text(alloc)?;
     let bytes = read_to_end(alloc, &text)?;
     Ok(bytes == text)
-}
-
-#[test]
-fn reads_more_than_its_array(rt: HostRuntime) -> Result<(), Fail> {
-    assert!(rt; reads_all(rt.alloc())?);
-    Ok(())
 }
 
 /// The calls that a writer got.
@@ -325,14 +358,6 @@ fn flushes_told(alloc: Global) -> Result<String, Fail> {
     raised(taken_told(alloc, said.as_str(), &writer.taken, unsent.as_slice()))
 }
 
-/// Nothing is sent before the flush.
-#[test]
-fn writes_once_for_each_flush(rt: HostRuntime) -> Result<(), Fail> {
-    let said = flushes_told(rt.alloc())?;
-    let wanted = "(0, 0) (1, 1); (1, 1) (2, 2); (2, 2) (3, 3); abcabcabc, 0 left";
-    same(said.as_str(), wanted)
-}
-
 /// What a writer has taken of `ab` and these bytes, after a flush.
 fn taken_of(alloc: Global, text: &[u8]) -> Result<Vec<u8>, Fail> {
     let calls = Calls::none();
@@ -357,12 +382,6 @@ fn writes_all(alloc: Global) -> Result<bool, Fail> {
     let text = long_text(alloc)?;
     let wanted = ab_and(alloc, &text)?;
     Ok(taken_of(alloc, &text)? == wanted)
-}
-
-#[test]
-fn writes_more_than_its_array(rt: HostRuntime) -> Result<(), Fail> {
-    assert!(rt; writes_all(rt.alloc())?);
-    Ok(())
 }
 
 /// Fails if a failed sink takes more, or calls its writer again.
@@ -417,25 +436,10 @@ fn written_told(
     format!(in alloc; "{taken}, {unsent}, {last}")
 }
 
-/// The turns at writes, and after a bar those at flushes; what is taken, what stays unsent, and how the flush ends.
-#[test]
-fn writes_that_take_a_part_or_fail(rt: HostRuntime) -> Result<(), Fail> {
-    let rows = "
-        1000 = abcd, nothing, passed
-        1 1 1 = abcd, nothing, passed
-        3 interrupted interrupted 9 = abcd, nothing, passed
-        interrupted | interrupted = abcd, nothing, passed
-        broken = nothing, abcd, failed
-        1 broken = a, bcd, failed
-        0 = nothing, abcd, failed
-        3 0 = abc, d, failed
-        1000 | broken = abcd, nothing, failed
-        ";
-    rows_hold(rt.alloc(), &mut Ask::Written, rows)
-}
-
-/// What a recorded writer took of `abcd` in one call, and the number of bytes that it returned.
-fn recorded(alloc: Global, calls: &Calls) -> Result<(Vec<u8>, usize), Fail> {
+/// What a recorded writer took of `abcd` in one call, the number of bytes that it returned, and the
+/// calls of the writer below.
+fn recorded(alloc: Global) -> Result<String, Fail> {
+    let calls = Calls::none();
     let mut writer = Recorded::new(Taker {
         taken: Vec::new(alloc),
         turns: Turns::new("3", &calls.writes),
@@ -443,14 +447,17 @@ fn recorded(alloc: Global, calls: &Calls) -> Result<(Vec<u8>, usize), Fail> {
     });
     let count = writer.write(b"abcd")?;
     writer.flush()?;
-    Ok((writer.into_inner().taken, count))
+    let taken = writer.into_inner().taken;
+    raised(recorded_told(alloc, &taken, count, &calls))
 }
 
-/// Each call is one call of the writer below.
-#[test]
-fn a_recorded_writer(rt: HostRuntime) -> Result<(), Fail> {
-    let calls = Calls::none();
-    let (taken, count) = recorded(rt.alloc(), &calls)?;
-    assert!(rt; taken.as_slice() == b"abc".as_slice() && count == 3 && calls.counts() == (1, 1));
-    Ok(())
+fn recorded_told(
+    alloc: Global,
+    taken: &[u8],
+    count: usize,
+    calls: &Calls,
+) -> Result<String, AllocError> {
+    let taken = pictured_bytes(alloc, taken)?;
+    let counts = calls.counts();
+    format!(in alloc; "{taken}, {count} in {counts:?}")
 }

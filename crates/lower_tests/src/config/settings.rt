@@ -5,14 +5,10 @@ use line_config::{
     Behavior, BellStyle, Builder, ColorMode, CompletionType, Config, Configurer, DeviceFailed,
     EditMode, HookFault, ReadlineError,
 };
-use stand_ins::rows::{Player, raised, rows_hold, same};
+use stand_ins::rows::{Player, raised, rows_hold, same, stands};
+use stand_ins::tables::shown;
 use std::alloc::{AllocError, Global};
-use std::fmt::Debug;
 use std::test::Fail;
-
-fn shown<D: Debug + Drop>(alloc: Global, value: D) -> Result<String, AllocError> {
-    format!(in alloc; "{value:?}")
-}
 
 /// The answer of the getter with this name.
 fn answer(alloc: Global, config: &Config, name: &str) -> Result<String, AllocError> {
@@ -114,22 +110,18 @@ fn copies_itself(config: &Config) -> Result<bool, AllocError> {
     Ok(*config == copy)
 }
 
-fn have_defaults(alloc: Global) -> Result<(), Fail> {
-    has_defaults(alloc, Config::default())?;
-    has_defaults(alloc, Config::builder().build())?;
-    has_defaults(alloc, Builder::new().build())?;
-    has_defaults(alloc, Builder::default().build())
+fn is_simple_by_default() -> bool {
+    BellStyle::default() == BellStyle::Audible && Behavior::default() == Behavior::Stdio
 }
 
 #[test]
 fn defaults(rt: HostRuntime) -> Result<(), Fail> {
-    have_defaults(rt.alloc())?;
-    assert!(rt;
-        copies_itself(&Config::default())?
-            && BellStyle::default() == BellStyle::Audible
-            && Behavior::default() == Behavior::Stdio
-    );
-    Ok(())
+    has_defaults(rt.alloc(), Config::default())?;
+    has_defaults(rt.alloc(), Config::builder().build())?;
+    has_defaults(rt.alloc(), Builder::new().build())?;
+    has_defaults(rt.alloc(), Builder::default().build())?;
+    let copied = copies_itself(&Config::default())?;
+    stands(copied && is_simple_by_default(), "another copy or default")
 }
 
 /// Calls every setter. Two settings have none.
@@ -214,14 +206,22 @@ fn set_in_builder() -> Result<Config, ReadlineError> {
     Ok(builder.build())
 }
 
+/// Without a setter, and without a call of the builder.
+const SET_BY_SETTERS: &str = "
+    behavior = Stdio
+    enable_synchronized_output = false
+    ";
+
+const SET_BY_THE_BUILDER: &str = "
+    behavior = PreferTerm
+    enable_synchronized_output = true
+    ";
+
 #[test]
-fn setters_of_both_types(rt: HostRuntime) -> Result<(), Fail> {
-    let behind = "
-        behavior = Stdio
-        enable_synchronized_output = false
-        ";
-    all_set(rt.alloc(), set_in_config()?, behind)?;
-    all_set(rt.alloc(), set_in_builder()?, behind)
+fn setters_of_both_types_and_calls_of_the_builder(rt: HostRuntime) -> Result<(), Fail> {
+    all_set(rt.alloc(), set_in_config()?, SET_BY_SETTERS)?;
+    all_set(rt.alloc(), set_in_builder()?, SET_BY_SETTERS)?;
+    all_set(rt.alloc(), built()?, SET_BY_THE_BUILDER)
 }
 
 /// A builder with every call made.
@@ -259,26 +259,12 @@ fn build_drawing(builder: Builder) -> Builder {
         .grapheme_cluster_mode(GraphemeClusterMode::NoZwj)
 }
 
-#[test]
-fn calls_of_the_builder(rt: HostRuntime) -> Result<(), Fail> {
-    let behind = "
-        behavior = PreferTerm
-        enable_synchronized_output = true
-        ";
-    all_set(rt.alloc(), built()?, behind)
-}
-
 /// The timeouts in Vi mode, and then in Emacs mode.
 fn timeouts() -> (Option<u16>, Option<u16>) {
     let mut config = Builder::new().edit_mode(EditMode::Vi).build();
     let in_vi = config.keyseq_timeout();
     config.set_edit_mode(EditMode::Emacs);
     (in_vi, config.keyseq_timeout())
-}
-
-#[test]
-fn timeouts_of_the_modes(rt: HostRuntime) {
-    assert!(rt; timeouts() == (Some(500), None));
 }
 
 /// Errors, each named by a row.
@@ -344,8 +330,9 @@ fn texts_of_faults(rt: HostRuntime) -> Result<(), Fail> {
 }
 
 #[test]
-fn want_of_memory(rt: HostRuntime) {
-    assert!(rt; is_told_as_memory());
+fn timeouts_of_the_modes_and_want_of_memory(_: HostRuntime) -> Result<(), Fail> {
+    stands(timeouts() == (Some(500), None), "other timeouts")?;
+    stands(is_told_as_memory(), "out of memory by another name")
 }
 
 fn is_told_as_memory() -> bool {

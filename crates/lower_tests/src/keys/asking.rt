@@ -3,12 +3,12 @@
 use crate::keys::commands::bind_command;
 use crate::keys::tables::Desk;
 use crate::keys::telling::line_marked;
-use crate::keys::typing::keys_named;
 use line_config::{Config, EditMode, ReadlineError};
 use line_keys::{InputState, KeyEvent};
 use stand_ins::asked_keys::{AskedKeys, requests_in_words};
 use stand_ins::refreshers::PlainLine;
 use stand_ins::rows::{Player, raised, rows_hold};
+use stand_ins::typing::keys_named;
 use std::alloc::Global;
 use std::test::Fail;
 

@@ -1,9 +1,5 @@
 //! Emacs mode: bindings, handlers and key sequences.
 
-use crate::keys::tables::plays;
-use line_config::EditMode;
-use std::test::Fail;
-
 const COMMANDS: &str = "
     bind: C-O          = SelfInsert 1 x
     bind: C-T          = Yank 2 Before
@@ -186,9 +182,4 @@ const ANY: &str = "
     PasteStart text:ab x | Insert(1, \"ab\"); SelfInsert(1, 'x')
 ";
 
-const TABLES: [&str; 4] = [COMMANDS, SEQUENCES, HANDLERS, ANY];
-
-#[test]
-fn keys_and_sequences_bound(rt: HostRuntime) -> Result<(), Fail> {
-    plays(rt.alloc(), EditMode::Emacs, &TABLES)
-}
+pub(crate) const TABLES: [&str; 4] = [COMMANDS, SEQUENCES, HANDLERS, ANY];

@@ -1,10 +1,9 @@
-//! Handlers by their names, and bound keys, as tables name them.
+//! Handlers and commands bound by their names, as tables name them.
 
-use crate::keys::typing::event;
 use line_config::ReadlineError;
-use line_keys::{Bindings, Cmd, EventHandler};
-use stand_ins::commands::command_named;
+use line_keys::{Bindings, EventHandler};
 use stand_ins::handlers::{HintOrKill, OneWay};
+use stand_ins::typing::{bind, command_of};
 use std::alloc::Global;
 
 // The handler that answers in the way of this name.
@@ -25,25 +24,6 @@ fn hint_or_kill(alloc: Global) -> Result<EventHandler, ReadlineError> {
 fn one_way(alloc: Global, name: &str) -> Result<EventHandler, ReadlineError> {
     let handler = Box::new(alloc, way_named(name))?;
     Ok(EventHandler::Conditional(handler))
-}
-
-// Binds keys to a handler, or any key without keys. Returns the old binding.
-fn bind(
-    alloc: Global,
-    bindings: &mut Bindings,
-    keys: &str,
-    handler: EventHandler,
-) -> Result<Option<EventHandler>, ReadlineError> {
-    let event = event(alloc, keys)?;
-    bindings.bind_sequence(event, handler)
-}
-
-/// The command with this name, which must exist.
-pub(crate) fn command_of(alloc: Global, words: &str) -> Result<Cmd, ReadlineError> {
-    match command_named(alloc, words) {
-        Some(cmd) => Ok(cmd),
-        None => Err(ReadlineError::Helper),
-    }
 }
 
 /// Binds keys to the command with this name, or any key without keys.

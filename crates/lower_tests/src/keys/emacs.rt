@@ -1,11 +1,7 @@
 //! Emacs mode: each key with each count.
 
-use crate::keys::tables::{each_count, plays};
-use line_config::EditMode;
-use std::test::Fail;
-
 // Keys of a count, the requests to the display for them, and the count.
-const COUNTS: &str = "
+pub(crate) const COUNTS: &str = "
                         |                                                 | 1
     A-0                 | <0> <line>                                      | 1
     A-1                 | <1> <line>                                      | 1
@@ -19,7 +15,7 @@ const COUNTS: &str = "
 ";
 
 // Keys, the command, and the command if the count is negative.
-const EMACS: &str = "
+pub(crate) const EMACS: &str = "
     then: SelfInsert(1, 'q')
     x             | SelfInsert(n, 'x')                   | Unknown
     Q             | SelfInsert(n, 'Q')                   | Unknown
@@ -84,7 +80,7 @@ const EMACS: &str = "
 ";
 
 // The keys that Emacs and Vi have in common, as Emacs reads them in a line with text.
-const COMMON: &str = "
+pub(crate) const COMMON: &str = "
     then: SelfInsert(1, 'q')
     Home          | Move(BeginningOfLine)
     End           | Move(EndOfLine)
@@ -127,12 +123,6 @@ const COMMON: &str = "
     C-\\          | Interrupt
     C-Z           | Suspend
 ";
-
-#[test]
-fn each_key_with_each_count(rt: HostRuntime) -> Result<(), Fail> {
-    each_count(rt.alloc(), EditMode::Emacs, COUNTS, EMACS)?;
-    each_count(rt.alloc(), EditMode::Emacs, COUNTS, COMMON)
-}
 
 // Counts, and how they end.
 const TYPED_COUNTS: &str = "
@@ -223,9 +213,4 @@ const FAILING_DISPLAYS: &str = "
     A-- 2 C-B | <-1> <-2> <line> Move(ForwardChar(2))
 ";
 
-const TABLES: [&str; 4] = [TYPED_COUNTS, CUT, CONDITIONS, FAILING_DISPLAYS];
-
-#[test]
-fn tables_of_emacs(rt: HostRuntime) -> Result<(), Fail> {
-    plays(rt.alloc(), EditMode::Emacs, &TABLES)
-}
+pub(crate) const TABLES: [&str; 4] = [TYPED_COUNTS, CUT, CONDITIONS, FAILING_DISPLAYS];

@@ -1,8 +1,7 @@
 //! Keys, bindings and commands at work.
 
-use crate::keys::commands::{bind_command, bind_handler, command_of};
-use crate::keys::telling::line_marked;
-use crate::keys::typing::{event, long_text, typed};
+use crate::keys::commands::{bind_command, bind_handler};
+use crate::keys::telling::{line_marked, long_text};
 use line_buffer::{Movement, RepeatCount};
 use line_config::{EditMode, ReadlineError};
 use line_keys::{
@@ -13,15 +12,11 @@ use stand_ins::key_names::{key_named, write_key};
 use stand_ins::reader_calls::tell_call;
 use stand_ins::readers::{After, KeyList};
 use stand_ins::refreshers::PlainLine;
-use stand_ins::rows::{Player, raised, rows_hold, same};
-use stand_ins::tables::{meant, word_and_rest};
+use stand_ins::rows::{Player, raised, rows_hold, same, trimmed};
+use stand_ins::tables::{meant, shown, word_and_rest};
+use stand_ins::typing::{command_of, event, typed};
 use std::alloc::{AllocError, Global};
-use std::fmt::Debug;
 use std::test::Fail;
-
-fn shown<D: Debug>(alloc: Global, value: &D) -> Result<String, AllocError> {
-    format!(in alloc; "{value:?}")
-}
 
 // The old or current binding: a command.
 fn handler_told(alloc: Global, handler: Option<&EventHandler>) -> Result<String, AllocError> {
@@ -134,11 +129,22 @@ fn bindings_call_by_call(rt: HostRuntime) -> Result<(), Fail> {
     binds(rt.alloc(), SIX_KEYS)
 }
 
+#[test]
+fn keys_commands_and_readers(rt: HostRuntime) -> Result<(), Fail> {
+    rows_hold(rt.alloc(), &mut Ask::Form, KEYS_HAVE_ONE_FORM)?;
+    rows_hold(rt.alloc(), &mut Ask::Printed, KEYS_PRINT_THEIR_NAMES)?;
+    rows_hold(rt.alloc(), &mut Ask::Named, NAMES_ARE_KEYS)?;
+    rows_hold(rt.alloc(), &mut Ask::MadeAnew, COMMANDS_ARE_MADE_ANEW)?;
+    rows_hold(rt.alloc(), &mut Ask::Reader, READERS_CALL_BY_CALL)?;
+    rows_hold(rt.alloc(), &mut Ask::Signal, A_READER_KNOWS_SIGNALS)
+}
+
 /// The calls of a table's rows.
 #[derive(Clone, Copy, Drop)]
 enum Ask {
     Form,
     MadeAnew,
+    Named,
     Printed,
     Reader,
     Signal,
@@ -149,6 +155,7 @@ impl Player for Ask {
         match self {
             Ask::Form => form_told(alloc, call),
             Ask::MadeAnew => raised(made_anew(alloc, call)),
+            Ask::Named => raised(shown(alloc, &key_named(call))),
             Ask::Printed => raised(printed(alloc, call)),
             Ask::Reader => read(alloc, call),
             Ask::Signal => raised(signal_told(alloc, call)),
@@ -156,8 +163,19 @@ impl Player for Ask {
     }
 }
 
+// The key of a name.
+const NAMES_ARE_KEYS: &str = "
+    x       = Some(KeyEvent(Char('x'), Modifiers(0x0)))
+    C-A     = Some(KeyEvent(Char('A'), Modifiers(CTRL)))
+    A--     = Some(KeyEvent(Char('-'), Modifiers(ALT)))
+    -       = Some(KeyEvent(Char('-'), Modifiers(0x0)))
+    C-A-]   = Some(KeyEvent(Char(']'), Modifiers(CTRL | ALT)))
+    S-Tab   = Some(KeyEvent(Tab, Modifiers(SHIFT)))
+    Enterr  = None
+";
+
 // A character and its key; a key and its normal form.
-const KEYS: &str = "
+const KEYS_HAVE_ONE_FORM: &str = "
     new ␛                   = Esc
     from ␉                  = Tab
     alt ␡                   = A-Backspace
@@ -194,11 +212,6 @@ fn key_told(alloc: Global, key: KeyEvent) -> Result<String, AllocError> {
     let mut said = String::new(alloc);
     write_key(&mut said, key)?;
     Ok(said)
-}
-
-#[test]
-fn keys_have_one_form(rt: HostRuntime) -> Result<(), Fail> {
-    rows_hold(rt.alloc(), &mut Ask::Form, KEYS)
 }
 
 // A count, a line with its cursor and a hint after it, if there is one; the answer of the handler
@@ -282,7 +295,7 @@ fn a_boxed_handler_is_asked(rt: HostRuntime) -> Result<(), Fail> {
 }
 
 // A count, a text that was inserted before, and a command; the repeated command.
-const MADE_ANEW: &str = "
+const COMMANDS_ARE_MADE_ANEW: &str = "
     3 none SelfInsert 1 x                  = SelfInsert(3, 'x')
     none abc SelfInsert 1 x                = Insert(1, \"abc\")
     9 abc Replace ForwardChar 0            = Replace(ForwardChar(3), Some(\"abc\"))
@@ -316,11 +329,6 @@ fn redone(
 ) -> Result<String, ReadlineError> {
     let again = cmd.redo(alloc, count, line)?;
     raised(shown(alloc, &again))
-}
-
-#[test]
-fn commands_are_made_anew(rt: HostRuntime) -> Result<(), Fail> {
-    rows_hold(rt.alloc(), &mut Ask::MadeAnew, MADE_ANEW)
 }
 
 // A line with a long text inserted before.
@@ -361,7 +369,7 @@ fn a_text_of_any_length_is_typed_over(rt: HostRuntime) -> Result<(), Fail> {
 
 // What is typed, and calls of the reader, one after the other. An error is final, except for the
 // end of the input.
-const READERS: &str = "
+const READERS_CALL_BY_CALL: &str = "
     PasteStart text:a␊b Enter : wait paste key+ key+ key+ = PasteStart a␊b Enter Eof Eof
     PasteStart text:a␊b Enter : key key paste = PasteStart PasteOutOfPlace PasteOutOfPlace
     !cut !failed : paste key char = Reader Reader Reader
@@ -377,7 +385,19 @@ fn read(alloc: Global, row: &str) -> Result<String, Fail> {
     let mut reader = KeyList::new(&input.typed, input.cut, input.after);
     let mut said = String::new(alloc);
     tell_calls(alloc, &mut reader, calls, &mut said)?;
-    Ok(said)
+    trimmed(alloc, said.as_str())
+}
+
+fn tell_answer(
+    alloc: Global,
+    reader: &mut KeyList<'_>,
+    call: &str,
+    said: &mut String,
+) -> Result<(), AllocError> {
+    match tell_call(alloc, reader, call, said) {
+        Ok(()) => said.push(' '),
+        Err(why) => write!(said, "{why:?} "),
+    }
 }
 
 fn tell_calls(
@@ -387,23 +407,13 @@ fn tell_calls(
     said: &mut String,
 ) -> Result<(), AllocError> {
     for call in calls.split_whitespace() {
-        if !said.is_empty() {
-            said.push(' ')?;
-        }
-        if let Err(why) = tell_call(alloc, reader, call, said) {
-            write!(said, "{why:?}")?;
-        }
+        tell_answer(alloc, reader, call, said)?;
     }
     Ok(())
 }
 
-#[test]
-fn readers_call_by_call(rt: HostRuntime) -> Result<(), Fail> {
-    rows_hold(rt.alloc(), &mut Ask::Reader, READERS)
-}
-
 // The keys for which a reader has a command, and what it returns.
-const SIGNALS: &str = "
+const A_READER_KNOWS_SIGNALS: &str = "
     C-c                     = None
     C-C                     = Some(Interrupt)
     unbuffer                = None
@@ -418,11 +428,6 @@ fn signal_told(alloc: Global, call: &str) -> Result<String, AllocError> {
         Some(key) => shown(alloc, &reader.find_binding(&key)),
         None => String::from_str(alloc, "no key"),
     }
-}
-
-#[test]
-fn a_reader_knows_signals(rt: HostRuntime) -> Result<(), Fail> {
-    rows_hold(rt.alloc(), &mut Ask::Signal, SIGNALS)
 }
 
 // Calls of a line with the hint `c`; the request that it records, and the hint then.
@@ -474,16 +479,11 @@ fn requests_are_kept(rt: HostRuntime) -> Result<(), Fail> {
     rows_hold(rt.alloc(), &mut Asked { line }, REQUESTS)
 }
 
-const PRINTED: &str = "
+const KEYS_PRINT_THEIR_NAMES: &str = "
     C-S-F1 Esc = KeySeq([KeyEvent(F(1), Modifiers(CTRL | SHIFT)), KeyEvent(Esc, Modifiers(0x0))])
 ";
 
 fn printed(alloc: Global, keys: &str) -> Result<String, ReadlineError> {
     let event = event(alloc, keys)?;
     raised(shown(alloc, &event))
-}
-
-#[test]
-fn keys_print_their_names(rt: HostRuntime) -> Result<(), Fail> {
-    rows_hold(rt.alloc(), &mut Ask::Printed, PRINTED)
 }

@@ -1,9 +1,5 @@
 //! Commands that go on over several keys, if the setting is on.
 
-use crate::keys::tables::plays;
-use line_config::EditMode;
-use std::test::Fail;
-
 // The key after `C-V` or `C-Q` is inserted as it was sent.
 const QUOTED: &str = "
     C-V x                | QuotedInsert; SelfInsert(1, 'x')
@@ -61,11 +57,6 @@ const QUOTED: &str = "
     C-Q x                | Undo(3); Noop
     C-V C-P              | SelfInsert(1, '\\u{10}')
 ";
-
-#[test]
-fn keys_quoted_in_emacs_mode(rt: HostRuntime) -> Result<(), Fail> {
-    plays(rt.alloc(), EditMode::Emacs, &[QUOTED])
-}
 
 // In Vi mode keys are quoted where text is typed.
 const VI_QUOTED: &str = "
@@ -158,8 +149,6 @@ const AGAIN_IN_EMACS: &str = "
     C-T                  | SearchAgain(Same)
 ";
 
-#[test]
-fn modal_keys_of_vi(rt: HostRuntime) -> Result<(), Fail> {
-    plays(rt.alloc(), EditMode::Vi, &[VI_QUOTED, SEARCHING, AGAIN])?;
-    plays(rt.alloc(), EditMode::Emacs, &[AGAIN_IN_EMACS])
-}
+pub(crate) const KEYS_QUOTED_IN_EMACS_MODE: [&str; 2] = [QUOTED, AGAIN_IN_EMACS];
+
+pub(crate) const MODAL_KEYS_OF_VI: [&str; 3] = [VI_QUOTED, SEARCHING, AGAIN];

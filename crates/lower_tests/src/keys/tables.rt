@@ -11,7 +11,8 @@
 use crate::keys::commands::{bind_command, bind_handler};
 use crate::keys::telling::told;
 use line_config::{EditMode, ReadlineError};
-use line_keys::{Bindings, EventHandler};
+use line_keys::Bindings;
+use stand_ins::rows::done;
 use stand_ins::tables::word_and_rest;
 use std::alloc::{AllocError, Global};
 use std::test::Fail;
@@ -70,6 +71,7 @@ impl<'t> Desk<'t> {
         Ok(())
     }
 
+    // The old binding doesn't matter.
     fn bind(&mut self, word: &str, rest: &str) -> Result<(), Fail> {
         let bindings = &mut self.bindings;
         match (word, rest.split_once("= ")) {
@@ -77,14 +79,6 @@ impl<'t> Desk<'t> {
             ("ask:", Some((keys, bound))) => done(bind_handler(self.alloc, bindings, keys, bound)),
             _ => Err(Fail::new(format_args!("no row: {word} {rest}"))),
         }
-    }
-}
-
-// The old binding doesn't matter.
-fn done(old: Result<Option<EventHandler>, ReadlineError>) -> Result<(), Fail> {
-    match old {
-        Ok(_) => Ok(()),
-        Err(why) => Err(Fail::from(why)),
     }
 }
 

@@ -1,13 +1,13 @@
 //! The commands of typed keys, in words.
 
 use crate::keys::tables::Desk;
-use crate::keys::typing::{Input, typed};
 use line_config::{Config, ReadlineError};
 use line_keys::{Cmd, InputState, Text};
 use stand_ins::readers::KeyList;
 use stand_ins::refreshers::{PlainLine, Request};
 use stand_ins::rows::raised;
 use stand_ins::tables::line_and_place;
+use stand_ins::typing::{Input, typed};
 use std::alloc::{AllocError, Global};
 
 /// A line with its cursor, marked by a bar.
@@ -18,14 +18,7 @@ pub(crate) fn line_marked(alloc: Global, marked: &str) -> Result<PlainLine, Read
     Ok(line)
 }
 
-// The line at which keys are typed.
-fn line_at(desk: &Desk<'_>) -> Result<PlainLine, ReadlineError> {
-    let mut line = line_marked(desk.alloc, desk.line)?;
-    line.answered = desk.answered;
-    put_texts(&mut line, desk)?;
-    Ok(line)
-}
-
+// Puts the texts of a desk at a line.
 fn put_texts(line: &mut PlainLine, desk: &Desk<'_>) -> Result<(), ReadlineError> {
     line.hint = copied(desk.alloc, desk.hint)?;
     line.inserted = copied(desk.alloc, desk.inserted)?;
@@ -156,7 +149,7 @@ fn tell_input(
     input: &Input,
     said: &mut String,
 ) -> Result<(), ReadlineError> {
-    let mut line = line_at(desk)?;
+    let mut line = line_marked(desk.alloc, desk.line)?;
     tell_typed(desk, first_by_key, input, &mut line, said)
 }
 
@@ -167,6 +160,8 @@ fn tell_typed(
     line: &mut PlainLine,
     said: &mut String,
 ) -> Result<(), ReadlineError> {
+    line.answered = desk.answered;
+    put_texts(line, desk)?;
     let mut typing = Typing::new(desk, first_by_key, input)?;
     typing.tell(line, said)
 }
@@ -200,4 +195,9 @@ fn tell_prompt(said: &mut String, prompt: &str) -> Result<(), AllocError> {
 
 fn count_in(prompt: &str) -> Option<&str> {
     prompt.strip_prefix("(arg: ")?.strip_suffix(") ")
+}
+
+/// More characters than a count can name.
+pub(crate) fn long_text(alloc: Global) -> Result<String, AllocError> {
+    "x".repeat(alloc, 70_000)
 }

@@ -1,8 +1,7 @@
 //! Vi: command mode.
 
-use crate::keys::tables::{Desk, each_count, plays};
-use crate::keys::telling::told;
-use crate::keys::typing::long_text;
+use crate::keys::tables::Desk;
+use crate::keys::telling::{long_text, told};
 use line_config::{EditMode, ReadlineError};
 use stand_ins::rows::{raised, same};
 use std::alloc::Global;
@@ -10,7 +9,7 @@ use std::test::Fail;
 
 // Keys of a count, the requests to the display for them, and the count. Esc leaves insert mode, in
 // which a line begins.
-const COUNTS: &str = "
+pub(crate) const COUNTS: &str = "
     Esc           | <done> Move(BackwardChar(1));                                     | 1
     Esc 1         | <done> Move(BackwardChar(1)); <1> <line>                          | 1
     Esc 5         | <done> Move(BackwardChar(1)); <5> <line>                          | 5
@@ -20,7 +19,7 @@ const COUNTS: &str = "
 ";
 
 // What stays in command mode, what enters insert mode, and what enters replace mode.
-const COMMANDS: &str = "
+pub(crate) const COMMANDS: &str = "
     then: Unknown
     $             | Move(EndOfLine)
     End           | Move(EndOfLine)
@@ -127,11 +126,6 @@ const COMMANDS: &str = "
     R             | Replace(ForwardChar(0), None)
 ";
 
-#[test]
-fn each_key_of_command_mode(rt: HostRuntime) -> Result<(), Fail> {
-    each_count(rt.alloc(), EditMode::Vi, COUNTS, COMMANDS)
-}
-
 // The command of `0` if no count is typed, and what ends a count.
 const NO_COUNT: &str = "
     Esc 0 q              | <done> Move(BackwardChar(1)); Move(BeginningOfLine); Unknown
@@ -237,9 +231,4 @@ fn a_long_text_typed_over(rt: HostRuntime) -> Result<(), Fail> {
     )
 }
 
-const TABLES: [&str; 4] = [NO_COUNT, CUT, SEARCHES, DOTS];
-
-#[test]
-fn tables_of_command_mode(rt: HostRuntime) -> Result<(), Fail> {
-    plays(rt.alloc(), EditMode::Vi, &TABLES)
-}
+pub(crate) const TABLES: [&str; 4] = [NO_COUNT, CUT, SEARCHES, DOTS];

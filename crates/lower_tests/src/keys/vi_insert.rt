@@ -1,13 +1,9 @@
 //! Vi: insert and replace mode.
 
-use crate::keys::tables::{each_count, plays};
-use line_config::EditMode;
-use std::test::Fail;
-
-const NO_COUNT: &str = "| | 1";
+pub(crate) const NO_COUNT: &str = "| | 1";
 
 // Insert mode.
-const INSERT: &str = "
+pub(crate) const INSERT: &str = "
     then: SelfInsert(1, 'q')
     x             | SelfInsert(1, 'x')
     é             | SelfInsert(1, 'é')
@@ -64,11 +60,6 @@ const INSERT: &str = "
     C-\\          | Interrupt
     C-Z           | Suspend
 ";
-
-#[test]
-fn each_key_of_insert_mode(rt: HostRuntime) -> Result<(), Fail> {
-    each_count(rt.alloc(), EditMode::Vi, NO_COUNT, INSERT)
-}
 
 // How insert and replace mode are left and entered.
 const MODES: &str = "
@@ -206,9 +197,4 @@ const FAILING_DISPLAYS: &str = "
     Esc a x | <done> Move(BackwardChar(1)); Display left 1
 ";
 
-const TABLES: [&str; 5] = [MODES, CUT, CONDITIONS, BOUND, FAILING_DISPLAYS];
-
-#[test]
-fn tables_of_insert_mode(rt: HostRuntime) -> Result<(), Fail> {
-    plays(rt.alloc(), EditMode::Vi, &TABLES)
-}
+pub(crate) const TABLES: [&str; 5] = [MODES, CUT, CONDITIONS, BOUND, FAILING_DISPLAYS];

@@ -1,12 +1,11 @@
 //! A record by itself, notified of changes. A row is a call; after `=` come its answer, and the
 //! last insertion as the record has it then, or `none`.
 
-use line_buffer::OutOfMemory;
+use crate::record::undo::answered;
 use line_record::Changeset;
 use stand_ins::rows::{Player, raised, rows_hold};
 use stand_ins::tables::word_and_rest;
 use std::alloc::Global;
-use std::fmt::Display;
 use std::test::Fail;
 
 /// Reports a change: a place, and one text or two; `''` is an empty text.
@@ -24,15 +23,6 @@ fn told(alloc: Global, changes: &mut Changeset, call: &str, words: &str) -> Resu
         "truncate" => Ok(changes.truncate(place)),
         other => return Err(Fail::new(format_args!("no call: {other}"))),
     })
-}
-
-/// An answer, followed by a blank.
-fn answered<D: Display + Drop>(
-    alloc: Global,
-    answer: Result<D, OutOfMemory>,
-) -> Result<String, OutOfMemory> {
-    let answer = answer?;
-    raised(format!(in alloc; "{answer} "))
 }
 
 /// Makes a call, and returns its answer.
@@ -54,12 +44,11 @@ fn tell_last(alloc: Global, changes: &Changeset, shown: &mut String) -> Result<(
     let last = changes.last_insert(alloc)?;
     let copied = last.as_ref().map(|text| text.as_str());
     let lent = changes.last_insert_text();
-    shown.push_str(if copied == lent {
+    raised(shown.push_str(if copied == lent {
         lent.unwrap_or("none")
     } else {
         "two answers"
-    })?;
-    Ok(())
+    }))
 }
 
 /// A record that gets each row's change.

@@ -5,7 +5,7 @@ ghost use Rattle.std.specs.Prelude.{◌≤◌};
 use crate::record::undo::edited;
 use line_buffer::{DeleteListener, Direction, Mode, OutOfMemory};
 use line_record::KillRing;
-use stand_ins::rows::{Player, raised, rows_hold};
+use stand_ins::rows::{Player, raised, rows_hold, stands};
 use stand_ins::tables::word_and_rest;
 use std::alloc::{AllocError, Global};
 use std::test::Fail;
@@ -64,70 +64,64 @@ impl Player for Played {
     }
 }
 
-/// Makes each row's call on a new ring with so many slots.
-fn ring_plays(alloc: Global, size: usize, rows: &str) -> Result<(), Fail> {
-    let ring = KillRing::new(alloc, size)?;
+/// Makes each row's call on a ring.
+fn plays(alloc: Global, ring: KillRing, rows: &str) -> Result<(), Fail> {
     rows_hold(alloc, &mut Played { ring }, rows)
 }
 
-#[test]
-fn kills_yanked_in_turn(rt: HostRuntime) -> Result<(), Fail> {
-    ring_plays(
-        rt.alloc(),
-        2,
-        "
-        kill ab
-        reset
-        kill c
-        yank_pop = none
-        yank = c
-        yank_pop = 1 ab
-        yank_pop = 2 c
-        kill d
-        yank = d
-        yank_pop = 1 c
-        ",
-    )
+/// Makes each row's call on a new ring with so many slots.
+fn ring_plays(alloc: Global, size: usize, rows: &str) -> Result<(), Fail> {
+    plays(alloc, KillRing::new(alloc, size)?, rows)
 }
 
-#[test]
-fn kills_joined(rt: HostRuntime) -> Result<(), Fail> {
-    ring_plays(
-        rt.alloc(),
-        3,
-        "
-        kill b
-        kill_before a
-        kill c
-        yank = abc
-        delete x
-        yank = abc
-        start_killing
-        delete x
-        delete_before y
-        stop_killing
-        yank = yx
-        ",
-    )
-}
+const KILLS_YANKED_IN_TURN: &str = "
+    kill ab
+    reset
+    kill c
+    yank_pop = none
+    yank = c
+    yank_pop = 1 ab
+    yank_pop = 2 c
+    kill d
+    yank = d
+    yank_pop = 1 c
+    ";
+
+const KILLS_JOINED: &str = "
+    kill b
+    kill_before a
+    kill c
+    yank = abc
+    delete x
+    yank = abc
+    start_killing
+    delete x
+    delete_before y
+    stop_killing
+    yank = yx
+    ";
+
+const A_RING_OF_NONE: &str = "
+    kill a
+    yank = none
+    yank_pop = none
+    ";
+
+const A_RING_OF_ONE: &str = "
+    reset
+    kill a
+    reset
+    kill b
+    yank = b
+    yank_pop = 1 b
+    ";
 
 #[test]
-fn rings_of_none_and_of_one(rt: HostRuntime) -> Result<(), Fail> {
-    let none = "
-        kill a
-        yank = none
-        yank_pop = none
-        ";
-    ring_plays(rt.alloc(), 0, none)?;
-    let one = "
-        reset
-        kill a
-        reset
-        kill b
-        yank = b
-        yank_pop = 1 b
-        ";
-    ring_plays(rt.alloc(), 1, one)
+fn kills_yanked_in_turn_and_joined(rt: HostRuntime) -> Result<(), Fail> {
+    ring_plays(rt.alloc(), 2, KILLS_YANKED_IN_TURN)?;
+    ring_plays(rt.alloc(), 3, KILLS_JOINED)?;
+    ring_plays(rt.alloc(), 0, A_RING_OF_NONE)?;
+    ring_plays(rt.alloc(), 1, A_RING_OF_ONE)
 }
 
 /// Kills the numbers below 61, each separately.
@@ -150,53 +144,61 @@ fn popped_often(ring: &mut KillRing, count: usize) -> bool {
     true
 }
 
+/// Plays rows on a ring of 60 slots, which has kept the last of 61 texts.
+fn many_play(alloc: Global, played: &mut Played) -> Result<(), Fail> {
+    many_killed(alloc, &mut played.ring)?;
+    rows_hold(alloc, played, "yank = 60\nyank_pop = 2 59")?;
+    stands(
+        popped_often(&mut played.ring, 58),
+        "a ring that holds fewer texts",
+    )?;
+    rows_hold(alloc, played, "yank_pop = 1 60")
+}
+
 #[test]
 fn a_ring_of_many(rt: HostRuntime) -> Result<(), Fail> {
-    let mut ring = KillRing::new(rt.alloc(), 60)?;
-    many_killed(rt.alloc(), &mut ring)?;
-    let mut played = Played { ring };
-    rows_hold(rt.alloc(), &mut played, "yank = 60\nyank_pop = 2 59")?;
-    assert!(rt; popped_often(&mut played.ring, 58));
-    rows_hold(rt.alloc(), &mut played, "yank_pop = 1 60")
+    let ring = KillRing::new(rt.alloc(), 60)?;
+    many_play(rt.alloc(), &mut Played { ring })
 }
 
 /// A ring of three slots that holds two texts, with the one at this place current.
-fn ring_of_two(alloc: Global, place: usize) -> Result<Played, OutOfMemory>
+fn ring_of_two(alloc: Global, place: usize) -> Result<KillRing, OutOfMemory>
     requires { place ≤ 1 }
 {
     let mut slots = Vec::new(alloc);
     slots.push(String::from_str(alloc, "a")?)?;
     slots.push(String::from_str(alloc, "bc")?)?;
-    Ok(Played {
-        ring: KillRing::from_slots(slots, 3, place),
-    })
+    Ok(KillRing::from_slots(slots, 3, place))
 }
+
+const SLOTS_FROM_THE_LAST: &str = "
+    yank_pop = none
+    kill d
+    yank = d
+    yank_pop = 1 bc
+    yank_pop = 2 a
+    yank_pop = 1 d
+    ";
+
+const SLOTS_FROM_THE_FIRST: &str = "
+    yank = a
+    yank_pop = 1 bc
+    reset
+    kill d
+    yank_pop = none
+    yank = d
+    ";
+
+const NO_SLOTS: &str = "
+    yank = none
+    kill d
+    yank = d
+    ";
 
 #[test]
 fn rings_of_slots(rt: HostRuntime) -> Result<(), Fail> {
     let alloc = rt.alloc();
-    let last = "
-        yank_pop = none
-        kill d
-        yank = d
-        yank_pop = 1 bc
-        yank_pop = 2 a
-        yank_pop = 1 d
-        ";
-    rows_hold(alloc, &mut ring_of_two(alloc, 1)?, last)?;
-    let first = "
-        yank = a
-        yank_pop = 1 bc
-        reset
-        kill d
-        yank_pop = none
-        yank = d
-        ";
-    rows_hold(alloc, &mut ring_of_two(alloc, 0)?, first)?;
-    let none = KillRing::from_slots(Vec::new(alloc), 3, 0);
-    rows_hold(
-        alloc,
-        &mut Played { ring: none },
-        "yank = none\nkill d\nyank = d",
-    )
+    plays(alloc, ring_of_two(alloc, 1)?, SLOTS_FROM_THE_LAST)?;
+    plays(alloc, ring_of_two(alloc, 0)?, SLOTS_FROM_THE_FIRST)?;
+    plays(alloc, KillRing::from_slots(Vec::new(alloc), 3, 0), NO_SLOTS)
 }

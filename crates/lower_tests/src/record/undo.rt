@@ -6,7 +6,7 @@ ghost use Rattle.line_record.specs.Items.{ItemsStand, ItemsStand-prop};
 use line_buffer::{DeleteListener, LineBuffer, Movement, OutOfMemory, Word, WordAction};
 use line_record::{Changeset, Joined, KillRing};
 use stand_ins::lines::{line_of, shown_of};
-use stand_ins::rows::{Player, raised, rows_hold};
+use stand_ins::rows::{Player, Starts, done, raised, stands, tables_hold};
 use stand_ins::tables::word_and_rest;
 use std::alloc::Global;
 use std::fmt::Display;
@@ -43,33 +43,30 @@ impl Desk {
 
     fn type_char(&mut self, c: char) -> Result<(), OutOfMemory> {
         let _text = self.line.as_str();
-        self.line.insert(self.alloc, c, 1, &mut self.changes)?;
-        Ok(())
+        done(self.line.insert(self.alloc, c, 1, &mut self.changes))
     }
 
     fn paste(&mut self, text: &str) -> Result<(), OutOfMemory> {
         let _text = self.line.as_str();
-        self.line.yank(self.alloc, text, 1, &mut self.changes)?;
-        Ok(())
+        done(self.line.yank(self.alloc, text, 1, &mut self.changes))
     }
 
     fn backspace(&mut self, n: u16) -> Result<(), OutOfMemory> {
         let _text = self.line.as_str();
-        self.line.backspace(self.alloc, n, &mut self.changes)?;
-        Ok(())
+        done(self.line.backspace(self.alloc, n, &mut self.changes))
     }
 
     fn delete(&mut self, n: u16) -> Result<(), OutOfMemory> {
         let _text = self.line.as_str();
-        self.line.delete(self.alloc, n, &mut self.changes)?;
-        Ok(())
+        done(self.line.delete(self.alloc, n, &mut self.changes))
     }
 
     fn upcase(&mut self) -> Result<(), OutOfMemory> {
         let _text = self.line.as_str();
-        self.line
-            .edit_word(self.alloc, WordAction::Uppercase, &mut self.changes)?;
-        Ok(())
+        done(
+            self.line
+                .edit_word(self.alloc, WordAction::Uppercase, &mut self.changes),
+        )
     }
 
     fn begin(&mut self) -> Result<usize, OutOfMemory> {
@@ -116,13 +113,13 @@ impl Desk {
     fn ask(&mut self, call: &str, text: &str) -> Result<String, Fail> {
         let n: Option<u16> = text.parse().ok();
         let answer = match (call, n) {
-            ("begin", _) => return raised(told(self.alloc, self.begin())),
+            ("begin", _) => return raised(answered(self.alloc, self.begin())),
             ("end", _) => self.end(),
             ("undo", Some(n)) => self.undo(n),
             ("redo", _) => self.redo(),
             _ => return edited(self.alloc, call, self.edit(call, text, n)),
         };
-        raised(told(self.alloc, answer))
+        raised(answered(self.alloc, answer))
     }
 
     /// Makes a call, and returns its answer and the line then.
@@ -134,7 +131,7 @@ impl Desk {
 }
 
 /// An answer, followed by a blank.
-fn told<D: Display + Drop>(
+pub(crate) fn answered<D: Display + Drop>(
     alloc: Global,
     answer: Result<D, OutOfMemory>,
 ) -> Result<String, OutOfMemory> {
@@ -165,17 +162,11 @@ impl Player for Desk {
     }
 }
 
-/// Makes the call of each row; each table starts with the empty line.
-fn plays(alloc: Global, tables: &[&str]) -> Result<(), Fail> {
-    for table in tables {
-        plays_anew(alloc, table)?;
+/// Each table starts with the empty line.
+impl Starts for Desk {
+    fn start(alloc: Global) -> Result<Self, Fail> {
+        raised(Desk::new(alloc, ""))
     }
-    Ok(())
-}
-
-fn plays_anew(alloc: Global, rows: &str) -> Result<(), Fail> {
-    let mut desk = Desk::new(alloc, "")?;
-    rows_hold(alloc, &mut desk, rows)
 }
 
 const TYPED_WORDS_UNDONE: &str = "
@@ -346,13 +337,6 @@ fn hears_one_kill(alloc: Global, heard: &mut Heard) -> Result<bool, OutOfMemory>
     Ok(killed && heard.line.as_str().is_empty() && heard.ring.yank() == Some("one two"))
 }
 
-#[test]
-fn ring_and_record_told_together(rt: HostRuntime) -> Result<(), Fail> {
-    let mut heard = Heard::new(rt.alloc(), "one two|")?;
-    assert!(rt; hears_one_kill(rt.alloc(), &mut heard)?);
-    Ok(())
-}
-
 /// Makes a change of each kind, one of them a kill.
 fn changed_in_turn(
     alloc: Global,
@@ -385,9 +369,10 @@ fn each_hears_its_own(alloc: Global, heard: &mut Heard) -> Result<bool, OutOfMem
 /// texts.
 #[test]
 fn ring_beside_the_record(rt: HostRuntime) -> Result<(), Fail> {
-    let mut heard = Heard::new(rt.alloc(), "")?;
-    assert!(rt; each_hears_its_own(rt.alloc(), &mut heard)?);
-    Ok(())
+    let alloc = rt.alloc();
+    let one = hears_one_kill(alloc, &mut Heard::new(alloc, "one two|")?)?;
+    let each = each_hears_its_own(alloc, &mut Heard::new(alloc, "")?)?;
+    stands(one && each, "a ring or a record that hears other changes")
 }
 
 const TABLES: [&str; 8] = [
@@ -403,5 +388,5 @@ const TABLES: [&str; 8] = [
 
 #[test]
 fn changes_undone_and_made_anew(rt: HostRuntime) -> Result<(), Fail> {
-    plays(rt.alloc(), &TABLES)
+    tables_hold::<Desk>(rt.alloc(), &TABLES)
 }

@@ -435,6 +435,28 @@ fn unless_wanted(
     Ok(Some(told(alloc, left)?))
 }
 
+/// The result of a row over memory, if it isn't what the row says.
+fn differs_by(
+    alloc: Global,
+    setting: &Setting<'_>,
+    asking: Asking,
+    row: Row<'_>,
+) -> Result<Option<String>, ReadlineError> {
+    let setting = Setting { asking, ..*setting };
+    let left = left_over_memory(alloc, &setting, row.keys)?;
+    raised(unless_wanted(alloc, &setting, &left, row))
+}
+
+/// The same with one byte per read.
+fn differs_in_reads(
+    alloc: Global,
+    setting: &Setting<'_>,
+    row: Row<'_>,
+) -> Result<Option<String>, ReadlineError> {
+    let left = left_by_reads(alloc, setting, row.keys)?;
+    raised(unless_wanted(alloc, setting, &left, row))
+}
+
 /// Plays a row over memory, by `run` and by `read_line`, and then one byte per read. Returns the
 /// result if it isn't what the row says.
 fn differs(
@@ -442,15 +464,14 @@ fn differs(
     setting: &Setting<'_>,
     row: Row<'_>,
 ) -> Result<Option<String>, ReadlineError> {
-    for asking in [Asking::Run, Asking::ReadLine] {
-        let setting = Setting { asking, ..*setting };
-        let left = left_over_memory(alloc, &setting, row.keys)?;
-        if let Some(found) = unless_wanted(alloc, &setting, &left, row)? {
-            return Ok(Some(found));
-        }
+    match differs_by(alloc, setting, Asking::Run, row)? {
+        None => {}
+        found => return Ok(found),
     }
-    let left = left_by_reads(alloc, setting, row.keys)?;
-    Ok(unless_wanted(alloc, setting, &left, row)?)
+    match differs_by(alloc, setting, Asking::ReadLine, row)? {
+        None => differs_in_reads(alloc, setting, row),
+        found => Ok(found),
+    }
 }
 
 /// The result of a table's sessions.

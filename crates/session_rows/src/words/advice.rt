@@ -1,15 +1,18 @@
 //! A helper for sessions that answers as its words say, right or wrong.
 //!
 //! The word `advised` asks for it. Its words for hints are `hint:`, `taken:` (what the hint adds to
-//! the line) and `hint-from:`. Those for verdicts are `verdict:`, `later:`,
+//! the line) and `hint-from:`, or `hints:taken` for those of the history, and `hints:shown` if these
+//! can't be accepted. Those for verdicts are `verdict:`, `later:`,
 //! `later-from:` and `message:`. Those for completion are `offers:` (a candidate, or two with a
 //! comma between them), `start:`, `ends:` (what follows a candidate that is the only one) and
-//! `shown:` (what follows one in a list). Those for styles are `marked:`, `marks-from:` and what
-//! `styles` reads. Those for faults are `hint-fails:`, `verdict-fails:`,
-//! `completion-fails:`, `update-fails:` and `wants-memory`.
+//! `shown:` (what follows one in a list). Those for styles are `marked:`, `marks-from:`, `keyword:` and
+//! what `styles` reads. Those for faults are `hint-fails:`, `verdict-fails:`,
+//! `completion-fails:`, `update-fails:` and `wants-memory`; the first word of several of a kind is
+//! the one that counts, as of `wants-memory:no wants-memory`.
 
-ghost use Rattle.std.specs.Prelude.{◌≡◌, ◌==◌, nat_le, option_copied, option_map, length, None, Some, false, if◌then◌else◌, IfErr};
+ghost use Rattle.std.specs.Prelude.{◌≡◌, ◌==◌, nat_le, option_copied, option_map, length, Option, None, Some, false, if◌then◌else◌, string_bytes, IfErr};
 ghost use Rattle.line_help.specs.Completion.{Offered};
+ghost use Rattle.line_help.specs.Hints.{history_hint};
 ghost use Rattle.line_keys.specs.Replies.{gives_at_once, gives_unless};
 ghost use Rattle.line_config.specs.declared.errors.HookFault.TheVariants.{Memory};
 
@@ -18,8 +21,8 @@ use crate::words::styles::{Styles, styles_of};
 use line_buffer::{ChangeListener, LineBuffer};
 use line_config::{CompletionType, HookFault};
 use line_help::{
-    Completer, Context, Helper, Highlighter, Hint, Hinter, History, Mark, Part, Span,
-    ValidationContext, ValidationResult, Validator, WholeWord, update_line,
+    Completer, Context, Helper, Highlighter, Hint, Hinter, History, HistoryHinter, Mark, Part,
+    Span, ValidationContext, ValidationResult, Validator, WholeWord, update_line,
 };
 use line_keys::{CmdKind, Text};
 use std::alloc::{AllocError, Global};
@@ -43,33 +46,55 @@ pub enum Offer<'a> {
     Two(&'a str, &'a str),
 }
 
-/// A hint, and what it adds to the line if it can be accepted.
-#[derive(Clone, Copy, Drop)]
-pub struct Said<'a> {
-    display: &'a str,
-    completion: Option<&'a str>,
+/// The hint for any line: a text, and what it adds to the line if it can be accepted; or that of
+/// the history, which can be accepted or only be shown.
+#[derive(Clone, Copy)]
+pub enum Hints<'a> {
+    Silent,
+    Fixed(&'a str, Option<&'a str>),
+    Recalled(bool),
+}
+
+/// A hint of an adviser: a text, and what it adds to the line; or the rest of an entry, which can
+/// be accepted or only be shown.
+#[derive(Drop)]
+pub enum Said<'a> {
+    Words(&'a str, Option<&'a str>),
+    Rest(String, bool),
 }
 
 impl Hint for Said<'_> {
-    ghost says = { λ h. record { display = h.display.now; completion = option_copied h.completion } };
+    ghost use Rattle.session_rows.specs.declared.words.advice.Said.TheVariants.{Words, Rest};
+
+    ghost says = { λ h. elim h [
+      | Words display completion ↦ record { display = display.now; completion = option_copied completion }
+      | Rest text completes ↦ record { display = string_bytes text; completion = if completes then Some (string_bytes text) else None }
+    ] };
 
     fn display(&self) -> &str {
-        self.display
+        match self {
+            Said::Words(display, _) => display,
+            Said::Rest(text, _) => text.as_str(),
+        }
     }
 
     fn completion(&self) -> Option<&str> {
-        self.completion
+        match self {
+            Said::Words(_, completion) => *completion,
+            Said::Rest(text, true) => Some(text.as_str()),
+            Said::Rest(_, false) => None,
+        }
     }
 }
 
-/// A helper with fixed answers. It has one hint for lines of at least so many bytes, and one
-/// verdict for shorter texts and another one for longer texts. Its candidates are the same for
+/// A helper with fixed answers. It has one hint for lines of at least so many bytes, or those of
+/// the history, and one verdict for shorter texts and another one for longer texts. Its candidates are the same for
 /// every word, which begins at one place. The line is highlighted if the cursor is at `marked_at`,
 /// or if it has at least `marks_from` bytes. For texts of at least so many bytes hinter, validator
 /// and completer fail, or run out of memory; the completer inserts no text of so many bytes.
 #[derive(Clone, Copy, Drop)]
 pub struct Adviser<'a> {
-    hint: Option<Said<'a>>,
+    hints: Hints<'a>,
     hint_from: usize,
     hint_fails_from: usize,
     verdict: Verdict,
@@ -85,7 +110,7 @@ pub struct Adviser<'a> {
     update_fails_from: usize,
     marked_at: usize,
     marks_from: usize,
-    styles: Styles,
+    styles: Styles<'a>,
     wants_memory: bool,
 }
 
@@ -192,25 +217,37 @@ impl Completer for Adviser<'_> {
 }
 
 impl<'a> Hinter for Adviser<'a> {
+    ghost use Rattle.session_rows.specs.declared.words.advice.Hints.TheVariants.{Silent, Fixed, Recalled};
+
     type Hint = Said<'a>;
 
     ghost hint_of = { λ self line pos entries place. gives_unless (nat_le self.hint_fails_from (length line))
-        (if nat_le self.hint_from (length line) then option_map ⟦<Said<'a> as Hint>⟧.says self.hint else None) };
+        (if nat_le self.hint_from (length line) then (elim self.hints [
+          | Silent ↦ None
+          | Fixed display completion ↦ Some (record { display = display.now; completion = option_copied completion })
+          | Recalled completes ↦ option_map (λ t. record { display = t; completion = if completes then Some t else None }) (history_hint line pos entries place)
+        ]) else None) };
 
     fn hint<Hi: History>(
         &self,
-        _alloc: Global,
+        alloc: Global,
         line: &str,
-        _pos: usize,
-        _ctx: &Context<'_, Hi>,
+        pos: usize,
+        ctx: &Context<'_, Hi>,
     ) -> Result<Option<Said<'a>>, HookFault> {
         if line.len() >= self.hint_fails_from {
             return Err(self.fault());
         }
-        if line.len() >= self.hint_from {
-            Ok(self.hint)
-        } else {
-            Ok(None)
+        if line.len() < self.hint_from {
+            return Ok(None);
+        }
+        match self.hints {
+            Hints::Silent => Ok(None),
+            Hints::Fixed(display, completion) => Ok(Some(Said::Words(display, completion))),
+            Hints::Recalled(completes) => match HistoryHinter.hint(alloc, line, pos, ctx)? {
+                Some(text) => Ok(Some(Said::Rest(text, completes))),
+                None => Ok(None),
+            },
         }
     }
 }
@@ -335,6 +372,7 @@ pub struct Texts {
     offers: Option<String>,
     ends: String,
     shown: String,
+    keyword: String,
 }
 
 fn text_after(alloc: Global, words: &str, beginning: &str) -> Result<Option<String>, AllocError> {
@@ -353,6 +391,7 @@ pub fn texts_of(alloc: Global, words: &str) -> Result<Texts, AllocError> {
         offers: text_after(alloc, words, "offers:")?,
         ends: text_meant(alloc, after(words, "ends:").unwrap_or(""))?,
         shown: text_meant(alloc, after(words, "shown:").unwrap_or(""))?,
+        keyword: text_meant(alloc, after(words, "keyword:").unwrap_or(""))?,
     })
 }
 
@@ -367,13 +406,16 @@ fn verdict_named(name: &str) -> Verdict {
 }
 
 impl Texts {
-    fn hint(&self) -> Option<Said<'_>> {
+    fn hints(&self, words: &str) -> Hints<'_> {
+        if let Some(how) = after(words, "hints:") {
+            return Hints::Recalled(how == "taken");
+        }
         match &self.hint {
-            Some(display) => Some(Said {
-                display: display.as_str(),
-                completion: self.taken.as_ref().map(|text| text.as_str()),
-            }),
-            None => None,
+            Some(display) => Hints::Fixed(
+                display.as_str(),
+                self.taken.as_ref().map(|text| text.as_str()),
+            ),
+            None => Hints::Silent,
         }
     }
 
@@ -381,6 +423,7 @@ impl Texts {
         match &self.offers {
             Some(offers) => match offers.as_str().split_once(',') {
                 Some((word, other)) => Offer::Two(word, other),
+                None if offers.is_empty() => Offer::Nothing,
                 None => Offer::One(offers.as_str()),
             },
             None => Offer::Nothing,
@@ -390,7 +433,7 @@ impl Texts {
     /// The adviser of a setting.
     pub fn adviser(&self, words: &str) -> Adviser<'_> {
         Adviser {
-            hint: self.hint(),
+            hints: self.hints(words),
             hint_from: number_after(words, "hint-from:", 0),
             hint_fails_from: number_after(words, "hint-fails:", usize::MAX),
             verdict: verdict_named(after(words, "verdict:").unwrap_or("")),
@@ -406,8 +449,8 @@ impl Texts {
             update_fails_from: number_after(words, "update-fails:", usize::MAX),
             marked_at: number_after(words, "marked:", usize::MAX),
             marks_from: number_after(words, "marks-from:", usize::MAX),
-            styles: styles_of(words),
-            wants_memory: after(words, "wants-memory").is_some(),
+            styles: styles_of(words, self.keyword.as_str()),
+            wants_memory: after(words, "wants-memory").unwrap_or(":no") != ":no",
         }
     }
 }

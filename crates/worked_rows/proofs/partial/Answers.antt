@@ -10,8 +10,17 @@ use Rattle.worked_rows.proofs.partial.Goals as goal
 abbrev part : ℕ → List Row
 part n = take 5 (drop n partial_rows)
 
+abbrev from_95 : List Row
+from_95 = drop 95 partial_rows
+
+abbrev from_90 : List Row
+from_90 = part 90 ++ from_95
+
+abbrev from_85 : List Row
+from_85 = part 85 ++ from_90
+
 abbrev from_80 : List Row
-from_80 = drop 80 partial_rows
+from_80 = part 80 ++ from_85
 
 abbrev from_75 : List Row
 from_75 = part 75 ++ from_80
@@ -240,16 +249,49 @@ unshown-75 = refl
 shown-75 : AllShown (short (part 75))
 shown-75 = all_shown (short (part 75)) unshown-75
 
-given-80 : differing from_80 ≡ []
+given-80 : differing (part 80) ≡ []
 unfolding computing
 given-80 = refl
 
-unshown-80 : unshown (short from_80) ≡ []
+unshown-80 : unshown (short (part 80)) ≡ []
 unfolding computing
 unshown-80 = refl
 
-shown-80 : AllShown (short from_80)
-shown-80 = all_shown (short from_80) unshown-80
+shown-80 : AllShown (short (part 80))
+shown-80 = all_shown (short (part 80)) unshown-80
+
+given-85 : differing (part 85) ≡ []
+unfolding computing
+given-85 = refl
+
+unshown-85 : unshown (short (part 85)) ≡ []
+unfolding computing
+unshown-85 = refl
+
+shown-85 : AllShown (short (part 85))
+shown-85 = all_shown (short (part 85)) unshown-85
+
+given-90 : differing (part 90) ≡ []
+unfolding computing
+given-90 = refl
+
+unshown-90 : unshown (short (part 90)) ≡ []
+unfolding computing
+unshown-90 = refl
+
+shown-90 : AllShown (short (part 90))
+shown-90 = all_shown (short (part 90)) unshown-90
+
+given-95 : differing from_95 ≡ []
+unfolding computing
+given-95 = refl
+
+unshown-95 : unshown (short from_95) ≡ []
+unfolding computing
+unshown-95 = refl
+
+shown-95 : AllShown (short from_95)
+shown-95 = all_shown (short from_95) unshown-95
 
 pub returns-clause-given : goal.returns-clause-given
 returns-clause-given c = subst (λ rows. differing rows ≡ []) all-rows
@@ -268,7 +310,10 @@ returns-clause-given c = subst (λ rows. differing rows ≡ []) all-rows
     (both_given (part 60) from_65 given-60
     (both_given (part 65) from_70 given-65
     (both_given (part 70) from_75 given-70
-    (both_given (part 75) from_80 given-75 given-80))))))))))))))))
+    (both_given (part 75) from_80 given-75
+    (both_given (part 80) from_85 given-80
+    (both_given (part 85) from_90 given-85
+    (both_given (part 90) from_95 given-90 given-95)))))))))))))))))))
 
 pub returns-clause-shown : goal.returns-clause-shown
 returns-clause-shown c = subst (λ rows. AllShown (short rows)) all-rows
@@ -287,4 +332,7 @@ returns-clause-shown c = subst (λ rows. AllShown (short rows)) all-rows
     (both_shown (part 60) from_65 shown-60
     (both_shown (part 65) from_70 shown-65
     (both_shown (part 70) from_75 shown-70
-    (both_shown (part 75) from_80 shown-75 shown-80))))))))))))))))
+    (both_shown (part 75) from_80 shown-75
+    (both_shown (part 80) from_85 shown-80
+    (both_shown (part 85) from_90 shown-85
+    (both_shown (part 90) from_95 shown-90 shown-95)))))))))))))))))))

@@ -13,8 +13,8 @@ returns-clause-plays g c =
       plays = λ agrees.
           rw (sym c.is_some.ensures)
           (played _ _ _ _ c.is_some.result c.args.config c.args.options.now (word_texts c.args.words) (had_by g.E.Write.contents c.args.display) (had_by g.W.Write.contents c.args.lines) c.args.old.now (g.K.Foretold.left c.args.keys []) g.K.Foretold.last
-          c.new-2.result devices.source devices.display devices.lines c.new-3.result c.in-Ok-edit_to_end.played c.flush.new.self c.flush-2.new.self
-          c.in-Ok-edit_to_end.ensures.edits (λ s. refl) c.new-2.ensures
+          c.new-2.result devices.source devices.display devices.lines c.new-3.result c.in-Ok-edit_with.played c.flush.new.self c.flush-2.new.self
+          c.in-Ok-edit_with.ensures.edits (λ s. refl) c.new-2.ensures
           (fresh_coming g.K.Foretold.left c.args.keys _ _ _ _ over.source.reader_is over.source.unread over.source.none_given over.source.none_met) refl over.bound
           (fresh_sink _ _ _ over.display.sent over.display.unsent) (fresh_sink _ _ _ over.lines.sent over.lines.unsent) c.new-3.ensures.empty
           c.flush.ensures.held (fails_still c.flush.result _ _ c.flush.ensures.failure c.flush.ensures.for_good)

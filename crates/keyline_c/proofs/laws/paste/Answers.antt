@@ -1,4 +1,4 @@
-use Rattle.keyline_c.proofs.PasteInLemmas.{pastes_go_in}
+use Rattle.keyline.proofs.PasteLemmas.{pastes_go_in}
 use Rattle.keyline_c.proofs.laws.paste.Goals as goal
 
 pub returns : goal.returns

@@ -1,11 +1,8 @@
 -- Lines follow on lines, and the last one ends the session.
-use Rattle.std.proofs.Common.{List, ℕ, refl, subst, ap, ◌∙◌}
+use Rattle.std.proofs.Common.{refl, subst, ap, ◌∙◌}
 use Rattle.std.specs.Prelude.{string_bytes}
-use Rattle.line_editor.specs.LineRun.{helper_from_hooks}
 use Rattle.line_keys.specs.Coming.{answer_map}
-use Rattle.keyline.specs.Desks.{TakesLine}
 use Rattle.keyline.specs.KnownDevices.{devices_by}
-use Rattle.keyline.specs.Opened.{given_in}
 use Rattle.keyline.specs.SessionRuns.{Finishes}
 use Rattle.keyline.proofs.LinesLemmas.{along, underway_nowhere, underway_ok, underway_err}
 use Rattle.keyline.proofs.session.Session.run_to_end.Goals as goal
@@ -16,13 +13,10 @@ loop-why-init g c = (underway_nowhere _ _ _, refl)
 pub returns-in-Err : goal.returns-in-Err
 returns-in-Err g c =
     let k = devices_by g.S.Source.feed g.D.Sink.held g.D.Sink.waits g.D.Sink.has_failed g.L.Sink.held g.L.Sink.waits g.L.Sink.has_failed in
-    let helps = helper_from_hooks g.H.Hinter.hint_of g.H.Validator.verdict_of g.H.Completer.completion_of g.H.Completer.update_of g.H.Highlighter.marks in
     let self = c.args.self in
     let now = c.loop-why.session in
     let next = c.read_line.new.self in
-    let given = given_in g.B.Decides.decides helps in
-    let P : List ℕ → Type 0 = λ p. TakesLine k (given p now) (given p next) now.desk next.desk (answer_map string_bytes c.read_line.result) in
-    let line = subst P (c.as_str.ensures.value ∙ ap string_bytes c.replace-prompt.ensures.value) c.read_line.ensures.takes in
+    let line = rw (c.as_str.ensures.value, c.replace-prompt.ensures.value) at c.read_line.ensures.takes in
     let lines = underway_err k _ _ _ self.desk now.desk next.desk _ c.loop-why.invariant.0 line c.in-Err.why (ap (answer_map string_bytes) c.in-Err.is) in
     let text = along {y = record now { desk = next.desk }} c.read_line.ensures.others (λ s. s.text) ∙ c.loop-why.invariant.1 in
     record {
@@ -35,13 +29,10 @@ returns-in-Err g c =
 pub loop-why-preserved-in-Ok : goal.loop-why-preserved-in-Ok
 loop-why-preserved-in-Ok g c =
     let k = devices_by g.S.Source.feed g.D.Sink.held g.D.Sink.waits g.D.Sink.has_failed g.L.Sink.held g.L.Sink.waits g.L.Sink.has_failed in
-    let helps = helper_from_hooks g.H.Hinter.hint_of g.H.Validator.verdict_of g.H.Completer.completion_of g.H.Completer.update_of g.H.Highlighter.marks in
     let self = c.args.self in
     let now = c.loop-why.session in
     let next = c.read_line.new.self in
-    let given = given_in g.B.Decides.decides helps in
-    let P : List ℕ → Type 0 = λ p. TakesLine k (given p now) (given p next) now.desk next.desk (answer_map string_bytes c.read_line.result) in
-    let line = subst P (c.as_str.ensures.value ∙ ap string_bytes c.replace-prompt.ensures.value) c.read_line.ensures.takes in (
+    let line = rw (c.as_str.ensures.value, c.replace-prompt.ensures.value) at c.read_line.ensures.takes in (
       underway_ok k _ _ _ self.desk now.desk next.desk _ c.loop-why.invariant.0 line _ (ap (answer_map string_bytes) c.in-Ok.is) _ refl,
       along {y = record now { desk = next.desk }} c.read_line.ensures.others (λ s. s.text) ∙ c.loop-why.invariant.1,
     )

@@ -1,7 +1,8 @@
 use Rattle.std.proofs.Common.{◌≡◌, ◌&&◌, false, refl, sym, ap, ◌∙◌}
 use Rattle.std.proofs.Math.Bool.{and-false}
-use Rattle.std.proofs.lemmas.Bool.{and_from}
+use Rattle.std.proofs.lemmas.Bool.{and_from, and_parts}
 use Rattle.line_editor.specs.Drawing.{ask_anew_effect}
+use Rattle.line_editor.specs.Inserting.{is_bare}
 use Rattle.line_editor.specs.Rewriting.{has_letters, show_rewritten_effect}
 use Rattle.line_editor.specs.States.{value_of}
 use Rattle.line_editor.proofs.DoesLemmas.{does_cut_by}
@@ -27,3 +28,8 @@ returns-else-over g c =
       | else-over-via-else-over w ↦ ap (λ b. b && has) w.if-over.false
     ] in
     record { does = drawn_anew over c.args.from c.args.upto _ _ _ _ _ _ refl none c.in_ok-ask_anew.ensures.does c.draw.ensures.does }
+
+pub show_rewritten-requires-clause-bare : goal.show_rewritten-requires-clause-bare
+show_rewritten-requires-clause-bare g c =
+    let v = value_of c.ask_anew.new.self in
+    (and_parts (is_bare v) _ (sym c.has_letters.ensures ∙ c.if-has_letters.true)).0

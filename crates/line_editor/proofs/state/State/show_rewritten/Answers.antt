@@ -1,6 +1,6 @@
 use Rattle.std.proofs.Common.{refl, sym, ap, ◌∙◌}
 use Rattle.std.specs.Prelude.{slice_range}
-use Rattle.line_editor.proofs.DrawnLemmas.{rewritten_drawn}
+use Rattle.line_editor.proofs.DrawnLemmas.{rewritten_rest}
 use Rattle.line_editor.proofs.DoesLemmas.{does_from}
 use Rattle.line_editor.proofs.state.State.show_rewritten.Goals as goal
 
@@ -8,10 +8,11 @@ pub returns : goal.returns
 returns g c =
     let s = c.args.self.now in
     record {
-      does = rewritten_drawn c.args.from c.args.upto c.position_at-at.result c.range-letters.result.now s _ _
+      does = rewritten_rest c.args.from c.args.upto c.position_at-at.result c.range-letters.result.now s _ _
           c.position_at-at.ensures
           (c.range-letters.ensures.value ∙ ap (λ t. slice_range t c.args.from c.args.upto) c.as_str.ensures.value)
           (sym c.may_write_over.ensures.value ∙ c.if-may_write_over.false)
-          (does_from _ _ _ _ _ _ refl refl (record { ruler = refl; prompt = refl; history_is = refl; hooks_are = refl; marks_are = refl; config_is = refl }) c.draw_with.ensures.does);
-      fault = c.draw_with.ensures.fault;
+          c.requires.bare
+          (does_from _ _ _ _ _ _ refl refl (record { ruler = refl; prompt = refl; history_is = refl; hooks_are = refl; marks_are = refl; config_is = refl }) c.draw_from.ensures.does);
+      fault = c.draw_from.ensures.fault;
     }

@@ -1,29 +1,28 @@
 -- A text row by row.
-use Rattle.std.proofs.Common.{List, ◌≤◌, ◌++◌, ◌∷◌, [], false, true, length, lit<, arith, sym, subst, refl}
+use Rattle.std.proofs.Common.{◌≤◌, ◌++◌, ◌∷◌, [], false, length, lit<, arith, refl}
 use Rattle.std.proofs.lemmas.List.{length_push, drop_all}
 use Rattle.std.proofs.lemmas.Iterator.Consumers.{YieldsList-turn, YieldsList-end}
 use Rattle.std.proofs.lemmas.Iterator.Splits.{YieldsList-from_str_split}
-use Rattle.line_screen.specs.Colours.{SgrSpan, painted_text, next_painted, spans_in, brush_paints, brush_spans, spans_behind}
+use Rattle.line_screen.specs.Colours.{painted_text, next_painted, spans_in, brush_paints, spans_behind}
 use Rattle.line_screen.specs.Drawing.{split_rows}
 use Rattle.line_screen.specs.Measure.{widths_by}
-use Rattle.line_screen.proofs.PaintRuns.{PaintSoFar, paint_start, paint_steps, paint_done, paint_cut}
-use Rattle.line_screen.proofs.PaintCode.{painted_from, rows_take, rows_end, all_left}
+use Rattle.line_screen.proofs.PaintRuns.{paint_start, paint_steps, paint_done, paint_cut}
+use Rattle.line_screen.proofs.PaintCode.{painted_from, rows_take, rows_end}
 use Rattle.line_screen.proofs.drawing.painted.send_painted_rows.Goals as goal
 
 pub loop-row-init : goal.loop-row-init
 loop-row-init g c =
     let wide = widths_by c.args.grid.mode c.args.grid.tab c.args.grid.columns in
-    let all = painted_text wide (brush_spans g.H.Highlighter.marks c.args.brush.now) c.args.brush.now.text.now in
-    let Start : List SgrSpan → Type 0 = λ ss. PaintSoFar g.D.Sink.held g.D.Sink.has_failed c.args.grid.columns c.args.start all (painted_from wide c.args.brush.now.text.now true ss 0) c.args.sink.now c.args.sink.now c.args.start in
-    subst Start (sym (all_left (brush_paints g.H.Highlighter.marks c.args.brush.now) c.all-left.result c.all-left.ensures.first c.all-left.ensures.mark)) (paint_start g.D.Sink.held g.D.Sink.has_failed c.args.grid.columns c.args.start all c.args.sink.now c.requires.inside)
+    let all = painted_text wide (spans_in (brush_paints g.H.Highlighter.marks c.args.brush.now) c.args.spans) c.args.text.now in
+    paint_start g.D.Sink.held g.D.Sink.has_failed c.args.grid.columns c.args.start all c.args.sink.now c.requires.inside
 
 pub loop-row-preserved : goal.loop-row-preserved
 loop-row-preserved g c =
     let wide = widths_by c.args.grid.mode c.args.grid.tab c.args.grid.columns in
-    let text = c.args.brush.now.text.now in
+    let text = c.args.text.now in
     let turn = YieldsList-turn (YieldsList-from_str_split 10 text (lit< tt) (cc) (cc) (cc)) c.loop-row.yielded _ c.loop-row.yielded_by _ _ c.in-Some.row c.in-Some.is c.next.ensures.steps in
     paint_steps g.D.Sink.held g.D.Sink.has_failed c.args.grid.columns c.args.start
-    (painted_text wide (brush_spans g.H.Highlighter.marks c.args.brush.now) text) (next_painted wide c.loop-row.is_first (spans_in (brush_paints g.H.Highlighter.marks c.args.brush.now) c.loop-row.left) c.in-Some.row.now)
+    (painted_text wide (spans_in (brush_paints g.H.Highlighter.marks c.args.brush.now) c.args.spans) text) (next_painted wide c.loop-row.is_first (spans_in (brush_paints g.H.Highlighter.marks c.args.brush.now) c.loop-row.left) c.in-Some.row.now)
     (painted_from wide text false (spans_in (brush_paints g.H.Highlighter.marks c.args.brush.now) c.behind_row-left.result) (length (c.loop-row.yielded ++ c.in-Some.row ∷ [])))
     (painted_from wide text c.loop-row.is_first (spans_in (brush_paints g.H.Highlighter.marks c.args.brush.now) c.loop-row.left) (length c.loop-row.yielded))
     c.args.sink.now c.loop-row.sink c.send_next_painted.new.sink c.loop-row.col c.in_ok-col.col
@@ -34,12 +33,12 @@ loop-row-preserved g c =
 pub returns-in_err-col : goal.returns-in_err-col
 returns-in_err-col g c =
     let wide = widths_by c.args.grid.mode c.args.grid.tab c.args.grid.columns in
-    let text = c.args.brush.now.text.now in
+    let text = c.args.text.now in
     let spans = spans_in (brush_paints g.H.Highlighter.marks c.args.brush.now) c.loop-row.left in
     let row = c.in-Some.row.now in
     let turn = YieldsList-turn (YieldsList-from_str_split 10 text (lit< tt) (cc) (cc) (cc)) c.loop-row.yielded _ c.loop-row.yielded_by _ _ c.in-Some.row c.in-Some.is c.next.ensures.steps in
     paint_cut g.D.Sink.held g.D.Sink.has_failed c.args.grid.columns c.args.start _
-    (painted_text wide (brush_spans g.H.Highlighter.marks c.args.brush.now) text) (next_painted wide c.loop-row.is_first spans row)
+    (painted_text wide (spans_in (brush_paints g.H.Highlighter.marks c.args.brush.now) c.args.spans) text) (next_painted wide c.loop-row.is_first spans row)
     (painted_from wide text false (spans_behind c.loop-row.is_first spans row) (length (c.loop-row.yielded ++ c.in-Some.row ∷ [])))
     (painted_from wide text c.loop-row.is_first spans (length c.loop-row.yielded))
     c.args.sink.now c.loop-row.sink c.send_next_painted.new.sink c.loop-row.col c.from_residual.result
@@ -50,9 +49,9 @@ returns-in_err-col g c =
 pub returns : goal.returns
 returns g c =
     let wide = widths_by c.args.grid.mode c.args.grid.tab c.args.grid.columns in
-    let text = c.args.brush.now.text.now in
+    let text = c.args.text.now in
     let last = YieldsList-end (YieldsList-from_str_split 10 text (lit< tt) (cc) (cc) (cc)) c.loop-row.yielded _ c.loop-row.yielded_by _ _ c.in-None.is c.next.ensures.steps in
     let all : length (split_rows text) ≤ length c.loop-row.yielded = omega (arith, last.1) in
     paint_done g.D.Sink.held g.D.Sink.has_failed c.args.grid.columns c.args.start
-    (painted_text wide (brush_spans g.H.Highlighter.marks c.args.brush.now) text) (painted_from wide text c.loop-row.is_first (spans_in (brush_paints g.H.Highlighter.marks c.args.brush.now) c.loop-row.left) (length c.loop-row.yielded)) c.args.sink.now c.loop-row.sink c.loop-row.col c.loop-row.invariant
+    (painted_text wide (spans_in (brush_paints g.H.Highlighter.marks c.args.brush.now) c.args.spans) text) (painted_from wide text c.loop-row.is_first (spans_in (brush_paints g.H.Highlighter.marks c.args.brush.now) c.loop-row.left) (length c.loop-row.yielded)) c.args.sink.now c.loop-row.sink c.loop-row.col c.loop-row.invariant
     (rows_end wide text c.loop-row.is_first (spans_in (brush_paints g.H.Highlighter.marks c.args.brush.now) c.loop-row.left) (length c.loop-row.yielded) (drop_all (length c.loop-row.yielded) (split_rows text) all))

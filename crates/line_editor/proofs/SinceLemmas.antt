@@ -1,0 +1,60 @@
+-- The drawings from a place on, by what was noted before a change.
+use Rattle.std.proofs.Common.{◌≡◌, ℕ, ◌&&◌, Bool, true, false, not, is_some, List, [], Option, Some, None, refl, sym, ap, ◌∙◌, if◌then◌else◌}
+use Rattle.std.proofs.lemmas.Option.{same_Some}
+use Rattle.line_help.specs.declared.helpers.style.Style.{Style}
+use Rattle.line_editor.specs.Drawing.{Since, redraw_of, line_spans, kept_upto, may_begin_at, draw_effect_since, draw_effect_behind}
+use Rattle.line_editor.specs.Redraws.{Redraw}
+use Rattle.line_editor.specs.Redraws.Redraw.{DrawnFrom}
+use Rattle.line_editor.specs.RenderCalls.{Marks}
+use Rattle.line_editor.specs.Sights.{drawn_spans}
+use Rattle.line_editor.specs.Values.{Value, Setting, draw_effect, marks_seen, shown_hint}
+
+-- a line that isn't marked has no styles
+pub unmarked_line : (marks : Option Marks) (told : Bool) (prompt text : List ℕ) (place : ℕ) (info : List ℕ) → (drawn_spans (marks_seen false told marks) true prompt text place info).line ≡ []
+unmarked_line None told prompt text place info = refl
+unmarked_line (Some m) told prompt text place info = refl
+
+pub no_line_spans : (s : Setting) (v : Value) → v.marked ≡ false → line_spans s v ≡ []
+no_line_spans s v is =
+    ap (λ x. (drawn_spans (marks_seen x (not (is_some v.hint)) s.marks) true s.prompt v.line.text v.line.place []).line) is
+    ∙ unmarked_line s.marks (not (is_some v.hint)) s.prompt v.line.text v.line.place []
+
+pub since_noted : (b c : Bool) (from : ℕ) (styles told : List Style) (found : Since) → b ≡ true → c ≡ true → found ≡ record { from = from; styles = styles } → styles ≡ told
+    → Some found ≡ (if b && c then Some (record { from = from; styles = told }) else None)
+since_noted true true from styles told found h k made is = ap (λ (x : Since). Some x) made ∙ ap (λ xs. Some (record { from = from; styles = xs })) is
+since_noted true false from styles told found h k made is = cc
+since_noted false c from styles told found h k made is = cc
+
+place_is : (b : Bool) (kept from : ℕ) → Some from ≡ (if b then Some kept else None) → (b ≡ true) × (from ≡ kept)
+place_is true kept from h = (refl, same_Some from kept h)
+place_is false kept from h = cc
+
+no_place : (b : Bool) (kept : ℕ) → None ≡ (if b then Some kept else None) → b ≡ false
+no_place true kept h = cc
+no_place false kept h = refl
+
+module _ (since : Option Since) (s : Setting) (v : Value) where
+  pub whole_unnoted : since ≡ None → draw_effect_behind s.prompt true s v ≡ draw_effect_since since s v
+  whole_unnoted is = ap (λ o. draw_effect_since o s v) (sym is)
+
+  module _ (before : Since) (is : since ≡ Some before) where
+    abbrev drawn_at : ℕ → Redraw
+    drawn_at from = DrawnFrom s.prompt from v.line.text v.line.place (shown_hint v)
+
+    abbrev kept : ℕ
+    kept = kept_upto before s v
+
+    abbrev by_test : Bool → Redraw
+    by_test b = if b then drawn_at kept else redraw_of s v
+
+    pub drawn_noted : (from : ℕ) → Some from ≡ (if may_begin_at kept before v then Some kept else None) → draw_effect (drawn_at from) s v ≡ draw_effect_since since s v
+    drawn_noted from place =
+        let found = place_is (may_begin_at kept before v) kept from place in
+        ap (λ k. draw_effect (drawn_at k) s v) found.1
+        ∙ ap (λ b. draw_effect (by_test b) s v) (sym found.0)
+        ∙ ap (λ o. draw_effect_since o s v) (sym is)
+
+    pub whole_noted : None ≡ (if may_begin_at kept before v then Some kept else None) → draw_effect_behind s.prompt true s v ≡ draw_effect_since since s v
+    whole_noted none =
+        ap (λ b. draw_effect (by_test b) s v) (sym (no_place (may_begin_at kept before v) kept none))
+        ∙ ap (λ o. draw_effect_since o s v) (sym is)

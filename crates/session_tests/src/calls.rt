@@ -1,9 +1,0 @@
-//! The calls of `keyline` by themselves.
-
-mod by_options;
-mod command_lines;
-mod editors;
-mod endings;
-mod lines;
-mod over_memory;
-mod told;
