@@ -1,6 +1,5 @@
 -- The clusters of a text of printable ASCII, and of a text that begins or ends in letters.
-use Rattle.std.proofs.Common.{◌≡◌, ℕ, zero, suc, ◌+◌, ◌<◌, ◌≤◌, ◌==◌, Bool, true, false, cond, ◌||◌, List, [], ◌∷◌, ◌++◌, length, get_or, map, take, None, Some, refl, sym, ap, ap₂, ◌∙◌, arith, eqb-true}
-use Rattle.std.specs.Prelude.{IsUtf8, chars, encode_utf8, encode_utf8_all, nat_lt}
+use Rattle.std.proofs.Common.{◌≡◌, ℕ, zero, suc, ◌+◌, ◌<◌, ◌≤◌, ◌==◌, Bool, true, false, cond, ◌||◌, List, [], ◌∷◌, ◌++◌, length, get_or, map, take, None, Some, refl, sym, ap, ap₂, ◌∙◌, arith, eqb-true, IsUtf8, chars, encode_utf8, encode_utf8_all, nat_lt}
 use Rattle.std.specs.List.{last_or, list_all, concat}
 use Rattle.std.proofs.lemmas.Bool.{and_parts}
 use Rattle.std.proofs.lemmas.Bool.Decides.{nat_tests}

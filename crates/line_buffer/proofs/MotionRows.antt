@@ -1,6 +1,5 @@
 -- The motions of the definitions, computed at some lines.
-use Rattle.std.proofs.Common.{◌≡◌, ℕ, true, List, [], ◌∷◌, ◌++◌, map, reverse, take, Some, None, refl, ap}
-use Rattle.std.specs.Prelude.{codes, encode_utf8_all}
+use Rattle.std.proofs.Common.{◌≡◌, ℕ, true, List, [], ◌∷◌, ◌++◌, map, reverse, take, Some, None, refl, ap, codes, encode_utf8_all}
 use Rattle.std.specs.List.{list_all}
 use Rattle.unicode_segmentation.specs.Segments.{with_offsets}
 use Rattle.unicode_segmentation.proofs.Computing.{unicode_segmentation}
@@ -111,9 +110,7 @@ no_words at word l = (refl, refl)
 
 no_hits : (search : CharSearch) (l : Line) → search_place search 0 l ≡ None
 no_hits (Forward c) l = refl
-no_hits (ForwardBefore c) l = refl
-no_hits (Backward c) l = refl
-no_hits (BackwardAfter c) l = refl
+no_hits _ l = refl
 
 emacs_takes_the_end : next_word Start Emacs 2 (at pair 0) ≡ Some 7
 unfolding unicode_segmentation starts_of

@@ -1,6 +1,5 @@
 -- The first clusters of a text that are of one kind: a run of bytes of ASCII in a word, or the first cluster alone.
-use Rattle.std.proofs.Common.{◌≡◌, ℕ, suc, ◌+◌, ◌-◌, ◌<◌, ◌≤◌, true, List, [], ◌∷◌, ◌++◌, length, take, drop, get_or, None, Some, refl, sym, ap, ap₂, ◌∙◌, subst, arith}
-use Rattle.std.specs.Prelude.{IsUtf8, IsCharBoundary, encode_utf8, option_to_list}
+use Rattle.std.proofs.Common.{◌≡◌, ℕ, suc, ◌+◌, ◌-◌, ◌<◌, ◌≤◌, true, List, [], ◌∷◌, ◌++◌, length, take, drop, get_or, None, Some, refl, sym, ap, ap₂, ◌∙◌, subst, arith, IsUtf8, IsCharBoundary, encode_utf8, option_to_list}
 use Rattle.std.specs.List.{last_or, list_all, concat}
 use Rattle.std.proofs.lemmas.Bool.{and_parts}
 use Rattle.std.proofs.lemmas.List.{take-append-drop, length-take-le, drop-drop, drop_more}
@@ -16,7 +15,7 @@ use Rattle.line_buffer.specs.declared.types.At.{At}
 use Rattle.line_buffer.specs.declared.types.At.TheVariants.{Start, BeforeEnd, AfterEnd}
 use Rattle.line_buffer.specs.declared.types.Word.{Word}
 use Rattle.line_buffer.specs.declared.words.ClusterKind.{ClusterKind}
-use Rattle.line_buffer.specs.declared.words.ClusterKind.TheVariants.{Blank, InWord, Other}
+use Rattle.line_buffer.specs.declared.words.ClusterKind.TheVariants.{Blank, InWord}
 use Rattle.line_buffer.proofs.LetterLemmas.{first_letter}
 use Rattle.line_buffer.proofs.RestLemmas.{graphemes_rest}
 use Rattle.line_buffer.proofs.StopLemmas.{clusters-empty}
@@ -27,14 +26,9 @@ use Rattle.line_buffer.proofs.WordRunLemmas.{kind_of_word_byte, word_printable}
 -- ---- the first cluster alone
 no_edge : (at : At) (kind : ClusterKind) (i j : ℕ) → edge_between at (i, kind) (j, kind) ≡ None
 no_edge Start Blank i j = refl
-no_edge Start InWord i j = refl
-no_edge Start Other i j = refl
 no_edge BeforeEnd Blank i j = refl
-no_edge BeforeEnd InWord i j = refl
-no_edge BeforeEnd Other i j = refl
 no_edge AfterEnd Blank i j = refl
-no_edge AfterEnd InWord i j = refl
-no_edge AfterEnd Other i j = refl
+no_edge _ _ i j = refl
 
 from_here : (n : ℕ) → n ≡ n + 0
 from_here n = omega arith

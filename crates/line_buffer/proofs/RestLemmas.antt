@@ -1,7 +1,6 @@
 -- The text behind a text's first cluster is cut into the clusters that come after it: no rule reads past a break.
-use Rattle.std.proofs.Common.{◌≡◌, ℕ, Bool, true, false, not, cond, ◌&&◌, ◌||◌, List, [], ◌∷◌, ◌++◌, length, map, drop, unwrap_or, refl, sym, ap, ap₂, ◌∙◌, append_assoc, subst}
-use Rattle.std.specs.Prelude.{IsUtf8, IsCharBoundary, chars, encode_utf8_all}
-use Rattle.std.proofs.lemmas.Bool.{and_parts}
+use Rattle.std.proofs.Common.{◌≡◌, ℕ, Bool, true, false, not, cond, ◌&&◌, ◌||◌, List, [], ◌∷◌, ◌++◌, length, map, drop, unwrap_or, refl, sym, ap, ap₂, ◌∙◌, append_assoc, subst, IsUtf8, IsCharBoundary, chars, encode_utf8_all}
+use Rattle.std.proofs.lemmas.Bool.{and_parts, not-true}
 use Rattle.std.proofs.lemmas.Str.{encodes-append, encodes-chars, IsUtf8-past_char}
 use Rattle.std.proofs.Math.Seq.{drop-append_seam}
 use Rattle.ucd_table.proofs.Stepped.{Stepped, zip_stepped}
@@ -19,6 +18,7 @@ use Rattle.ucd_emoji.specs.Binary.{is_extended_pictographic}
 use Rattle.ucd_emoji.proofs.BinaryLemmas.{is_extended_pictographic_stepped}
 use Rattle.unicode_segmentation.specs.Grapheme.{break_by_pair, joins_conjunct, joins_emoji, joins_flag, is_consonant, ends_in_linker, ends_in_pictograph, ends_in_half_flag, is_extend, is_zwj, is_regional, is_grapheme_break, graphemes}
 use Rattle.unicode_segmentation.specs.Segments.{cut, segments, prepend}
+use Rattle.line_buffer.proofs.ListedRanges.{implied}
 use Rattle.line_buffer.proofs.CutLemmas.{at_seam}
 use Rattle.line_buffer.proofs.FrontLemmas.{pieces, chars_encoded}
 
@@ -67,33 +67,13 @@ all_dull : (c : ℕ) → dull c ≡ true
 unfolding tables dull_stepped indic_conjunct_break_stepped grapheme_cluster_break_stepped is_extended_pictographic_stepped
 all_dull = Stepped-everywhere dull dull_stepped refl
 
-implied : (a b : Bool) → a ≡ true → (not a || b) ≡ true → b ≡ true
-implied true b e h = h
-implied false b e h = cc
-
-not_true : (b : Bool) → not b ≡ true → b ≡ false
-not_true true h = sym h
-not_true false h = refl
-
 -- such a character is joined to what stands before it, unless that is a control character
 after_control : (v w : GraphemeClusterBreak) (b : Bool) → joins_before w ≡ true → unwrap_or (break_by_pair true v w) b ≡ true → is_control v ≡ true
 after_control Gcb.Control w b j h = refl
 after_control Gcb.Cr w b j h = refl
 after_control Gcb.Lf w b j h = refl
-after_control v Gcb.Extend b j h = by v h
-  where
-    by : (v : GraphemeClusterBreak) → unwrap_or (break_by_pair true v Gcb.Extend) b ≡ true → is_control v ≡ true
-    by Gcb.Control e = refl
-    by Gcb.Cr e = refl
-    by Gcb.Lf e = refl
-    by _ e = e
-after_control v Gcb.Zwj b j h = by v h
-  where
-    by : (v : GraphemeClusterBreak) → unwrap_or (break_by_pair true v Gcb.Zwj) b ≡ true → is_control v ≡ true
-    by Gcb.Control e = refl
-    by Gcb.Cr e = refl
-    by Gcb.Lf e = refl
-    by _ e = e
+after_control _ Gcb.Extend b j h = h
+after_control _ Gcb.Zwj b j h = h
 after_control v _ b j h = absurd (let e : false ≡ true = j in cc)
 
 -- ---- the rules see the same with a text before the break and without it
@@ -115,7 +95,7 @@ control_extends _ h = refl
 
 last_false : (a b : Bool) → not (a || b) ≡ true → b ≡ false
 last_false true b h = absurd cc
-last_false false b h = not_true b h
+last_false false b h = not-true b h
 
 first_false : (a b : Bool) → b ≡ true → (a && b) ≡ false → a ≡ false
 first_false true b e h = sym e ∙ h
@@ -137,7 +117,7 @@ nothing_seen c x before rest h = record {
     clear j =
         let control = after_control (grapheme_cluster_break c) (grapheme_cluster_break x) none j h in
         let both = and_parts (not (links (indic_conjunct_break c))) (not (is_extended_pictographic c)) (implied (is_control (grapheme_cluster_break c)) _ control (all_dull c)) in
-        (control, not_true _ both.0, not_true _ both.1)
+        (control, not-true _ both.0, not-true _ both.1)
 
     no_pictograph : joins_before (grapheme_cluster_break x) ≡ true → ends_in_pictograph (c ∷ before) ≡ false
     no_pictograph j =

@@ -1,8 +1,8 @@
 -- The places at which motions by words stop: the n-th of them, and that each lies between characters.
-use Rattle.std.proofs.Common.{◌≡◌, ℕ, zero, suc, ◌-◌, ◌<◌, ◌==◌, Bool, true, false, cond, ◌⊎◌, inl, inr, List, [], ◌∷◌, ◌++◌, length, get_or, reverse, take, drop, Option, None, Some, refl, sym, ap, ◌∙◌, subst, arith}
-use Rattle.std.specs.Prelude.{MatchOption, slice_get, option_to_list, option_map, IfSome, All, IsUtf8, IsCharBoundary}
+use Rattle.std.proofs.Common.{◌≡◌, ℕ, zero, suc, ◌-◌, ◌<◌, ◌==◌, Bool, true, false, cond, ◌⊎◌, inl, inr, List, [], ◌∷◌, ◌++◌, length, get_or, reverse, take, drop, Option, None, Some, refl, sym, ap, ◌∙◌, subst, arith, MatchOption, slice_get, option_to_list, option_map, IfSome, All, IsUtf8, IsCharBoundary}
 use Rattle.std.specs.List.{last_or}
 use Rattle.std.specs.Option.{option_or}
+use Rattle.std.proofs.Math.Seq.{take-nil}
 use Rattle.std.proofs.lemmas.List.{reverse-append}
 use Rattle.std.proofs.lemmas.List.Elements.{All-append, All-take, All-drop, All-map}
 use Rattle.std.proofs.lemmas.Str.{IsCharBoundary-start, IsCharBoundary-end}
@@ -14,13 +14,9 @@ use Rattle.line_buffer.specs.declared.types.At.TheVariants.{Start, BeforeEnd, Af
 use Rattle.line_buffer.specs.declared.types.Word.{Word}
 use Rattle.line_buffer.specs.declared.types.Word.TheVariants.{Big, Emacs, Vi}
 use Rattle.line_buffer.specs.declared.words.ClusterKind.{ClusterKind}
-use Rattle.line_buffer.proofs.ChainLemmas.{All-last_or, All-reverse}
+use Rattle.line_buffer.proofs.ChainLemmas.{All-last_or, All-reverse, last_or-append}
 use Rattle.line_buffer.proofs.PartLemmas.{All-IsPartAt}
 use Rattle.line_buffer.proofs.WordLemmas.{edges_of-nil, edges_of-one, edges_of-cons}
-
-take-nil : {A : Type 0} (n : ℕ) → take n (let xs : List A = [] in xs) ≡ (let xs : List A = [] in xs)
-take-nil zero = refl
-take-nil (suc n) = refl
 
 -- the n-th of some places, or else the one after them
 pub nth-then : (xs : List ℕ) (t : ℕ) (o : Option ℕ) (k : ℕ) → last_or o (take (suc k) (xs ++ t ∷ [])) ≡ option_or (slice_get xs k) (Some t)
@@ -181,8 +177,7 @@ All-stops_forward at word text u = All-append (IsCharBoundary text) (inner_stops
     inner : (at : At) (word : Word) → All (IsCharBoundary text) (inner_stops at word text)
     inner Start word = All-edges-boundary Start word text (clusters text) (All-starts text u)
     inner BeforeEnd Emacs = All-edges-boundary AfterEnd Emacs text (clusters text) (All-starts text u)
-    inner BeforeEnd Big = All-edges-boundary BeforeEnd Big text (drop 1 (clusters text)) (All-drop (λ x. IsCharBoundary text x.0) 1 (clusters text) (All-starts text u))
-    inner BeforeEnd Vi = All-edges-boundary BeforeEnd Vi text (drop 1 (clusters text)) (All-drop (λ x. IsCharBoundary text x.0) 1 (clusters text) (All-starts text u))
+    inner BeforeEnd word = All-edges-boundary BeforeEnd word text (drop 1 (clusters text)) (All-drop (λ x. IsCharBoundary text x.0) 1 (clusters text) (All-starts text u))
     inner AfterEnd word = All-edges-boundary AfterEnd word text (clusters text) (All-starts text u)
 
     end : (b : Bool) → All (IsCharBoundary text) (cond {A = List ℕ} b [] (length text ∷ []))
@@ -198,12 +193,9 @@ All-stops_forward at word text u = All-append (IsCharBoundary text) (inner_stops
 
     final : (at : At) (word : Word) → All (IsCharBoundary text) (last_stop at word text)
     final Start Emacs = end (length text == 0)
-    final Start Big = last
-    final Start Vi = last
     final BeforeEnd Emacs = end (length text == 0)
-    final BeforeEnd Big = last
-    final BeforeEnd Vi = last
     final AfterEnd word = end (length text == 0)
+    final _ _ = last
 
 -- the n-th stop does
 pub nth-boundary : (text : List ℕ) (n : ℕ) (stops : List ℕ) (o : Option ℕ) → All (IsCharBoundary text) stops → o ≡ nth_or_last n stops → IfSome o (λ i. IsCharBoundary text i)
@@ -212,12 +204,8 @@ nth-boundary text n stops o h e = subst (λ r. IfSome r (IsCharBoundary text)) (
 -- the first cluster passed over, and then the last one
 pub later_last-read : {A : Type 0} (v : A → ℕ × List ℕ) (r : Option A) (old mid new : List (ℕ × List ℕ)) (x : ℕ × List ℕ)
     → MatchOption r ((old ≡ []) × (mid ≡ [])) (λ y. old ≡ v y ∷ mid) → mid ≡ new ++ x ∷ [] → later_last old ≡ x.0 ∷ []
-later_last-read {A = A} v r old mid new x h e = ap (λ xs. option_to_list (option_map (λ z. z.0) (last_or None xs))) (rest r h ∙ e) ∙ ap (λ o. option_to_list (option_map (λ z. z.0) o)) (last-snoc None new)
+later_last-read {A = A} v r old mid new x h e = ap (λ xs. option_to_list (option_map (λ z. z.0) (last_or None xs))) (rest r h ∙ e) ∙ ap (λ o. option_to_list (option_map (λ z. z.0) o)) (last_or-append None new (x ∷ []))
   where
     rest : (r : Option A) → MatchOption r ((old ≡ []) × (mid ≡ [])) (λ y. old ≡ v y ∷ mid) → drop 1 old ≡ mid
     rest None h = ap (drop 1) h.0 ∙ sym h.1
     rest (Some y) h = ap (drop 1) h
-
-    last-snoc : (o : Option (ℕ × List ℕ)) (xs : List (ℕ × List ℕ)) → last_or o (xs ++ x ∷ []) ≡ Some x
-    last-snoc o [] = refl
-    last-snoc o (y ∷ xs) = last-snoc (Some y) xs

@@ -1,6 +1,5 @@
 -- Sums of columns that stop at the most that a number of columns can be, and the parts of a text between joiners.
-use Rattle.std.proofs.Common.{◌≡◌, ℕ, ◌+◌, ◌<◌, ◌≤◌, ◌==◌, min, Bool, true, false, cond, ◌&&◌, List, [], ◌∷◌, ◌++◌, length, take, drop, Option, None, Some, refl, sym, ap, ◌∙◌, subst, arith, append_assoc, take-append-drop}
-use Rattle.std.specs.Prelude.{chars, encode_utf8, encode_utf8_all, sum_by, IsUtf8, MatchOption, All}
+use Rattle.std.proofs.Common.{◌≡◌, ℕ, ◌+◌, ◌<◌, ◌≤◌, ◌==◌, min, Bool, true, false, cond, ◌&&◌, List, [], ◌∷◌, ◌++◌, length, take, drop, Option, None, Some, refl, sym, ap, ◌∙◌, subst, arith, append_assoc, take-append-drop, chars, encode_utf8, encode_utf8_all, sum_by, IsUtf8, MatchOption, All, eq-eqb}
 use Rattle.std.specs.List.{fold, slice_split}
 use Rattle.std.specs.Str.{NonePass, NoCharPasses}
 use Rattle.std.specs.Str.Pattern.{FindsChar}
@@ -13,7 +12,6 @@ use Rattle.std.proofs.lemmas.List.Splits.{slice_split_none, slice_split_at}
 use Rattle.std.proofs.lemmas.List.Sums.{sum_by-cons}
 use Rattle.std.proofs.lemmas.Str.{chars-encodes, chars_from_encodes, encodes-chars, scalars-chars, cons_from_encodes, len_utf8_bounds}
 use lib.Utf8.{scalar, scalars}
-use borrow.Author.Tests.{eq-eqb}
 
 -- ---- sums that stop
 

@@ -1,6 +1,5 @@
 -- The edges of words in a list of clusters, taken apart from its front and from its back.
-use Rattle.std.proofs.Common.{◌≡◌, ℕ, suc, ◌-◌, ◌<◌, Bool, true, false, cond, if◌then◌else◌, List, [], ◌∷◌, ◌++◌, map, reverse, Option, None, Some, refl, sym, ap, ◌∙◌, arith}
-use Rattle.std.specs.Prelude.{slice_get, option_to_list}
+use Rattle.std.proofs.Common.{◌≡◌, ℕ, suc, ◌-◌, ◌<◌, Bool, true, false, cond, if◌then◌else◌, List, [], ◌∷◌, ◌++◌, map, reverse, Option, None, Some, refl, sym, ap, ◌∙◌, arith, slice_get, option_to_list}
 use Rattle.std.proofs.lemmas.List.{append-nil, append_assoc}
 use Rattle.line_buffer.specs.declared.types.At.{At}
 use Rattle.line_buffer.specs.declared.types.At.TheVariants.{Start, BeforeEnd, AfterEnd}
@@ -14,14 +13,12 @@ one_more f false p rest = refl
 pub edges_of-nil : (at : At) → edges_of at [] ≡ []
 unfolding starts_of ends_of lasts_of
 edges_of-nil Start = refl
-edges_of-nil BeforeEnd = refl
-edges_of-nil AfterEnd = refl
+edges_of-nil _ = refl
 
 pub edges_of-one : (at : At) (x : ℕ × ClusterKind) → edges_of at (x ∷ []) ≡ []
 unfolding starts_of ends_of lasts_of
 edges_of-one Start x = refl
-edges_of-one BeforeEnd x = refl
-edges_of-one AfterEnd x = refl
+edges_of-one _ x = refl
 
 pub edges_of-cons : (at : At) (x y : ℕ × ClusterKind) (more : List (ℕ × ClusterKind)) → edges_of at (x ∷ (y ∷ more)) ≡ option_to_list (edge_between at x y) ++ edges_of at (y ∷ more)
 unfolding starts_of ends_of lasts_of

@@ -1,10 +1,9 @@
 -- The last clusters of a text that are of one kind: a run of bytes of ASCII in a word, or the last cluster alone.
-use Rattle.std.proofs.Common.{◌≡◌, ℕ, zero, suc, ◌+◌, ◌-◌, ◌==◌, ◌<◌, ◌≤◌, ◌⊎◌, inl, inr, Bool, true, false, not, ◌&&◌, ◌||◌, if◌then◌else◌, List, [], ◌∷◌, ◌++◌, length, map, take, drop, reverse, get_or, Option, None, Some, refl, sym, ap, ap₂, ◌∙◌, subst, arith, append_assoc}
-use Rattle.std.specs.Prelude.{IsUtf8, chars, option_to_list, bytes_eq}
+use Rattle.std.proofs.Common.{◌≡◌, ℕ, zero, suc, ◌+◌, ◌-◌, ◌==◌, ◌<◌, ◌≤◌, ◌⊎◌, inl, inr, Bool, true, false, not, ◌&&◌, ◌||◌, if◌then◌else◌, List, [], ◌∷◌, ◌++◌, length, map, take, drop, reverse, get_or, Option, None, Some, refl, sym, ap, ap₂, ◌∙◌, subst, arith, append_assoc, IsUtf8, chars, option_to_list, bytes_eq}
 use Rattle.std.specs.Char.{is_ascii_alphanumeric, is_whitespace}
 use Rattle.std.specs.List.{last_or, list_all, concat}
 use Rattle.std.proofs.Math.Seq.{get_or-append_seam}
-use Rattle.std.proofs.lemmas.Bool.{and_from, and_parts}
+use Rattle.std.proofs.lemmas.Bool.{and_from, and_parts, cases_lt}
 use Rattle.std.proofs.lemmas.Bool.Decides.{nat_tests}
 use Rattle.std.proofs.lemmas.List.{reverse-append, reverse-reverse, length-append, length-take-le, length-drop, drop_more, map-append, append-nil, take_at, take_all, take-take, length-take, take-append-drop}
 use Rattle.std.proofs.lemmas.List.Folds.{list_all-append}
@@ -37,8 +36,7 @@ reversed_all p (x ∷ xs) h =
 -- ---- bytes of a word
 word_bounds : (word : Word) (c : ℕ) → is_word_byte word c ≡ true → (33 ≤ c) × (c < 127)
 word_bounds Emacs c h = grind (arith, nat_tests, h)
-word_bounds Big c h = grind (arith, nat_tests, h)
-word_bounds Vi c h = grind (arith, nat_tests, h)
+word_bounds _ c h = grind (arith, nat_tests, h)
 
 pub word_printable : (word : Word) (c : ℕ) → is_word_byte word c ≡ true → is_printable c ≡ true
 word_printable word c h = let bounds = word_bounds word c h in grind (arith, nat_tests, bounds.0, bounds.1)
@@ -169,15 +167,12 @@ ends_in_cluster word text start cluster kind u found is = elim (ends_or_not (clu
         let front = clusters_front text start cluster new u last in
         record {
           start = front.0;
-          shorter = by_order (at_most start (length text) front.0.0) front.1 last;
+          shorter = by_order (cases_lt start (length text)) front.1 last;
           later = [];
           splits = ap (kinds word) last ∙ map-append (λ y. (y.0, kind_of word y.1)) new ((start, cluster) ∷ []) ∙ ap₂ (λ ys k. kinds word ys ++ (start, k) ∷ []) (sym front.1) (sym is);
         }
       where
-        at_most : (i j : ℕ) → i ≤ j → (i < j) ⊎ (i ≡ j)
-        at_most i j l = grind (arith, l)
-
-        by_order : (start < length text) ⊎ (start ≡ length text) → clusters (take start text) ≡ new → clusters text ≡ new ++ (start, cluster) ∷ [] → start < length text
+        by_order : (start < length text) ⊎ (length text ≤ start) → clusters (take start text) ≡ new → clusters text ≡ new ++ (start, cluster) ∷ [] → start < length text
         by_order (inl l) c d = l
         by_order (inr q) c d =
             let whole : take start text ≡ text = take_all start text (omega (arith, q)) in
@@ -193,8 +188,7 @@ no_cluster text u found = elim (ends_or_not (clusters text)) [
 -- ---- the starts of words around such clusters
 no_start : (kind : ClusterKind) (i j : ℕ) → edge_between Start (i, kind) (j, kind) ≡ None
 no_start Blank i j = refl
-no_start InWord i j = refl
-no_start Other i j = refl
+no_start _ i j = refl
 
 run_edges : (xs : List (ℕ × ClusterKind)) (kind : ClusterKind) (at : ℕ) (later : List ℕ) (y : ℕ × ClusterKind)
     → edges_of Start ((xs ++ map (λ i. (i, kind)) (at ∷ later)) ++ y ∷ []) ≡ edges_of Start (xs ++ (at, kind) ∷ []) ++ option_to_list (edge_between Start (at, kind) y)

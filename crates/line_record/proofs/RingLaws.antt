@@ -1,13 +1,12 @@
 -- A ring that is never turned holds the last runs of kills.
-use Rattle.std.proofs.Common.{◌≡◌, ℕ, zero, suc, ◌+◌, ◌<◌, ◌≤◌, ◌==◌, ◌⊎◌, inl, inr, Bool, true, false, List, [], ◌∷◌, ◌++◌, length, take, drop, reverse, Some, refl, sym, ap, subst, ◌∙◌, arith, append_assoc, add-one}
-use Rattle.std.specs.Prelude.{slice_get, slice_set, slice_index_or, if◌then◌else◌, nat_lt}
+use Rattle.std.proofs.Common.{◌≡◌, ℕ, zero, suc, ◌+◌, ◌<◌, ◌≤◌, ◌==◌, ◌⊎◌, inl, inr, Bool, true, false, List, [], ◌∷◌, ◌++◌, length, take, drop, reverse, Some, refl, sym, ap, subst, ◌∙◌, arith, append_assoc, add-one, slice_get, slice_set, slice_index_or, if◌then◌else◌, nat_lt}
 use Rattle.std.proofs.lemmas.List.{append-nil, reverse-append, length-append, length-reverse}
 use Rattle.std.proofs.lemmas.Option.{slice_get-get_or}
 use Rattle.std.proofs.Math.Seq.{take-nil, take-append_seam, drop-append_seam, get_or-append_seam, set-append_seam}
 use Rattle.std.proofs.lemmas.Bool.{eqb-true}
 use Rattle.std.proofs.lemmas.Bool.Decides.{nat_tests}
 use Rattle.line_buffer.specs.Event.{ChangeEvent}
-use Rattle.line_buffer.specs.Event.ChangeEvent.{StartKilling, StopKilling, Delete, InsertChar, InsertStr, Replace}
+use Rattle.line_buffer.specs.Event.ChangeEvent.{StartKilling, StopKilling, Delete}
 use Rattle.line_buffer.specs.declared.types.Mode.{Mode}
 use Rattle.line_record.specs.declared.kill_ring.Action.{Action}
 use Rattle.line_record.specs.declared.kill_ring.Action.TheVariants.{Other, Kill, Yank}
@@ -304,9 +303,7 @@ heard_holds n StopKilling k r h = record { sized = h.sized; killing = refl; runn
 heard_holds n (Delete at text direction) k r h =
     subst (λ b. Holds (suc n) (kills_heard (Delete at text direction) k) (if b then ring_with_kill text (mode_of direction) r else r)) (sym h.killing)
     (delete_holds n k.killing text (mode_of direction) k r h)
-heard_holds n (InsertChar at c) k r h = h
-heard_holds n (InsertStr at text) k r h = h
-heard_holds n (Replace at removed added) k r h = h
+heard_holds n _ k r h = h
 
 lent_holds : (n : ℕ) (k : Kills) (r : Ring) → Holds (suc n) k r → Holds (suc n) (record k { running = false }) (ring_after_yank r)
 unfolding is_kill

@@ -1,6 +1,5 @@
 -- The kill ring, computed at some runs.
-use Rattle.std.proofs.Common.{◌≡◌, ℕ, List, [], ◌∷◌, Option, Some, None, refl}
-use Rattle.std.specs.Prelude.{codes, slice_get}
+use Rattle.std.proofs.Common.{◌≡◌, ℕ, List, [], ◌∷◌, Option, Some, None, refl, codes, slice_get}
 use Rattle.line_buffer.specs.declared.types.Mode.TheVariants.{Append, Prepend}
 use Rattle.line_record.specs.declared.kill_ring.Action.TheVariants.{Other}
 use Rattle.line_buffer.specs.Event.ChangeEvent.{StartKilling, StopKilling, Delete, InsertChar}

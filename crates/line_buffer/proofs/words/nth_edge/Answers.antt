@@ -1,5 +1,4 @@
-use Rattle.std.proofs.Common.{◌-◌, ◌∷◌, drop, length, ap, sym, ◌∙◌}
-use Rattle.std.specs.Prelude.{slice_get}
+use Rattle.std.proofs.Common.{◌-◌, ◌∷◌, drop, length, ap, sym, ◌∙◌, slice_get}
 use Rattle.line_buffer.specs.Words.{edges_of, kinds}
 use Rattle.line_buffer.proofs.NextRunLemmas.{clusters_at-empty}
 use Rattle.line_buffer.proofs.WordLemmas.{none_in_one, edges_of-nil}

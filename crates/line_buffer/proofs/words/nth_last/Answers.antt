@@ -1,5 +1,4 @@
-use Rattle.std.proofs.Common.{◌-◌, drop, ap, sym, ◌∙◌}
-use Rattle.std.specs.Prelude.{slice_get}
+use Rattle.std.proofs.Common.{◌-◌, drop, ap, sym, ◌∙◌, slice_get}
 use Rattle.line_buffer.specs.Words.{edges_of, kinds}
 use Rattle.line_buffer.specs.declared.types.At.TheVariants.{BeforeEnd}
 use Rattle.line_buffer.proofs.NextRunLemmas.{behind_first, no_first_cluster}

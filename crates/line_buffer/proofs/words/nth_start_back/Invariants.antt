@@ -1,5 +1,4 @@
-use Rattle.std.proofs.Common.{◌≡◌, ◌<◌, ◌-◌, ◌∷◌, ◌++◌, [], take, reverse}
-use Rattle.std.specs.Prelude.{slice_get, IsCharBoundary}
+use Rattle.std.proofs.Common.{◌≡◌, ◌<◌, ◌-◌, ◌∷◌, ◌++◌, [], take, reverse, slice_get, IsCharBoundary}
 use Rattle.line_buffer.specs.Clusters.{clusters}
 use Rattle.line_buffer.specs.Words.{starts_of, kinds}
 use Rattle.line_buffer.proofs.words.nth_start_back.Given as goal
