@@ -8,8 +8,7 @@ use Rattle.std.proofs.lemmas.Bool.Decides.{nat_tests}
 use Rattle.ucd_table.specs.Rows.{Range, in_ranges}
 
 pub implied : (a b : Bool) → a ≡ true → (not a || b) ≡ true → b ≡ true
-implied true b e h = h
-implied false b e h = cc
+implied a b e h = grind (arith, nat_tests)
 
 -- in the first range, or in one of the others
 abbrev pub in_some : Range → List Range → ℕ → Bool

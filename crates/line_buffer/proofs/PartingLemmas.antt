@@ -420,7 +420,7 @@ module _ (c : ℕ) (f : Facts c (alone false c) (is_emoji (kind c))) (apart : lo
   joins_left n after.JoinerTifinagh = less n (is_tifinagh c) refl
   joins_left n after.LisuTone = inl (own_one n c (is_in_range 0xA4F8 0xA4FB c) Same closing_lisu)
   joins_left n after.ZwjOrkhonI = inl (own_one n c (c == 0x10C32) Same (closing_at 0x10C32 refl))
-  joins_left n a = inl (own_none n c (joins false a c) (Prim.first_of (cc, simp (no_indicator, no_joiner, no_letter, no_digit, no_tifinagh_joiner, none_of zeros c 0x17D2 zeros_apart refl, none_of zeros c 0x1A17 zeros_apart refl))))
+  joins_left n a = inl (own_none n c (joins false a c) (grind (arith, nat_tests, no_indicator, no_joiner, no_letter, no_digit, no_tifinagh_joiner, none_of zeros c 0x17D2 zeros_apart refl, none_of zeros c 0x1A17 zeros_apart refl)))
 
   past_selectors_left : (n : ℕ) (a : After) → Left c (alone false c).1 (is_shaky_after a) (past_selectors false c n a).1
   unfolding past_selectors

@@ -58,9 +58,7 @@ no_space : (word : Word) (c : ℕ) → is_word_byte word c ≡ true → is_white
 no_space word c h = let bounds = word_bounds word c h in grind (arith, nat_tests, bounds.0, bounds.1)
 
 one_of : (a b : Bool) → (a || b) ≡ true → ((a && true) || (b && true)) ≡ true
-one_of true b h = refl
-one_of false true h = refl
-one_of false false h = h
+one_of a b h = grind (arith, nat_tests)
 
 pub kind_of_word_byte : (word : Word) (c : ℕ) → is_word_byte word c ≡ true → kind_of word (c ∷ []) ≡ InWord
 kind_of_word_byte Emacs c h = ap (λ b. if b then InWord else Blank) (is_letter c (word_ascii Emacs c h) ∙ ap (λ b. b && true) h)

@@ -16,26 +16,16 @@ use Rattle.line_buffer.proofs.InsertionLemmas.{insert_cases, yank_cases}
 use Rattle.line_buffer.specs.declared.types.Movement.{Movement}
 
 swapped : (a b c : Bool) → ((a && b) && c) ≡ ((a && c) && b)
-swapped false b c = refl
-swapped true true true = refl
-swapped true true false = refl
-swapped true false true = refl
-swapped true false false = refl
+swapped a b c = grind (arith, nat_tests)
 
 absorbed : (a b : Bool) → (a && (b || a)) ≡ a
-absorbed false b = refl
-absorbed true true = refl
-absorbed true false = refl
+absorbed a b = grind (arith, nat_tests)
 
 with_true : (a : Bool) → a ≡ (a && true)
-with_true true = refl
-with_true false = refl
+with_true a = grind (arith, nat_tests)
 
 same_answer : (a b : Bool) → (a ≡ true → b ≡ true) → (b ≡ true → a ≡ true) → a ≡ b
-same_answer true true f g = refl
-same_answer true false f g = sym (f refl)
-same_answer false true f g = g refl
-same_answer false false f g = refl
+same_answer a b f g = grind (arith, nat_tests)
 
 -- ---- a text by its parts
 
@@ -77,11 +67,7 @@ char_is_plain c =
 -- ---- what is deleted
 
 by_deleted : (front deleted rest : Bool) → (front && rest) ≡ ((front && (deleted && rest)) || (not deleted && (front && rest)))
-by_deleted false true rest = refl
-by_deleted false false rest = refl
-by_deleted true true true = refl
-by_deleted true true false = refl
-by_deleted true false rest = refl
+by_deleted front deleted rest = grind (arith, nat_tests)
 
 spanned_is : (from upto : ℕ) (text : List ℕ) → from ≤ upto → is_plain text ≡ (is_plain (take from text) && (is_plain (slice_range text from upto) && is_plain (drop upto text)))
 spanned_is from upto text order =

@@ -1,5 +1,6 @@
 -- The texts that a record holds were texts of the line.
-use Rattle.std.proofs.Common.{ℕ, zero, suc, Bool, true, false, List, [], ◌∷◌, drop, Option, Some, None, refl, inl, inr, if◌then◌else◌}
+use Rattle.std.proofs.Common.{ℕ, zero, suc, Bool, true, false, List, [], ◌∷◌, drop, Option, Some, None, refl, inl, inr, if◌then◌else◌, arith}
+use Rattle.std.proofs.lemmas.Bool.Decides.{nat_tests}
 use Rattle.line_buffer.specs.Event.{ChangeEvent}
 use Rattle.line_buffer.specs.Event.ChangeEvent.{StartKilling, StopKilling}
 use Rattle.line_buffer.specs.Replay.{text_after_event}
@@ -61,9 +62,7 @@ grouped_seen c (Opened text ∷ held) seen h = h
 grouped_seen c (Stepped text place newest joinable ∷ held) seen h = h
 
 one_of_three : (a b : Bool) (x y z : List HeldItem) (seen : List (List ℕ)) → HeldSeen x seen → HeldSeen y seen → HeldSeen z seen → HeldSeen (if a then x else if b then y else z) seen
-one_of_three true b x y z seen p q r = p
-one_of_three false true x y z seen p q r = q
-one_of_three false false x y z seen p q r = r
+one_of_three a b x y z seen p q r = grind (arith, nat_tests)
 
 ended_seen : (held : List HeldItem) (seen : List (List ℕ)) → HeldSeen held seen → HeldSeen (record_after_close held) seen
 unfolding HeldSeen

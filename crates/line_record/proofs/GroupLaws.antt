@@ -1,7 +1,8 @@
 -- A group that is undone as one.
-use Rattle.std.proofs.Common.{◌≡◌, ℕ, ◌+◌, Bool, true, false, List, [], ◌∷◌, ◌++◌, length, drop, Option, Some, None, refl, sym, ap, subst, ◌∙◌, if◌then◌else◌}
+use Rattle.std.proofs.Common.{◌≡◌, ℕ, ◌+◌, Bool, true, false, List, [], ◌∷◌, ◌++◌, length, drop, Option, Some, None, refl, sym, ap, subst, ◌∙◌, if◌then◌else◌, arith}
 use Rattle.std.specs.List.{replace_range}
 use Rattle.std.proofs.lemmas.Bool.{and_parts}
+use Rattle.std.proofs.lemmas.Bool.Decides.{nat_tests}
 use Rattle.line_buffer.specs.Event.{ChangeEvent}
 use Rattle.line_buffer.specs.Event.ChangeEvent.{StartKilling, StopKilling, Delete, InsertChar, InsertStr, Replace}
 use Rattle.line_buffer.specs.Replay.{text_after_event}
@@ -27,8 +28,7 @@ record Inside (begun_on : List ℕ) (older held : List HeldItem) (text : List �
   begun : text_begun newer text ≡ begun_on
 
 none_if : {A : Type 0} (b : Bool) (x : A) → (if b then None else Some x) ≡ None → b ≡ true
-none_if true x h = refl
-none_if false x h = cc
+none_if b x h = grind (arith, nat_tests)
 
 nothing_swapped : (text : List ℕ) (at : ℕ) (removed added : List ℕ) → removed ≡ [] → added ≡ [] → replace_range text at (at + length removed) added ≡ text
 nothing_swapped text at removed added r a =
