@@ -1,6 +1,6 @@
 -- Where a text may be parted. Its columns are read from its end, with a state; so two texts that leave the same state act alike
 -- on what stands before them. A character with columns of its own leaves a state that what follows does not change.
-use Rattle.std.proofs.Common.{◌≡◌, ℕ, zero, suc, ◌+◌, ◌-◌, ◌==◌, ◌<◌, ◌≤◌, nat_le, nat_lt, ◌⊎◌, inl, inr, ⊎_elim, Bool, true, false, not, cond, ◌&&◌, ◌||◌, List, [], ◌∷◌, ◌++◌, length, Option, None, Some, refl, sym, ap, ◌∙◌, subst, arith, sum_by, IsUtf8, chars, encode_utf8, eqb-true}
+use Rattle.std.proofs.Common.{◌≡◌, ℕ, zero, suc, ◌+◌, ◌-◌, ◌==◌, ◌<◌, ◌≤◌, nat_le, nat_lt, ◌⊎◌, inl, inr, ⊎_elim, Bool, true, false, not, cond, ◌&&◌, ◌||◌, List, [], ◌∷◌, ◌++◌, length, Option, None, Some, refl, sym, ap, ◌∙◌, subst, arith, sum_by, IsUtf8, chars, encode_utf8, eqb-true, true≢false}
 use Rattle.std.proofs.Math.ListN.{replicate}
 use Rattle.std.specs.Char.{IsScalar}
 use Rattle.std.specs.Int.{is_in_range}
@@ -120,12 +120,10 @@ record Facts (c : ℕ) (own : ℕ × State) (emoji : Bool) : Type 0 where
   steady : is_tone c ≡ false → is_shaky own.1 ≡ false
 
 never : {P : Type 0} (b : Bool) → b ≡ false → b ≡ true → P
-never true h e = cc
-never false h e = cc
+never b h e = absurd (true≢false (sym e ∙ h))
 
 unless : {P : Type 0} (b : Bool) → b ≡ true → b ≡ false → P
-unless true h e = cc
-unless false h e = cc
+unless b h e = absurd (true≢false (sym h ∙ e))
 
 same_tone : (c : ℕ) → in_ranges tones c ≡ is_tone c
 unfolding in_ranges
@@ -521,14 +519,8 @@ parts_leave c ds h n =
 
     settled : {x : State} → Left c (own c) (is_shaky (read_before false ds (n, plain)).1) x → (b : Bool) → takes_marks c ≡ b → (not b || is_bare (first ds)) ≡ true → x ≡ own c
     settled (inl e) b is k = e
-    settled (inr e) false is k = absurd (no (sym (and_parts (is_shaky (read_before false ds (n, plain)).1) (takes_marks c) e.0).1 ∙ is))
-      where
-        no : true ≡ false → ⊥
-        no x = cc
-    settled (inr e) true is k = absurd (no (sym (and_parts (is_shaky (read_before false ds (n, plain)).1) (takes_marks c) e.0).0 ∙ calm ds k))
-      where
-        no : true ≡ false → ⊥
-        no x = cc
+    settled (inr e) false is k = absurd (true≢false (sym (and_parts (is_shaky (read_before false ds (n, plain)).1) (takes_marks c) e.0).1 ∙ is))
+    settled (inr e) true is k = absurd (true≢false (sym (and_parts (is_shaky (read_before false ds (n, plain)).1) (takes_marks c) e.0).0 ∙ calm ds k))
 
 -- ---- the rule: texts that leave the same state act alike on what stands before them
 
@@ -746,11 +738,8 @@ selected_parts c ds h e =
       part = λ p ps is. selected_leaves c p h (by p (begun_part c ds p ps (base_joiner c h) is));
     }
   where
-    no : true ≡ false → ⊥
-    no x = cc
-
     by : (p : List ℕ) → Begins ds p → first p ≡ Some 0xFE0F
-    by _ (none k) = absurd (no (sym k ∙ ap stops e))
+    by _ (none k) = absurd (true≢false (sym k ∙ ap stops e))
     by _ (same d p k j) = sym k ∙ e
 
 pub columns_selected : (c : ℕ) (ds es : List ℕ) → is_emoji_variation_base c ≡ true → first ds ≡ Some 0xFE0F → first es ≡ Some 0xFE0F → (mode : GraphemeClusterMode) (cs : List ℕ) → Balanced (columns_of mode) cs (c ∷ ds) (c ∷ es)
