@@ -5,6 +5,7 @@ use Rattle.std.specs.Char.{IsScalar}
 use Rattle.std.specs.List.{last_or, concat, list_all}
 use Rattle.std.proofs.lemmas.List.{map-append}
 use Rattle.std.proofs.lemmas.List.Elements.{filter-append}
+use Rattle.std.proofs.lemmas.List.Folds.{list_all-append}
 use Rattle.std.proofs.lemmas.Str.{chars-append, chars-nil, chars_past_char, IsUtf8-take, IsUtf8-nil, IsUtf8-append, IsUtf8-encode, IsCharBoundary-from_take, len_utf8_bounds, length-encode}
 use Rattle.std.proofs.Math.Seq.{take-append_seam, drop-append_seam, get_or-append_seam}
 use Rattle.std.proofs.lemmas.Bool.{and_from, and_parts, or_cases, le-leb, lt-leb}
@@ -264,16 +265,12 @@ module _ (text : List ℕ) (end : ℕ) (old new : List ℕ) (next : Option ℕ) 
       (λ lettered.
       let both = and_parts flags (is_flag_letter c) lettered in
       let all : list_all is_flag_letter (last.0 ∷ (last.1.0 ++ rest)) ≡ true = ap (λ xs. list_all is_flag_letter (xs ++ rest)) (sym last.1.1) ∙ w.flags_are both.0 in
-      columns_of_flags c last.0 (last.1.0 ++ rest) last.1.0 (and_from (is_flag_letter c) _ both.1 all) (and_from (is_flag_letter c) _ both.1 (front_flags (last.0 ∷ last.1.0) rest all)))
+      columns_of_flags c last.0 (last.1.0 ++ rest) last.1.0 (and_from (is_flag_letter c) _ both.1 all) (and_from (is_flag_letter c) _ both.1 (and_parts _ (list_all is_flag_letter rest) (sym (list_all-append is_flag_letter (last.0 ∷ last.1.0) rest) ∙ all)).0))
       (or_cases (is_selected c next) (flags && is_flag_letter c) h))
     where
       selected_is : {d : ℕ} (n : Option ℕ) → n ≡ Some d → is_selected c n ≡ true → (is_emoji_variation_base c ≡ true) × (Some d ≡ Some 0xFE0F)
       selected_is None e k = cc
       selected_is (Some x) e k = let both = and_parts (is_emoji_variation_base c) (x == 0xFE0F) k in (both.0, sym e ∙ ap Some (eqb-true x 0xFE0F both.1))
-
-      front_flags : (xs ys : List ℕ) → list_all is_flag_letter (xs ++ ys) ≡ true → list_all is_flag_letter xs ≡ true
-      front_flags [] ys k = refl
-      front_flags (x ∷ xs) ys k = let both = and_parts (is_flag_letter x) (list_all is_flag_letter (xs ++ ys)) k in and_from (is_flag_letter x) _ both.0 (front_flags xs ys both.1)
 
   pub alike : (parts c next || (inside && (is_selected c next || (flags && is_flag_letter c)))) ≡ true
       → (mode : GraphemeClusterMode) (cs : List ℕ) → columns_of mode (cs ++ c ∷ (chars w.mid ++ rest)) + columns_of mode (c ∷ chars w.mid) ≡ columns_of mode (cs ++ c ∷ chars w.mid) + columns_of mode (c ∷ (chars w.mid ++ rest))

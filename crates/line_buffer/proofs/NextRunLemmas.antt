@@ -100,9 +100,6 @@ behind_first text x u found = by (graphemes true text) refl
         (rest.0, ap (λ gs. drop 1 (with_offsets 0 gs)) e ∙ ap₂ with_offsets long (sym rest.1))
 
 -- ---- one run after another of the same kind
-drop-drop_add : (i j : ℕ) (xs : List ℕ) → drop j (drop i xs) ≡ drop (i + j) xs
-drop-drop_add i j xs = drop-drop j i xs
-
 runs_join : (word : Word) (text : List ℕ) (last end later upto : ℕ) (kind : ClusterKind) → BeginsInRun word text last end kind → BeginsInRun word (drop end text) later upto kind → BeginsInRun word text (end + later) (end + upto) kind
 runs_join word text last end later upto kind one two = record {
   boundary = IsCharBoundary-from_rest text end upto one.boundary.0 two.boundary;
@@ -119,7 +116,7 @@ runs_join word text last end later upto kind one two = record {
         two.splits at (from + end) (from + last, kind)
         ∙ ap (λ o. option_to_list o ++ edges_of at ((from + end + later, kind) ∷ kinds word (clusters_at (from + end + upto) (drop upto (drop end text))))) (no_edge at kind (from + last) (from + end))
         ∙ ap₂ (λ i j. edges_of at ((i, kind) ∷ kinds word (clusters_at j (drop upto (drop end text))))) place behind
-        ∙ ap (λ bs. edges_of at ((from + (end + later), kind) ∷ kinds word (clusters_at (from + (end + upto)) bs))) (drop-drop_add end upto text)
+        ∙ ap (λ bs. edges_of at ((from + (end + later), kind) ∷ kinds word (clusters_at (from + (end + upto)) bs))) (drop-drop upto end text)
 
 -- ---- bytes of a word
 in_front : (c : ℕ) (text : List ℕ) → is_printable c ≡ true → c ∷ text ≡ encode_utf8 c ++ text

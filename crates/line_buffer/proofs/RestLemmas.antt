@@ -18,6 +18,7 @@ use Rattle.ucd_emoji.specs.Binary.{is_extended_pictographic}
 use Rattle.ucd_emoji.proofs.BinaryLemmas.{is_extended_pictographic_stepped}
 use Rattle.unicode_segmentation.specs.Grapheme.{break_by_pair, joins_conjunct, joins_emoji, joins_flag, is_consonant, ends_in_linker, ends_in_pictograph, ends_in_half_flag, is_extend, is_zwj, is_regional, is_grapheme_break, graphemes}
 use Rattle.unicode_segmentation.specs.Segments.{cut, segments, prepend}
+use Rattle.line_buffer.proofs.JoinLemmas.{cut-some}
 use Rattle.line_buffer.proofs.ListedRanges.{implied}
 use Rattle.line_buffer.proofs.CutLemmas.{at_seam}
 use Rattle.line_buffer.proofs.FrontLemmas.{pieces, chars_encoded}
@@ -199,12 +200,7 @@ Behind cs q qs = (c : ℕ) × (before : List ℕ) × (ds : List ℕ) × (cs ≡ 
 no_pieces : (before cs : List ℕ) → pieces before cs ≡ [] → cs ≡ []
 unfolding cut
 no_pieces before [] h = refl
-no_pieces before (c ∷ cs) h = absurd (by (is_grapheme_break true (c ∷ before) (cs ++ [])) (pieces (c ∷ before) cs) h)
-  where
-    by : (b : Bool) (rest : List (List ℕ)) → cond b ((c ∷ []) ∷ rest) (prepend (c ∷ []) rest) ≡ [] → ⊥
-    by true rest h = cc
-    by false [] h = cc
-    by false (p ∷ rest) h = cc
+no_pieces before (c ∷ cs) h = absurd (omega (arith, cut-some before c cs, ap length h))
 
 cut_rest : (cs before q : List ℕ) (qs : List (List ℕ)) → pieces before cs ≡ q ∷ qs → Behind cs q qs
 unfolding cut is_grapheme_break
