@@ -1,6 +1,5 @@
 -- The motions of the definitions, computed at some lines.
-use Rattle.std.proofs.Common.{◌≡◌, ℕ, true, List, [], ◌∷◌, ◌++◌, map, reverse, take, Some, None, refl, ap, codes, encode_utf8_all}
-use Rattle.std.specs.List.{list_all}
+use Rattle.std.proofs.Common.{◌≡◌, ℕ, true, List, [], ◌∷◌, Some, None, refl, ap, codes, encode_utf8_all}
 use Rattle.unicode_segmentation.specs.Segments.{with_offsets}
 use Rattle.unicode_segmentation.proofs.Computing.{unicode_segmentation}
 use Rattle.line_buffer.specs.declared.types.At.{At}
@@ -12,10 +11,8 @@ use Rattle.line_buffer.specs.declared.types.Word.TheVariants.{Big, Emacs, Vi}
 use Rattle.line_buffer.specs.Clusters.{nth_or_last, place_forward, place_backward}
 use Rattle.line_buffer.specs.Hits.{search_place, chars_placed}
 use Rattle.line_buffer.specs.Line.{Line}
-use Rattle.line_buffer.specs.Printable.{is_printable}
 use Rattle.line_buffer.specs.Rows.{row_start, row_end}
-use Rattle.line_buffer.specs.Words.{kinds, text_start, stops_back, prev_word, next_word, starts_of, ends_of, lasts_of}
-use Rattle.line_buffer.proofs.JoinLemmas.{clusters-printable}
+use Rattle.line_buffer.specs.Words.{stops_back, prev_word, next_word, starts_of, ends_of, lasts_of}
 
 abbrev at : List ℕ → ℕ → Line
 at text place = record { text = text; place = place; growth = true; limit = 0 }
@@ -26,14 +23,10 @@ mixed = codes "alpha ,beta/rho; mu"
 abbrev pair : List ℕ
 pair = codes "one two"
 
--- a text of printable ASCII, whose clusters are its characters
-stops_of_printable : (word : Word) (text : List ℕ) → list_all is_printable text ≡ true → stops_back word text ≡ reverse (text_start text ++ starts_of (kinds word (with_offsets 0 (map (λ c. c ∷ []) text))))
-stops_of_printable word text h = ap (λ xs. reverse (text_start text ++ starts_of (kinds word xs))) (clusters-printable text h)
-
 -- its stops by words of Vi, the last first
 mixed_stops : stops_back Vi mixed ≡ 17 ∷ 15 ∷ 12 ∷ 11 ∷ 7 ∷ 6 ∷ 0 ∷ []
 unfolding unicode_segmentation starts_of with_offsets
-mixed_stops = stops_of_printable Vi mixed refl
+mixed_stops = refl
 
 -- from start to start, back to the text's
 earlier_start_19 : prev_word Vi 1 (at mixed 19) ≡ Some 17
@@ -41,27 +34,27 @@ earlier_start_19 = ap (nth_or_last 1) mixed_stops
 
 earlier_start_17 : prev_word Vi 1 (at mixed 17) ≡ Some 15
 unfolding unicode_segmentation starts_of with_offsets
-earlier_start_17 = ap (nth_or_last 1) (stops_of_printable Vi (take 17 mixed) refl)
+earlier_start_17 = refl
 
 earlier_start_15 : prev_word Vi 1 (at mixed 15) ≡ Some 12
 unfolding unicode_segmentation starts_of with_offsets
-earlier_start_15 = ap (nth_or_last 1) (stops_of_printable Vi (take 15 mixed) refl)
+earlier_start_15 = refl
 
 earlier_start_12 : prev_word Vi 1 (at mixed 12) ≡ Some 11
 unfolding unicode_segmentation starts_of with_offsets
-earlier_start_12 = ap (nth_or_last 1) (stops_of_printable Vi (take 12 mixed) refl)
+earlier_start_12 = refl
 
 earlier_start_11 : prev_word Vi 1 (at mixed 11) ≡ Some 7
 unfolding unicode_segmentation starts_of with_offsets
-earlier_start_11 = ap (nth_or_last 1) (stops_of_printable Vi (take 11 mixed) refl)
+earlier_start_11 = refl
 
 earlier_start_7 : prev_word Vi 1 (at mixed 7) ≡ Some 6
 unfolding unicode_segmentation starts_of with_offsets
-earlier_start_7 = ap (nth_or_last 1) (stops_of_printable Vi (take 7 mixed) refl)
+earlier_start_7 = refl
 
 earlier_start_6 : prev_word Vi 1 (at mixed 6) ≡ Some 0
 unfolding unicode_segmentation starts_of with_offsets
-earlier_start_6 = ap (nth_or_last 1) (stops_of_printable Vi (take 6 mixed) refl)
+earlier_start_6 = refl
 
 earlier_starts_of_all : prev_word Vi 6 (at mixed 19) ≡ Some 6
 earlier_starts_of_all = ap (nth_or_last 6) mixed_stops
@@ -75,7 +68,7 @@ earlier_start_at_the_start = refl
 
 earlier_big : prev_word Big 2 (at mixed 19) ≡ Some 6
 unfolding unicode_segmentation starts_of with_offsets
-earlier_big = ap (nth_or_last 2) (stops_of_printable Big mixed refl)
+earlier_big = refl
 
 word_end : next_word AfterEnd Emacs 1 (at pair 0) ≡ Some 3
 unfolding unicode_segmentation ends_of

@@ -1,5 +1,5 @@
 -- The text behind a text's first cluster is cut into the clusters that come after it: no rule reads past a break.
-use Rattle.std.proofs.Common.{◌≡◌, ℕ, Bool, true, false, not, cond, ◌&&◌, ◌||◌, List, [], ◌∷◌, ◌++◌, length, map, drop, unwrap_or, refl, sym, ap, ap₂, ◌∙◌, append_assoc, subst, IsUtf8, IsCharBoundary, chars, encode_utf8_all}
+use Rattle.std.proofs.Common.{◌≡◌, ℕ, Bool, true, false, not, cond, ◌&&◌, ◌||◌, List, [], ◌∷◌, ◌++◌, length, map, drop, unwrap_or, refl, sym, ap, ap₂, ◌∙◌, append_assoc, subst, IsUtf8, IsCharBoundary, chars, encode_utf8_all, arith}
 use Rattle.std.proofs.lemmas.Bool.{and_parts, not-true}
 use Rattle.std.proofs.lemmas.Str.{encodes-append, encodes-chars, IsUtf8-past_char}
 use Rattle.std.proofs.Math.Seq.{drop-append_seam}
