@@ -19,7 +19,6 @@ use Rattle.line_buffer.specs.declared.words.ClusterKind.TheVariants.{Blank, InWo
 use Rattle.line_buffer.proofs.LetterLemmas.{first_letter}
 use Rattle.line_buffer.proofs.RestLemmas.{graphemes_rest}
 use Rattle.line_buffer.proofs.StopLemmas.{clusters-empty}
-use Rattle.line_buffer.proofs.WordLemmas.{edges_of-cons}
 use Rattle.line_buffer.proofs.JoinLemmas.{printable_ascii}
 use Rattle.line_buffer.proofs.WordRunLemmas.{kind_of_word_byte, word_printable}
 
@@ -39,7 +38,7 @@ begins_in_piece word text p ps u is = record {
   boundary = rest.0;
   some = (subst (AllPieces (λ q. 0 < length q)) is (segments_nonempty (is_grapheme_break true) text)).0;
   first = λ at from. ap (edges_of at) (shape from) ∙ place at from;
-  splits = λ at from left. ap (λ xs. edges_of at (left ∷ xs)) (shape from) ∙ edges_of-cons at left (from, kind_of word p) (behind from) ∙ ap (λ zs. option_to_list (edge_between at left (from, kind_of word p)) ++ zs) (place at from);
+  splits = λ at from left. ap (λ xs. edges_of at (left ∷ xs)) (shape from) ∙ ap (λ zs. option_to_list (edge_between at left (from, kind_of word p)) ++ zs) (place at from);
 }
   where
     rest : IsCharBoundary text (length p) × (graphemes true (drop (length p) text) ≡ ps)

@@ -14,7 +14,7 @@ use Rattle.unicode_segmentation.proofs.AsciiLemmas.{is_alphanumeric_ascii}
 use Rattle.unicode_segmentation.proofs.SegmentsLemmas.{concat-segments, nil_from-with_offsets}
 use Rattle.line_buffer.specs.Clusters.{clusters}
 use Rattle.line_buffer.specs.Printable.{is_printable}
-use Rattle.line_buffer.specs.Words.{EndsInRun, kind_of, kinds, is_word_byte, starts_of, edges_of, edge_between}
+use Rattle.line_buffer.specs.Words.{EndsInRun, kind_of, kinds, is_word_byte, edges_of, edge_between}
 use Rattle.line_buffer.specs.declared.types.At.TheVariants.{Start}
 use Rattle.line_buffer.specs.declared.types.Word.{Word}
 use Rattle.line_buffer.specs.declared.types.Word.TheVariants.{Big, Emacs, Vi}
@@ -24,7 +24,7 @@ use Rattle.line_buffer.proofs.FrontLemmas.{clusters_front, ends_or_not}
 use Rattle.line_buffer.proofs.JoinLemmas.{clusters-letters, printable_ascii}
 use Rattle.line_buffer.proofs.LetterLemmas.{printable_scalar}
 use Rattle.line_buffer.proofs.PartingLemmas.{chars_last}
-use Rattle.line_buffer.proofs.WordLemmas.{edges_of-nil, edges_of-one, edges_of-snoc}
+use Rattle.line_buffer.proofs.WordLemmas.{edges_of-snoc}
 
 reversed_all : (p : ℕ → Bool) (xs : List ℕ) → list_all p xs ≡ true → list_all p (reverse xs) ≡ true
 reversed_all p [] h = refl
@@ -203,7 +203,7 @@ reverse_option None = refl
 reverse_option (Some i) = refl
 
 pub run_split : (word : Word) (text : List ℕ) (end at : ℕ) (kind right : ClusterKind) → EndsInRun word (take end text) at kind
-    → reverse (starts_of (kinds word (clusters (take end text)) ++ (end, right) ∷ [])) ≡ option_to_list (edge_between Start (at, kind) (end, right)) ++ reverse (starts_of (kinds word (clusters (take at text)) ++ (at, kind) ∷ []))
+    → reverse (edges_of Start (kinds word (clusters (take end text)) ++ (end, right) ∷ [])) ≡ option_to_list (edge_between Start (at, kind) (end, right)) ++ reverse (edges_of Start (kinds word (clusters (take at text)) ++ (at, kind) ∷ []))
 run_split word text end at kind right run =
     let front = take at (take end text) in
     let edge = option_to_list (edge_between Start (at, kind) (end, right)) in
@@ -213,11 +213,11 @@ run_split word text end at kind right run =
     ∙ ap₂ (λ zs bs. zs ++ reverse (edges_of Start (kinds word (clusters bs) ++ (at, kind) ∷ []))) (reverse_option (edge_between Start (at, kind) (end, right))) (take-take at end text (omega (arith, run.shorter, length-take end text)))
 
 -- nothing starts at the text's end
-pub blank_end : (word : Word) (text : List ℕ) → starts_of (kinds word (clusters text)) ≡ starts_of (kinds word (clusters (take (length text) text)) ++ (length text, Blank) ∷ [])
+pub blank_end : (word : Word) (text : List ℕ) → edges_of Start (kinds word (clusters text)) ≡ edges_of Start (kinds word (clusters (take (length text) text)) ++ (length text, Blank) ∷ [])
 blank_end word text = sym (ap (λ bs. edges_of Start (kinds word (clusters bs) ++ (length text, Blank) ∷ [])) (take_all (length text) text (omega arith)) ∙ behind (ends_or_not (kinds word (clusters text))))
   where
     behind : {xs : List (ℕ × ClusterKind)} → (xs ≡ []) ⊎ ((ys : List (ℕ × ClusterKind)) × (y : ℕ × ClusterKind) × (xs ≡ ys ++ y ∷ [])) → edges_of Start (xs ++ (length text, Blank) ∷ []) ≡ edges_of Start xs
-    behind (inl e) = ap (λ zs. edges_of Start (zs ++ (length text, Blank) ∷ [])) e ∙ edges_of-one Start (length text, Blank) ∙ sym (edges_of-nil Start) ∙ ap (edges_of Start) (sym e)
+    behind (inl e) = ap (λ zs. edges_of Start (zs ++ (length text, Blank) ∷ [])) e ∙ ap (edges_of Start) (sym e)
     behind (inr h) =
         ap (λ zs. edges_of Start (zs ++ (length text, Blank) ∷ [])) h.2 ∙ ap (edges_of Start) (append_assoc h.0 (h.1 ∷ []) ((length text, Blank) ∷ []))
         ∙ edges_of-snoc Start h.0 h.1 (length text, Blank) ∙ append-nil (edges_of Start (h.0 ++ h.1 ∷ [])) ∙ ap (edges_of Start) (sym h.2)
