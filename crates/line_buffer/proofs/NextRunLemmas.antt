@@ -1,5 +1,5 @@
 -- The first clusters of a text that are of one kind: a run of bytes of ASCII in a word, or the first cluster alone.
-use Rattle.std.proofs.Common.{◌≡◌, ℕ, suc, ◌+◌, ◌-◌, ◌<◌, ◌≤◌, true, List, [], ◌∷◌, ◌++◌, length, take, drop, get_or, None, Some, refl, sym, ap, ap₂, ◌∙◌, subst, arith, IsUtf8, IsCharBoundary, encode_utf8, option_to_list}
+use Rattle.std.proofs.Common.{◌≡◌, ℕ, suc, ◌+◌, ◌-◌, ◌<◌, ◌≤◌, true, List, [], ◌∷◌, ◌++◌, length, take, drop, get_or, None, Some, refl, sym, ap, ap₂, ◌∙◌, subst, arith, IsUtf8, IsCharBoundary, encode_utf8, option_to_list, add-zero}
 use Rattle.std.specs.List.{last_or, list_all, concat}
 use Rattle.std.proofs.lemmas.Bool.{and_parts}
 use Rattle.std.proofs.lemmas.List.{take-append-drop, length-take-le, drop-drop, drop_more}
@@ -12,26 +12,16 @@ use Rattle.line_buffer.specs.Clusters.{clusters}
 use Rattle.line_buffer.specs.Printable.{is_printable}
 use Rattle.line_buffer.specs.Words.{BeginsInRun, clusters_at, kind_of, kinds, is_word_byte, edges_of, edge_between}
 use Rattle.line_buffer.specs.declared.types.At.{At}
-use Rattle.line_buffer.specs.declared.types.At.TheVariants.{Start, BeforeEnd, AfterEnd}
 use Rattle.line_buffer.specs.declared.types.Word.{Word}
 use Rattle.line_buffer.specs.declared.words.ClusterKind.{ClusterKind}
-use Rattle.line_buffer.specs.declared.words.ClusterKind.TheVariants.{Blank, InWord}
+use Rattle.line_buffer.specs.declared.words.ClusterKind.TheVariants.{InWord}
 use Rattle.line_buffer.proofs.LetterLemmas.{first_letter}
 use Rattle.line_buffer.proofs.RestLemmas.{graphemes_rest}
 use Rattle.line_buffer.proofs.StopLemmas.{clusters-empty}
 use Rattle.line_buffer.proofs.JoinLemmas.{printable_ascii}
-use Rattle.line_buffer.proofs.WordRunLemmas.{kind_of_word_byte, word_printable}
+use Rattle.line_buffer.proofs.WordRunLemmas.{kind_of_word_byte, word_printable, no_edge}
 
 -- ---- the first cluster alone
-no_edge : (at : At) (kind : ClusterKind) (i j : ℕ) → edge_between at (i, kind) (j, kind) ≡ None
-no_edge Start Blank i j = refl
-no_edge BeforeEnd Blank i j = refl
-no_edge AfterEnd Blank i j = refl
-no_edge _ _ i j = refl
-
-from_here : (n : ℕ) → n ≡ n + 0
-from_here n = omega arith
-
 begins_in_piece : (word : Word) (text p : List ℕ) (ps : List (List ℕ)) → IsUtf8 text → graphemes true text ≡ p ∷ ps → BeginsInRun word text 0 (length p) (kind_of word p)
 unfolding with_offsets
 begins_in_piece word text p ps u is = record {
@@ -51,7 +41,7 @@ begins_in_piece word text p ps u is = record {
     shape from = ap (λ gs. kinds word (with_offsets from gs)) is ∙ ap (λ gs. (from, kind_of word p) ∷ kinds word (with_offsets (from + length p) gs)) (sym rest.1)
 
     place : (at : At) (from : ℕ) → edges_of at ((from, kind_of word p) ∷ behind from) ≡ edges_of at ((from + 0, kind_of word p) ∷ behind from)
-    place at from = ap (λ n. edges_of at ((n, kind_of word p) ∷ behind from)) (from_here from)
+    place at from = ap (λ n. edges_of at ((n, kind_of word p) ∷ behind from)) (sym (add-zero from))
 
 first_piece : (text p : List ℕ) (ps : List (List ℕ)) (x : ℕ × List ℕ) → graphemes true text ≡ p ∷ ps → Some x ≡ last_or None (take 1 (clusters text)) → x.1 ≡ p
 unfolding with_offsets

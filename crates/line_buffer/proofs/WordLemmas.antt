@@ -15,26 +15,18 @@ edges_of-snoc at (w ∷ (v ∷ xs)) x y =
     ap (λ zs. option_to_list (edge_between at w v) ++ zs) (edges_of-snoc at (v ∷ xs) x y)
     ∙ sym (append_assoc (option_to_list (edge_between at w v)) (edges_of at ((v ∷ xs) ++ x ∷ [])) (option_to_list (edge_between at x y)))
 
--- the k-th of places of which the first may be missing
-pub get-missed : (rest : List ℕ) (o : Option ℕ) (k : ℕ) → o ≡ None → slice_get (option_to_list o ++ rest) k ≡ slice_get rest k
-get-missed rest o k e = ap (λ t. slice_get (option_to_list t ++ rest) k) e
-
-pub get-found : (place : ℕ) (rest : List ℕ) (o : Option ℕ) (k : ℕ) → o ≡ Some place → k ≡ 0 → slice_get (option_to_list o ++ rest) k ≡ Some place
-get-found place rest o k e z = ap (λ t. slice_get (option_to_list t ++ rest) k) e ∙ ap (slice_get (place ∷ rest)) z
-
-pub get-passed : (place : ℕ) (rest : List ℕ) (o : Option ℕ) (k j : ℕ) → o ≡ Some place → k ≡ suc j → slice_get (option_to_list o ++ rest) k ≡ slice_get rest j
-get-passed place rest o k j e z = ap (λ t. slice_get (option_to_list t ++ rest) k) e ∙ ap (slice_get (place ∷ rest)) z
-
 -- a turn of a search for the n-th place: what was to be found in `all` is found at its first place, or in the rest
 module _ (v : Option ℕ) (all rest : List ℕ) (o : Option ℕ) (split : all ≡ option_to_list o ++ rest) (missing : ℕ) (before : v ≡ slice_get all (missing - 1)) where
   before_split : v ≡ slice_get (option_to_list o ++ rest) (missing - 1)
   before_split = before ∙ ap (λ xs. slice_get xs (missing - 1)) split
 
   pub turn_missed : o ≡ None → v ≡ slice_get rest (missing - 1)
-  turn_missed e = before_split ∙ get-missed rest o (missing - 1) e
+  turn_missed e = before_split ∙ ap (λ t. slice_get (option_to_list t ++ rest) (missing - 1)) e
 
   pub turn_found : (place : ℕ) → o ≡ Some place → missing - 1 ≡ 0 → Some place ≡ v
-  turn_found place e z = sym (before_split ∙ get-found place rest o (missing - 1) e z)
+  turn_found place e z = sym (before_split ∙ ap (λ t. slice_get (option_to_list t ++ rest) (missing - 1)) e ∙ ap (slice_get (place ∷ rest)) z)
 
   pub turn_passed : (place : ℕ) → o ≡ Some place → 0 < missing - 1 → v ≡ slice_get rest (missing - 1 - 1)
-  turn_passed place e z = before_split ∙ get-passed place rest o (missing - 1) (missing - 1 - 1) e (omega (arith, z))
+  turn_passed place e z =
+      let next : missing - 1 ≡ suc (missing - 1 - 1) = omega (arith, z) in
+      before_split ∙ ap (λ t. slice_get (option_to_list t ++ rest) (missing - 1)) e ∙ ap (slice_get (place ∷ rest)) next

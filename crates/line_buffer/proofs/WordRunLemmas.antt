@@ -15,7 +15,8 @@ use Rattle.unicode_segmentation.proofs.SegmentsLemmas.{concat-segments, nil_from
 use Rattle.line_buffer.specs.Clusters.{clusters}
 use Rattle.line_buffer.specs.Printable.{is_printable}
 use Rattle.line_buffer.specs.Words.{EndsInRun, kind_of, kinds, is_word_byte, edges_of, edge_between}
-use Rattle.line_buffer.specs.declared.types.At.TheVariants.{Start}
+use Rattle.line_buffer.specs.declared.types.At.{At}
+use Rattle.line_buffer.specs.declared.types.At.TheVariants.{Start, BeforeEnd, AfterEnd}
 use Rattle.line_buffer.specs.declared.types.Word.{Word}
 use Rattle.line_buffer.specs.declared.types.Word.TheVariants.{Big, Emacs, Vi}
 use Rattle.line_buffer.specs.declared.words.ClusterKind.{ClusterKind}
@@ -184,9 +185,11 @@ no_cluster text u found = elim (ends_or_not (clusters text)) [
 ]
 
 -- ---- the starts of words around such clusters
-no_start : (kind : ClusterKind) (i j : ℕ) → edge_between Start (i, kind) (j, kind) ≡ None
-no_start Blank i j = refl
-no_start _ i j = refl
+pub no_edge : (at : At) (kind : ClusterKind) (i j : ℕ) → edge_between at (i, kind) (j, kind) ≡ None
+no_edge Start Blank i j = refl
+no_edge BeforeEnd Blank i j = refl
+no_edge AfterEnd Blank i j = refl
+no_edge _ _ i j = refl
 
 run_edges : (xs : List (ℕ × ClusterKind)) (kind : ClusterKind) (at : ℕ) (later : List ℕ) (y : ℕ × ClusterKind)
     → edges_of Start ((xs ++ map (λ i. (i, kind)) (at ∷ later)) ++ y ∷ []) ≡ edges_of Start (xs ++ (at, kind) ∷ []) ++ option_to_list (edge_between Start (at, kind) y)
@@ -196,7 +199,7 @@ run_edges xs kind at (i ∷ later) y =
     ∙ run_edges (xs ++ (at, kind) ∷ []) kind i later y
     ∙ ap (λ zs. zs ++ option_to_list (edge_between Start (at, kind) y))
     (ap (edges_of Start) (append_assoc xs ((at, kind) ∷ []) ((i, kind) ∷ [])) ∙ edges_of-snoc Start xs (at, kind) (i, kind)
-    ∙ ap (λ o. edges_of Start (xs ++ (at, kind) ∷ []) ++ option_to_list o) (no_start kind at i) ∙ append-nil (edges_of Start (xs ++ (at, kind) ∷ [])))
+    ∙ ap (λ o. edges_of Start (xs ++ (at, kind) ∷ []) ++ option_to_list o) (no_edge Start kind at i) ∙ append-nil (edges_of Start (xs ++ (at, kind) ∷ [])))
 
 reverse_option : (o : Option ℕ) → reverse (option_to_list o) ≡ option_to_list o
 reverse_option None = refl
