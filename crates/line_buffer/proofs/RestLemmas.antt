@@ -193,6 +193,14 @@ module _ (x : ℕ) (before : List ℕ) (seen : NothingSeen x before) where
   same_pieces [] zs = refl
   same_pieces (c ∷ cs) zs = ap₂ (λ b ps. cond b ((c ∷ []) ∷ ps) (prepend (c ∷ []) ps)) (same_breaks (c ∷ zs) (cs ++ [])) (same_pieces cs (c ∷ zs))
 
+-- what stands before a break isn't seen behind it
+pub pieces_behind : (c : ℕ) (before ds : List ℕ) → is_grapheme_break true (c ∷ before) (ds ++ []) ≡ true → pieces [] ds ≡ pieces (c ∷ before) ds
+unfolding cut
+pieces_behind c before [] e = refl
+pieces_behind c before (d ∷ ds) e =
+    let seen = nothing_seen c d before (ds ++ []) e in
+    sym (ap₂ (λ b ps. cond b ((d ∷ []) ∷ ps) (prepend (d ∷ []) ps)) (same_breaks d (c ∷ before) seen [] (ds ++ [])) (same_pieces d (c ∷ before) seen ds []))
+
 -- ---- behind the first piece
 abbrev Behind : List ℕ → List ℕ → List (List ℕ) → Type 0
 Behind cs q qs = (c : ℕ) × (before : List ℕ) × (ds : List ℕ) × (cs ≡ q ++ ds) × (pieces (c ∷ before) ds ≡ qs) × (is_grapheme_break true (c ∷ before) (ds ++ []) ≡ true)
@@ -220,14 +228,7 @@ cut_rest (c ∷ cs) before q qs h = by (λ p ps e. cut_rest cs (c ∷ before) p 
         (inner.0, inner.1, inner.2, ap (λ t. c ∷ t) inner.3 ∙ ap (λ t. t ++ inner.2) first, inner.4 ∙ ap (drop 1) h, inner.5)
 
 pieces_rest : (cs q : List ℕ) (qs : List (List ℕ)) → pieces [] cs ≡ q ∷ qs → (ds : List ℕ) × (cs ≡ q ++ ds) × (pieces [] ds ≡ qs)
-unfolding cut
-pieces_rest cs q qs h = let b = cut_rest cs [] q qs h in (b.2, b.3, by b.0 b.1 b.2 b.5 ∙ b.4)
-  where
-    by : (c : ℕ) (before ds : List ℕ) → is_grapheme_break true (c ∷ before) (ds ++ []) ≡ true → pieces [] ds ≡ pieces (c ∷ before) ds
-    by c before [] e = refl
-    by c before (d ∷ ds) e =
-        let seen = nothing_seen c d before (ds ++ []) e in
-        sym (ap₂ (λ b ps. cond b ((d ∷ []) ∷ ps) (prepend (d ∷ []) ps)) (same_breaks d (c ∷ before) seen [] (ds ++ [])) (same_pieces d (c ∷ before) seen ds []))
+pieces_rest cs q qs h = let b = cut_rest cs [] q qs h in (b.2, b.3, pieces_behind b.0 b.1 b.2 b.5 ∙ b.4)
 
 -- ---- the same of the text's bytes
 utf8_behind : (cs ds : List ℕ) → IsUtf8 (encode_utf8_all cs ++ encode_utf8_all ds) → IsUtf8 (encode_utf8_all ds)
