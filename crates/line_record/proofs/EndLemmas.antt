@@ -25,7 +25,7 @@ AllStandIn-append : (cs ds : List Change) (text : List ℕ) → AllStandIn cs (a
 AllStandIn-append [] ds text h k = k
 AllStandIn-append (c ∷ cs) ds text h k = (subst (StandsIn c) (sym (all_taken_back-append cs ds text)) h.0, AllStandIn-append cs ds text h.1 k)
 
-newest_of-append : (g c : Change) (gs cs : List Change) → newest_of g (gs ++ (c ∷ cs)) ≡ newest_of c cs
+pub newest_of-append : (g c : Change) (gs cs : List Change) → newest_of g (gs ++ (c ∷ cs)) ≡ newest_of c cs
 newest_of-append g c [] cs = refl
 newest_of-append g c (h ∷ gs) cs = newest_of-append h c gs cs
 

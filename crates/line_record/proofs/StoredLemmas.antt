@@ -1,11 +1,12 @@
 -- The items that stored steps stand for.
 use Rattle.std.proofs.Common.{◌≡◌, ℕ, zero, suc, ◌-◌, ◌<◌, Bool, true, false, List, [], ◌∷◌, ◌++◌, length, take, drop, refl, sym, ap, subst, ◌∙◌, arith, get_or}
 use Rattle.std.proofs.Math.Seq.{take-suc, take-length}
-use Rattle.line_record.specs.Change.{Change, newest_of}
+use Rattle.line_record.specs.Change.{Change}
 use Rattle.line_record.specs.Held.{text_of, text_back, text_kept, first_held, text_inserted_by}
 use Rattle.line_record.specs.Items.{Item, before_item, item_with_text, items_with_texts, DoneStand, Items, ItemsStand, record_on, first_items}
 use Rattle.line_record.specs.Items.Item.{Open}
 use Rattle.line_record.specs.LogSteps.{item_from, item_inserted}
+use Rattle.line_record.proofs.EndLemmas.{newest_of-append}
 
 pub before_last : {A : Type 0} (xs : List A) (d : A) → 0 < length xs → xs ≡ take (length xs - 1) xs ++ (get_or xs (length xs - 1) d ∷ [])
 before_last xs d h =
@@ -34,18 +35,14 @@ DoneStand-drop (suc k) [] text h = h
 DoneStand-drop (suc k) (x ∷ items) text h =
     subst (λ t. DoneStand (drop k items) (text_back k (items_with_texts items (before_item x text)) t)) (sym (text_of-holding x (before_item x text))) (DoneStand-drop k items (before_item x text) h.1)
 
-newest_of-push : (c d : Change) (cs : List Change) → newest_of c (cs ++ (d ∷ [])) ≡ d
-newest_of-push c d [] = refl
-newest_of-push c d (e ∷ cs) = newest_of-push e d cs
-
 -- the newest change says what an item put in
 pub inserted_last : (closed : Bool) (cs : List Change) (d : Change) → item_inserted (item_from closed (cs ++ (d ∷ []))) ≡ text_inserted_by d
 inserted_last true [] d = refl
 inserted_last false [] d = refl
 inserted_last true (c ∷ []) d = refl
 inserted_last false (c ∷ []) d = refl
-inserted_last true (c ∷ (e ∷ cs)) d = ap text_inserted_by (newest_of-push e d cs)
-inserted_last false (c ∷ (e ∷ cs)) d = ap text_inserted_by (newest_of-push e d cs)
+inserted_last true (c ∷ (e ∷ cs)) d = ap text_inserted_by (newest_of-append e d cs [])
+inserted_last false (c ∷ (e ∷ cs)) d = ap text_inserted_by (newest_of-append e d cs [])
 
 pub truncated_held : (n : ℕ) (s : Items) (text : List ℕ) (t : Items) → t ≡ first_items n s → record_on t (text_kept n (record_on s text) text) ≡ first_held n (record_on s text)
 truncated_held n s text t e =
