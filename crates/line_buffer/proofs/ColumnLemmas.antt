@@ -1,17 +1,15 @@
 -- The boundaries of a row by their columns, from the last one back.
-use Rattle.std.proofs.Common.{◌≡◌, ℕ, ◌+◌, ◌-◌, ◌==◌, ◌<◌, ◌≤◌, nat_le, min, ⊎_elim, Bool, true, false, cond, ◌&&◌, ◌||◌, List, [], ◌∷◌, ◌++◌, length, map, filter, take, drop, get_or, slice_range, Option, None, Some, refl, sym, ap, ◌∙◌, subst, arith, le_refl, append-nil, append_assoc, length-append, length-take, take_all, take-take, take-append-drop}
+use Rattle.std.proofs.Common.{◌≡◌, ℕ, ◌+◌, ◌-◌, ◌==◌, ◌<◌, ◌≤◌, nat_le, min, ⊎_elim, Bool, true, false, cond, ◌&&◌, ◌||◌, List, [], ◌∷◌, ◌++◌, length, map, filter, take, drop, slice_range, Option, None, Some, refl, sym, ap, ◌∙◌, subst, arith, le_refl, append-nil, append_assoc, length-append, length-take, take_all, take-take, take-append-drop, option_map, unwrap_or, chars, encode_utf8, IsUtf8, IsCharBoundary, All, eqb-true}
 use Rattle.std.proofs.Math.ListN.{get_or-append}
-use Rattle.std.specs.Prelude.{option_map, unwrap_or, chars, encode_utf8, IsUtf8, IsCharBoundary, All}
 use Rattle.std.specs.Char.{IsScalar}
 use Rattle.std.specs.List.{last_or, concat, list_all}
 use Rattle.std.proofs.lemmas.List.{map-append}
 use Rattle.std.proofs.lemmas.List.Elements.{filter-append}
+use Rattle.std.proofs.lemmas.List.Folds.{list_all-append}
 use Rattle.std.proofs.lemmas.Str.{chars-append, chars-nil, chars_past_char, IsUtf8-take, IsUtf8-nil, IsUtf8-append, IsUtf8-encode, IsCharBoundary-from_take, len_utf8_bounds, length-encode}
-use Rattle.std.proofs.Math.Seq.{take-append_seam, drop-append_seam}
-use Rattle.std.proofs.lemmas.Bool.{and_from, and_parts, or_cases}
-use borrow.Author.Tests.{eqb-true}
+use Rattle.std.proofs.Math.Seq.{take-append_seam, drop-append_seam, get_or-append_seam}
+use Rattle.std.proofs.lemmas.Bool.{and_from, and_parts, or_cases, le-leb, lt-leb}
 use Rattle.unicode_segmentation.proofs.TextLemmas.{IsUtf8-before, chars-encode_utf8}
-use Rattle.std.proofs.lemmas.Bool.Decides.{nat_tests}
 use Rattle.unicode_segmentation.specs.Grapheme.{is_grapheme_break, graphemes}
 use Rattle.unicode_segmentation.specs.Segments.{with_offsets}
 use Rattle.unicode_segmentation.proofs.SegmentsLemmas.{concat-segments, IsPieceOf, All-IsPieceOf}
@@ -21,6 +19,7 @@ use Rattle.line_buffer.specs.Columns.{place_at_column}
 use Rattle.ucd_emoji.specs.Binary.{is_emoji_variation_base}
 use Rattle.line_buffer.specs.Parting.{parts, first, is_selected, is_flag_letter}
 use Rattle.line_buffer.specs.Width.{columns_of, width_of}
+use Rattle.line_buffer.proofs.ChainLemmas.{last_or-append}
 use Rattle.line_buffer.proofs.PartingLemmas.{parts_bare, columns_parted, columns_selected, columns_of_flags}
 
 -- no number of columns that is shown is beyond what is counted
@@ -104,14 +103,10 @@ module _ (mode : GraphemeClusterMode) (most : ℕ) (above : 65535 ≤ most) (fir
   measures-append : (left : List (ℕ × List ℕ)) (x : ℕ × List ℕ) → measures (left ++ x ∷ []) ≡ measures left ++ measure_at (x.0 + length x.1) ∷ []
   measures-append left x = ap (map measure_at) (map-append (λ x. x.0 + length x.1) left (x ∷ [])) ∙ map-append measure_at (map (λ x. x.0 + length x.1) left) ((x.0 + length x.1) ∷ [])
 
-  last-append : {A : Type 0} (o : Option A) (xs : List A) (x : A) → last_or o (xs ++ x ∷ []) ≡ Some x
-  last-append o [] x = refl
-  last-append o (y ∷ xs) x = last-append (Some y) xs x
-
   reached_hit : (xs : List (ℕ × ℕ)) (x : ℕ × ℕ) → fits x ≡ true → reached (xs ++ x ∷ []) ≡ x.0
   reached_hit xs x h =
       ap (λ ys. unwrap_or (option_map (λ x. x.0) (last_or None ys)) 0) (filter-append fits xs (x ∷ []) ∙ ap (λ b. filter fits xs ++ cond b (x ∷ []) []) h)
-      ∙ ap (λ o. unwrap_or (option_map (λ x. x.0) o) 0) (last-append None (filter fits xs) x)
+      ∙ ap (λ o. unwrap_or (option_map (λ x. x.0) o) 0) (last_or-append None (filter fits xs) (x ∷ []))
 
   reached_miss : (xs : List (ℕ × ℕ)) (x : ℕ × ℕ) → fits x ≡ false → reached (xs ++ x ∷ []) ≡ reached xs
   reached_miss xs x h =
@@ -125,39 +120,26 @@ module _ (mode : GraphemeClusterMode) (most : ℕ) (above : 65535 ≤ most) (fir
     pub walks_row_piece : IsPieceOf row x
     walks_row_piece =
         let whole = subst (All (IsPieceOf row)) came w.pieces in
-        subst (IsPieceOf row) (at_seam new x x) (whole (length new) x (omega (arith, length-append new (x ∷ []))))
-      where
-        at_seam : (xs : List (ℕ × List ℕ)) (y d : ℕ × List ℕ) → get_or (xs ++ y ∷ []) (length xs) d ≡ y
-        at_seam [] y d = refl
-        at_seam (z ∷ xs) y d = at_seam xs y d
+        subst (IsPieceOf row) (get_or-append_seam new x [] x) (whole (length new) x (omega (arith, length-append new (x ∷ []))))
 
     shown : min width 65535 ≡ width_of mode (take (x.0 + length x.1) row)
     shown = omega (arith, walks_row_at, above)
 
     pub walks_row_hit : first + min width 65535 ≤ column → x.0 + length x.1 ≡ place_at_column mode None first column row
     walks_row_hit h =
-        let ok : fits (measure_at (x.0 + length x.1)) ≡ true = ap (λ n. nat_le (first + n) column) (sym shown) ∙ yes (first + min width 65535) column h in
+        let ok : fits (measure_at (x.0 + length x.1)) ≡ true = ap (λ n. nat_le (first + n) column) (sym shown) ∙ le-leb (first + min width 65535) column h in
         sym (w.answer ∙ ap (λ l. reached (measures l)) came ∙ ap reached (measures-append new x) ∙ reached_hit (measures new) (measure_at (x.0 + length x.1)) ok)
-      where
-        yes : (a b : ℕ) → a ≤ b → nat_le a b ≡ true
-        yes a b l = grind (arith, nat_tests)
 
     pub walks_row_turn : (less : ℕ) → column < first + min width 65535 → less ≡ counted most mode (take x.0 row) → WalksRow new less
     walks_row_turn less h e =
-        let bad : fits (measure_at (x.0 + length x.1)) ≡ false = ap (λ n. nat_le (first + n) column) (sym shown) ∙ no (first + min width 65535) column h in
+        let bad : fits (measure_at (x.0 + length x.1)) ≡ false = ap (λ n. nat_le (first + n) column) (sym shown) ∙ lt-leb (first + min width 65535) column h in
         let cut = Tiles-append 0 new x (subst (Tiles 0) came w.tiles) in
         record {
           answer = w.answer ∙ ap (λ l. reached (measures l)) came ∙ ap reached (measures-append new x) ∙ reached_miss (measures new) (measure_at (x.0 + length x.1)) bad;
           width_is = e ∙ ap (λ n. counted most mode (take n row)) cut.1;
           tiles = cut.0;
-          pieces = λ k d l. subst (IsPieceOf row) (fore new (x ∷ []) k d l) (subst (All (IsPieceOf row)) came w.pieces k d (omega (arith, length-append new (x ∷ []), l)));
+          pieces = λ k d l. subst (IsPieceOf row) (get_or-append new (x ∷ []) d k l) (subst (All (IsPieceOf row)) came w.pieces k d (omega (arith, length-append new (x ∷ []), l)));
         }
-      where
-        no : (a b : ℕ) → b < a → nat_le a b ≡ false
-        no a b l = grind (arith, nat_tests)
-
-        fore : (xs ys : List (ℕ × List ℕ)) (k : ℕ) (d : ℕ × List ℕ) → k < length xs → get_or (xs ++ ys) k d ≡ get_or xs k d
-        fore xs ys k d l = get_or-append xs ys d k l
 
   pub walks_row_end : (left : List (ℕ × List ℕ)) (width : ℕ) → WalksRow left width → left ≡ [] → 0 ≡ place_at_column mode None first column row
   walks_row_end left width w e = sym (w.answer ∙ ap (λ l. reached (measures l)) e)
@@ -283,16 +265,12 @@ module _ (text : List ℕ) (end : ℕ) (old new : List ℕ) (next : Option ℕ) 
       (λ lettered.
       let both = and_parts flags (is_flag_letter c) lettered in
       let all : list_all is_flag_letter (last.0 ∷ (last.1.0 ++ rest)) ≡ true = ap (λ xs. list_all is_flag_letter (xs ++ rest)) (sym last.1.1) ∙ w.flags_are both.0 in
-      columns_of_flags c last.0 (last.1.0 ++ rest) last.1.0 (and_from (is_flag_letter c) _ both.1 all) (and_from (is_flag_letter c) _ both.1 (front_flags (last.0 ∷ last.1.0) rest all)))
+      columns_of_flags c last.0 (last.1.0 ++ rest) last.1.0 (and_from (is_flag_letter c) _ both.1 all) (and_from (is_flag_letter c) _ both.1 (and_parts _ (list_all is_flag_letter rest) (sym (list_all-append is_flag_letter (last.0 ∷ last.1.0) rest) ∙ all)).0))
       (or_cases (is_selected c next) (flags && is_flag_letter c) h))
     where
       selected_is : {d : ℕ} (n : Option ℕ) → n ≡ Some d → is_selected c n ≡ true → (is_emoji_variation_base c ≡ true) × (Some d ≡ Some 0xFE0F)
       selected_is None e k = cc
       selected_is (Some x) e k = let both = and_parts (is_emoji_variation_base c) (x == 0xFE0F) k in (both.0, sym e ∙ ap Some (eqb-true x 0xFE0F both.1))
-
-      front_flags : (xs ys : List ℕ) → list_all is_flag_letter (xs ++ ys) ≡ true → list_all is_flag_letter xs ≡ true
-      front_flags [] ys k = refl
-      front_flags (x ∷ xs) ys k = let both = and_parts (is_flag_letter x) (list_all is_flag_letter (xs ++ ys)) k in and_from (is_flag_letter x) _ both.0 (front_flags xs ys both.1)
 
   pub alike : (parts c next || (inside && (is_selected c next || (flags && is_flag_letter c)))) ≡ true
       → (mode : GraphemeClusterMode) (cs : List ℕ) → columns_of mode (cs ++ c ∷ (chars w.mid ++ rest)) + columns_of mode (c ∷ chars w.mid) ≡ columns_of mode (cs ++ c ∷ chars w.mid) + columns_of mode (c ∷ (chars w.mid ++ rest))

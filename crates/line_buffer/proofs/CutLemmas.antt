@@ -1,11 +1,10 @@
 -- Places between characters, before and after a part of a text was exchanged.
-use Rattle.std.proofs.Common.{◌≡◌, ℕ, ◌+◌, ◌-◌, ◌≤◌, List, ◌++◌, length, take, drop, refl, sym, ap, ◌∙◌, subst, arith, append_assoc, length-append}
-use Rattle.std.specs.Prelude.{IsUtf8, IsCharBoundary, slice_range}
+use Rattle.std.proofs.Common.{◌≡◌, ℕ, ◌+◌, ◌-◌, ◌≤◌, List, ◌++◌, length, take, drop, sym, ap, ◌∙◌, subst, arith, append_assoc, length-append, IsUtf8, IsCharBoundary, slice_range}
 use Rattle.std.specs.List.{replace_range}
 use Rattle.std.proofs.lemmas.List.{length-take-le, length-drop, take-append-drop, take-take, drop-drop}
 use Rattle.std.proofs.Math.Seq.{drop-append-add}
 use Rattle.std.proofs.lemmas.Slice.{between_is}
-use Rattle.std.proofs.lemmas.Str.{IsCharBoundary-at_seam, IsUtf8-take, IsUtf8-drop, IsUtf8-between, IsUtf8-append}
+use Rattle.std.proofs.lemmas.Str.{IsCharBoundary-at_seam, IsUtf8-drop, IsUtf8-between, IsUtf8-append}
 
 -- a place is a boundary where what follows it is a text
 pub at_seam : (bs xs ys : List ℕ) (n : ℕ) → bs ≡ xs ++ ys → length xs ≡ n → IsUtf8 ys → IsCharBoundary bs n
@@ -16,20 +15,11 @@ module _ (text : List ℕ) (from upto : ℕ) (added : List ℕ) where
   length-replace_range le fits =
       omega (arith, length-append (take from text ++ added) (drop upto text), length-append (take from text) added, length-take-le from text (omega arith), length-drop upto text)
 
-  pub utf8_replaced : IsUtf8 text → IsUtf8 added → IsCharBoundary text from → IsCharBoundary text upto → IsUtf8 (replace_range text from upto added)
-  utf8_replaced u v b e = IsUtf8-append _ _ (IsUtf8-append _ _ (IsUtf8-take text from u b) v) (IsUtf8-drop text upto u e)
-
   -- the place where the new text starts
   pub start_replaced : IsUtf8 text → IsUtf8 added → IsCharBoundary text from → IsCharBoundary text upto → IsCharBoundary (replace_range text from upto added) from
   start_replaced u v b e =
       at_seam _ (take from text) (added ++ drop upto text) from (append_assoc (take from text) added (drop upto text)) (length-take-le from text b.0)
       (IsUtf8-append _ _ v (IsUtf8-drop text upto u e))
-
-  -- the place after it
-  pub end_replaced : IsUtf8 text → IsCharBoundary text from → IsCharBoundary text upto → IsCharBoundary (replace_range text from upto added) (from + length added)
-  end_replaced u b e =
-      at_seam _ (take from text ++ added) (drop upto text) (from + length added) refl
-      (length-append (take from text) added ∙ ap (λ n. n + length added) (length-take-le from text b.0)) (IsUtf8-drop text upto u e)
 
   -- what lies after it
   pub drop_replaced : (i j k : ℕ) → i ≡ (from + length added) + k → j ≡ upto + k → from ≤ length text → drop i (replace_range text from upto added) ≡ drop j text

@@ -1,9 +1,8 @@
 -- The laws of the edits.
-use Rattle.std.proofs.Common.{◌≡◌, Bool, true, false, [], ◌∷◌, ◌++◌, Option, None, Some, refl, sym, ap, ◌∙◌}
-use Rattle.std.specs.Prelude.{IsTrue, is_some, option_map, option_to_list, if◌then◌else◌}
+use Rattle.std.proofs.Common.{◌≡◌, Bool, true, [], ◌∷◌, ◌++◌, Option, None, Some, refl, sym, ap, ◌∙◌, IsTrue, is_some, option_map, option_to_list, if◌then◌else◌}
 use Rattle.line_buffer.specs.declared.range.TextSpan.{TextSpan}
 use Rattle.line_buffer.specs.declared.types.Movement.{Movement}
-use Rattle.line_buffer.specs.declared.types.Movement.TheVariants.{WholeLine, BeginningOfLine, EndOfLine, BackwardWord, ForwardWord, ViCharSearch, ViFirstPrint, BackwardChar, ForwardChar, LineUp, LineDown, WholeBuffer, BeginningOfBuffer, EndOfBuffer}
+use Rattle.line_buffer.specs.declared.types.Movement.TheVariants.{WholeLine, BeginningOfLine, EndOfLine}
 use Rattle.line_buffer.specs.Event.ChangeEvent.{StartKilling, StopKilling}
 use Rattle.line_buffer.specs.Laws.{leaves_rows_whole, deleted_texts, KillsWhatIsCopied}
 use Rattle.line_buffer.specs.Line.{Line}
@@ -13,17 +12,7 @@ same_range : (movement : Movement) (l : Line) → IsTrue (leaves_rows_whole move
 same_range WholeLine l h = cc
 same_range BeginningOfLine l h = cc
 same_range EndOfLine l h = cc
-same_range (BackwardWord n word) l h = refl
-same_range (ForwardWord n at word) l h = refl
-same_range (ViCharSearch n to) l h = refl
-same_range ViFirstPrint l h = refl
-same_range (BackwardChar n) l h = refl
-same_range (ForwardChar n) l h = refl
-same_range (LineUp n) l h = refl
-same_range (LineDown n) l h = refl
-same_range WholeBuffer l h = refl
-same_range BeginningOfBuffer l h = refl
-same_range EndOfBuffer l h = refl
+same_range _ l h = refl
 
 still_some : (o : Option TextSpan) (l : Line) → is_some o ≡ is_some (option_map (λ span. span_text span l) o)
 still_some None l = refl
@@ -32,9 +21,8 @@ still_some (Some span) l = refl
 told_text : (o : Option TextSpan) (plain : Bool) (l : Line)
     → deleted_texts (if plain then deletion_events o l else StartKilling ∷ (deletion_events o l ++ (StopKilling ∷ []))) ≡ option_to_list (option_map (λ span. span_text span l) o)
 told_text None true l = refl
-told_text None false l = refl
 told_text (Some span) true l = refl
-told_text (Some span) false l = refl
+told_text _ _ l = refl
 
 pub kills_what_is_copied : KillsWhatIsCopied
 kills_what_is_copied movement l h =

@@ -1,8 +1,7 @@
 -- The text before a text's last cluster is cut into the clusters that come before it.
-use Rattle.std.proofs.Common.{◌≡◌, ℕ, ◌+◌, ◌<◌, ◌⊎◌, inl, inr, Bool, true, false, cond, List, [], ◌∷◌, ◌++◌, length, map, take, drop, reverse, get_or, refl, sym, ap, ap₂, ◌∙◌, arith, append_assoc, subst}
-use Rattle.std.specs.Prelude.{IsUtf8, IsCharBoundary, chars, encode_utf8_all}
+use Rattle.std.proofs.Common.{◌≡◌, ℕ, ◌+◌, ◌<◌, ◌⊎◌, inl, inr, Bool, true, false, cond, List, [], ◌∷◌, ◌++◌, length, map, take, drop, get_or, refl, sym, ap, ap₂, ◌∙◌, arith, append_assoc, subst, IsUtf8, IsCharBoundary, chars, encode_utf8_all}
 use Rattle.std.specs.List.{concat}
-use Rattle.std.proofs.lemmas.List.{reverse-append, reverse-reverse, length-append, map-append, append-nil}
+use Rattle.std.proofs.lemmas.List.{same_from_push, length-append, map-append, append-nil}
 use Rattle.std.proofs.lemmas.Str.{chars-nil, chars_past_char, encodes-append, IsUtf8-past_char, IsUtf8-take}
 use Rattle.std.proofs.Math.Seq.{take-append_seam, get_or-append_seam}
 use Rattle.unicode_segmentation.specs.Grapheme.{is_grapheme_break}
@@ -99,11 +98,6 @@ ends_or_not (x ∷ xs) = inr (elim (ends_or_not xs) [
   | inr h ↦ (x ∷ h.0, h.1, ap (λ t. x ∷ t) h.2)
 ])
 
-push_parts : {A : Type 0} (xs ys : List A) (x y : A) → xs ++ x ∷ [] ≡ ys ++ y ∷ [] → (xs ≡ ys) × (x ≡ y)
-push_parts xs ys x y h =
-    let turned : x ∷ reverse xs ≡ y ∷ reverse ys = sym (reverse-append xs (x ∷ [])) ∙ ap reverse h ∙ reverse-append ys (y ∷ []) in
-    (sym (reverse-reverse xs) ∙ ap (λ t. reverse (drop 1 t)) turned ∙ reverse-reverse ys, cc)
-
 pub not_pushed : {A : Type 0} (xs : List A) (x : A) → xs ++ x ∷ [] ≡ [] → ⊥
 not_pushed [] x h = cc
 not_pushed (y ∷ xs) x h = cc
@@ -129,7 +123,7 @@ clusters_front text i last new u is = elim (ends_or_not (pieces [] (chars text))
         let end = encode_utf8_all q in
         let split : map encode_utf8_all (pieces [] (chars text)) ≡ map encode_utf8_all ps ++ end ∷ [] = ap (map encode_utf8_all) e ∙ map-append encode_utf8_all ps (q ∷ []) in
         let all : clusters text ≡ with_offsets 0 (map encode_utf8_all ps) ++ (0 + length front, end) ∷ [] = ap (with_offsets 0) split ∙ with_offsets-append 0 (map encode_utf8_all ps) (end ∷ []) in
-        let parts = push_parts new (with_offsets 0 (map encode_utf8_all ps)) (i, last) (0 + length front, end) (sym is ∙ all) in
+        let parts = same_from_push new (with_offsets 0 (map encode_utf8_all ps)) (i, last) (0 + length front, end) (sym is ∙ all) in
         let long : i ≡ length front = ap (λ x. x.0) parts.1 ∙ (let z : 0 + length front ≡ length front = omega arith in z) in
         let whole : text ≡ front ++ end = sym (concat-segments (is_grapheme_break true) text u) ∙ ap concat split ∙ concat-push (map encode_utf8_all ps) end in
         let taken : take i text ≡ encode_utf8_all (concat ps) = ap₂ take long whole ∙ take-append_seam front end ∙ encoded-concat ps in

@@ -1,6 +1,5 @@
 -- A text at the seam of its two parts: a text put in there, and a part taken out from there on.
-use Rattle.std.proofs.Common.{◌≡◌, ℕ, ◌+◌, ◌-◌, ◌<◌, ◌≤◌, Bool, List, [], ◌++◌, length, take, drop, min, refl, sym, ap, ap₂, ◌∙◌, subst, arith, add-zero}
-use Rattle.std.specs.Prelude.{IsUtf8, IsCharBoundary, slice_range}
+use Rattle.std.proofs.Common.{◌≡◌, ℕ, ◌+◌, ◌-◌, ◌<◌, ◌≤◌, Bool, List, [], ◌++◌, length, take, drop, min, refl, sym, ap, ap₂, ◌∙◌, subst, arith, add-zero, IsUtf8, IsCharBoundary, slice_range}
 use Rattle.std.specs.List.{replace_range, insert_slice}
 use Rattle.std.proofs.lemmas.Bool.Decides.{nat_tests}
 use Rattle.std.proofs.lemmas.List.{append-nil, length-append}

@@ -1,15 +1,15 @@
 -- The places of a character in a text, taken apart from its front and from its back.
-use Rattle.std.proofs.Common.{◌≡◌, ℕ, zero, suc, ◌+◌, ◌-◌, ◌<◌, ◌==◌, Bool, true, false, cond, List, [], ◌∷◌, ◌++◌, length, get_or, map, reverse, take, drop, Option, None, Some, refl, sym, ap, ◌∙◌, subst, arith}
-use Rattle.std.specs.Prelude.{filter, All, IfSome, option_map, unwrap_or, IsUtf8, IsCharBoundary, chars, encode_utf8, encode_utf8_all}
+use Rattle.std.proofs.Common.{◌≡◌, ℕ, suc, ◌+◌, ◌-◌, ◌<◌, ◌==◌, Bool, true, false, cond, List, [], ◌∷◌, ◌++◌, length, get_or, map, reverse, take, drop, Option, None, Some, refl, sym, ap, ◌∙◌, subst, arith, filter, All, IfSome, option_map, unwrap_or, IsUtf8, IsCharBoundary, chars, encode_utf8, encode_utf8_all}
 use Rattle.std.specs.Char.{IsScalar, len_utf8}
 use Rattle.std.specs.List.{last_or}
+use Rattle.std.proofs.Math.Seq.{take-nil}
 use Rattle.std.proofs.lemmas.List.{reverse-append, append_assoc, length-append}
 use Rattle.std.proofs.lemmas.Str.{IsUtf8-past_char, chars_past_char, IsUtf8-encode, chars-append, encodes-chars, chars-nil, IsCharBoundary-at_seam, IsCharBoundary-past_char, IsCharBoundary-start, drop_past_char, length-encode}
-use Rattle.std.proofs.lemmas.List.Elements.{All-append, All-take}
+use Rattle.std.proofs.lemmas.List.Elements.{All-append, All-cons, All-take}
 use Rattle.unicode_segmentation.proofs.TextLemmas.{IsUtf8-before, chars-encode_utf8}
 use Rattle.line_buffer.specs.Hits.{chars_placed, placed_chars, hits_from, hits, last_char}
 use Rattle.line_buffer.specs.Clusters.{IsPart, nth_or_last}
-use Rattle.line_buffer.proofs.ChainLemmas.{All-last_or, All-reverse}
+use Rattle.line_buffer.proofs.ChainLemmas.{All-last_or, All-reverse, last_or-append}
 
 -- the places among placed characters
 abbrev pub places_of : ℕ → List (ℕ × ℕ) → List ℕ
@@ -86,10 +86,6 @@ pub hits-none : (at c : ℕ) (text : List ℕ) → length text ≡ 0 → hits_fr
 hits-none at c [] e = ap (λ cs. places_of c (chars_placed at cs)) chars-nil ∙ ap (places_of c) (chars_placed-nil at)
 hits-none at c (b ∷ bs) e = absurd (omega (arith, e))
 
-take-nil : {A : Type 0} (n : ℕ) → take n (let xs : List A = [] in xs) ≡ (let xs : List A = [] in xs)
-take-nil zero = refl
-take-nil (suc n) = refl
-
 -- nothing is left of the text
 pub hits-end : (v found : Option ℕ) (all : List ℕ) (missing : ℕ) → v ≡ last_or found (take missing all) → all ≡ [] → found ≡ v
 hits-end v found all missing before e = sym (before ∙ ap (λ xs. last_or found (take missing xs)) e ∙ ap (last_or found) (take-nil missing))
@@ -115,11 +111,7 @@ hits-stop v found all missing before e = sym (before ∙ ap (λ k. last_or found
 pub last_char-read : (text new : List ℕ) (last : ℕ) → IsUtf8 text → IsScalar last → text ≡ new ++ encode_utf8 last → last_char text ≡ length new
 last_char-read text new last u s came =
     ap (λ xs. unwrap_or (option_map (λ x. x.0) (last_or None xs)) 0) (placed-last 0 0 text new last u s came)
-    ∙ ap (λ o. unwrap_or (option_map (λ x. x.0) o) 0) (last-snoc None (chars_placed 0 (chars new))) ∙ (let e : 0 + length new ≡ length new = omega arith in e)
-  where
-    last-snoc : (o : Option (ℕ × ℕ)) (xs : List (ℕ × ℕ)) → last_or o (xs ++ (0 + length new, last) ∷ []) ≡ Some (0 + length new, last)
-    last-snoc o [] = refl
-    last-snoc o (x ∷ xs) = last-snoc (Some x) xs
+    ∙ ap (λ o. unwrap_or (option_map (λ x. x.0) o) 0) (last_or-append None (chars_placed 0 (chars new)) ((0 + length new, last) ∷ [])) ∙ (let e : 0 + length new ≡ length new = omega arith in e)
 
 pub last_char-empty : (text : List ℕ) → length text ≡ 0 → last_char text ≡ 0
 last_char-empty [] e = ap (λ cs. unwrap_or (option_map (λ x. x.0) (last_or None (chars_placed 0 cs))) 0) chars-nil ∙ ap (λ xs. unwrap_or (option_map (λ x. x.0) (last_or None xs)) 0) (chars_placed-nil 0)
@@ -133,13 +125,6 @@ last_char-counted text new last n u s came counted =
     (sym e ∙ sym (last_char-read text new last u s came), subst (IsCharBoundary text) e (IsCharBoundary-at_seam text new (encode_utf8 last) came (IsUtf8-encode last s)))
 
 -- each character stands between two places at which characters begin
-All-cons : {A : Type 0} (P : A → Type 0) (x : A) (xs : List A) → P x → All P xs → All P (x ∷ xs)
-All-cons P x xs p h = at_place
-  where
-    at_place : (k : ℕ) (d : _) → k < length (x ∷ xs) → P (get_or (x ∷ xs) k d)
-    at_place zero d l = p
-    at_place (suc k) d l = h k d (omega (arith, l))
-
 pub All-placed : (text : List ℕ) (at : ℕ) (cs : List ℕ) → IsUtf8 (drop at text) → drop at text ≡ encode_utf8_all cs → IsCharBoundary text at
     → All (λ x. IsPart text x.0 (length (encode_utf8 x.1))) (chars_placed at cs)
 All-placed text at [] u e b = subst (All (λ x. IsPart text x.0 (length (encode_utf8 x.1)))) (sym (chars_placed-nil at)) (λ k d l. absurd (omega (arith, l)))

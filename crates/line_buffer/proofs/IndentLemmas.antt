@@ -1,20 +1,15 @@
 -- The whitespace at the front of a row.
-use Rattle.std.proofs.Common.{◌≡◌, ℕ, zero, suc, ◌+◌, ◌-◌, ◌<◌, ◌≤◌, Bool, true, false, List, [], ◌∷◌, ◌++◌, length, take, drop, refl, sym, ap, ◌∙◌, subst, arith, append_assoc, cond, not, ◌==◌}
-use Rattle.std.specs.Prelude.{IsUtf8, IsCharBoundary, take_while, chars, encode_utf8, encode_utf8_all}
+use Rattle.std.proofs.Common.{◌≡◌, ℕ, zero, suc, ◌+◌, ◌-◌, ◌<◌, ◌≤◌, Bool, true, false, List, [], ◌∷◌, ◌++◌, length, take, drop, refl, sym, ap, ◌∙◌, arith, append_assoc, cond, not, ◌==◌, IsUtf8, take_while, chars, encode_utf8, encode_utf8_all}
 use Rattle.std.specs.Char.{is_whitespace}
 use Rattle.std.specs.List.{prefix_len, onto_first}
 use Rattle.std.proofs.lemmas.List.{append-nil, length-drop, drop-drop, length-append}
-use Rattle.std.proofs.lemmas.Str.{chars_past_char, chars-nil, IsCharBoundary-from_drop, IsUtf8-past_char}
-use Rattle.std.proofs.Math.Seq.{take-add, take-append_seam, drop-append_seam}
+use Rattle.std.proofs.lemmas.Str.{chars_past_char, chars-nil, IsUtf8-past_char}
+use Rattle.std.proofs.Math.Seq.{take-nil, take-add, take-append_seam, drop-append_seam}
 use Rattle.line_buffer.specs.Indent.{front_whitespace, rows_of}
 use Rattle.line_buffer.specs.Rows.{is_in_row}
 
 leading_empty : (n : ℕ) (bs : List ℕ) → bs ≡ [] → front_whitespace n bs ≡ []
-leading_empty n bs e = ap (front_whitespace n) e ∙ ap (λ cs. encode_utf8_all (take n (take_while is_whitespace cs))) chars-nil ∙ by_count n
-  where
-    by_count : (n : ℕ) → encode_utf8_all (take n []) ≡ []
-    by_count zero = refl
-    by_count (suc n) = refl
+leading_empty n bs e = ap (front_whitespace n) e ∙ ap (λ cs. encode_utf8_all (take n (take_while is_whitespace cs))) chars-nil ∙ ap encode_utf8_all (take-nil n)
 
 take_while_first : (c : ℕ) (cs : List ℕ) (b : Bool) → is_whitespace c ≡ b → take_while is_whitespace (c ∷ cs) ≡ cond b (c ∷ take_while is_whitespace cs) []
 take_while_first c cs true e = ap (λ b. take (cond b (1 + prefix_len is_whitespace cs) 0) (c ∷ cs)) e ∙ ap (λ k. take k (c ∷ cs)) (let k : 1 + prefix_len is_whitespace cs ≡ suc (prefix_len is_whitespace cs) = omega arith in k)
@@ -33,11 +28,7 @@ leading_more (suc n) c bs rest u e w some =
 
 leading_none : (n c : ℕ) (bs rest : List ℕ) → IsUtf8 bs → bs ≡ encode_utf8 c ++ rest → is_whitespace c ≡ false → front_whitespace n bs ≡ []
 leading_none n c bs rest u e w =
-    leading_first n c bs rest u e ∙ ap (λ b. encode_utf8_all (take n (cond b (c ∷ take_while is_whitespace (chars rest)) []))) w ∙ by_count n
-  where
-    by_count : (n : ℕ) → encode_utf8_all (take n []) ≡ []
-    by_count zero = refl
-    by_count (suc n) = refl
+    leading_first n c bs rest u e ∙ ap (λ b. encode_utf8_all (take n (cond b (c ∷ take_while is_whitespace (chars rest)) []))) w ∙ ap encode_utf8_all (take-nil n)
 
 -- the walk over a row stands at a place, with the rest of the row and so many characters still to take
 pub record Walks (row : List ℕ) (count at : ℕ) (rest : List ℕ) (missing : ℕ) : Type 0 where
@@ -86,9 +77,6 @@ module _ (row : List ℕ) (count at : ℕ) (rest : List ℕ) (missing : ℕ) (w 
     where
       same : length row ≡ at
       same = omega (arith, ap length (w.behind ∙ none), length-drop at row, w.inside)
-
-  pub walks_boundary : (i : ℕ) → i ≡ at → IsCharBoundary row i
-  walks_boundary i e = subst (IsCharBoundary row) (sym e) (IsCharBoundary-from_drop row at w.inside (subst IsUtf8 (sym w.behind) w.utf8))
 
 -- the rows of a text, the first one taken off
 pub rows_last : (xs : List ℕ) → prefix_len is_in_row xs ≡ length xs → rows_of xs ≡ xs ∷ []

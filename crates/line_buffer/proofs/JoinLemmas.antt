@@ -1,11 +1,9 @@
 -- The clusters of a text of printable ASCII, and of a text that begins or ends in letters.
-use Rattle.std.proofs.Common.{◌≡◌, ℕ, zero, suc, ◌+◌, ◌<◌, ◌≤◌, ◌==◌, Bool, true, false, cond, ◌||◌, List, [], ◌∷◌, ◌++◌, length, get_or, map, take, None, Some, refl, sym, ap, ap₂, ◌∙◌, arith, eqb-true}
-use Rattle.std.specs.Prelude.{IsUtf8, chars, encode_utf8, encode_utf8_all, nat_lt}
-use Rattle.std.specs.List.{last_or, list_all, concat}
-use Rattle.std.proofs.lemmas.Bool.{and_parts}
+use Rattle.std.proofs.Common.{◌≡◌, ℕ, ◌+◌, ◌<◌, ◌≤◌, ◌==◌, Bool, true, false, cond, ◌||◌, List, [], ◌∷◌, ◌++◌, length, map, take, None, Some, refl, sym, ap, ap₂, ◌∙◌, arith, eqb-true, IsUtf8, chars, encode_utf8, encode_utf8_all, nat_lt}
+use Rattle.std.specs.List.{last_or, concat}
 use Rattle.std.proofs.lemmas.Bool.Decides.{nat_tests}
 use Rattle.std.proofs.lemmas.List.{append-nil, length-append, map-append}
-use Rattle.std.proofs.lemmas.Str.{encode_ascii, chars-IsAscii}
+use Rattle.std.proofs.lemmas.Str.{encode_ascii}
 use Rattle.ucd_table.proofs.Facts.{Stepped-below}
 use Rattle.ucd_breaks.specs.GraphemeClusterBreak.{grapheme_cluster_break, grapheme_cluster_break_number}
 use Rattle.ucd_breaks.specs.declared.GraphemeClusterBreak.TheVariants.{Other}
@@ -72,40 +70,6 @@ printable_class c h =
 printable-breaks : (c : ℕ) (before : List ℕ) (d : ℕ) (after : List ℕ) → is_printable c ≡ true → is_printable d ≡ true → is_grapheme_break true (c ∷ before) (d ∷ after) ≡ true
 printable-breaks c before d after p q =
     sym (is_grapheme_break-others true (c ∷ before) d after (omega arith) (omega (arith, printable_ascii d q)) (sym (printable_class c p)) (sym (printable_class d q)))
-
-cut-printable : (before cs : List ℕ) → list_all is_printable cs ≡ true → cut (is_grapheme_break true) before cs [] ≡ map (λ c. c ∷ []) cs
-unfolding cut is_grapheme_break
-cut-printable before [] h = refl
-cut-printable before (c ∷ []) h = refl
-cut-printable before (c ∷ (d ∷ cs)) h =
-    let first = and_parts (is_printable c) (list_all is_printable (d ∷ cs)) h in
-    let second = and_parts (is_printable d) (list_all is_printable cs) first.1 in
-    ap₂ (λ b rest. cond b ((c ∷ []) ∷ rest) (prepend (c ∷ []) rest))
-    (printable-breaks c before d (cs ++ []) first.0 second.0)
-    (cut-printable (c ∷ before) (d ∷ cs) first.1)
-
-below-all : (cs : List ℕ) → list_all is_printable cs ≡ true → (i : ℕ) → get_or cs i 0 < 128
-below-all [] h zero = omega arith
-below-all [] h (suc i) = omega arith
-below-all (c ∷ cs) h zero = printable_ascii c (and_parts (is_printable c) (list_all is_printable cs) h).0
-below-all (c ∷ cs) h (suc i) = below-all cs (and_parts (is_printable c) (list_all is_printable cs) h).1 i
-
--- each byte of such a text is a cluster
-graphemes-printable : (text : List ℕ) → list_all is_printable text ≡ true → graphemes true text ≡ map (λ c. c ∷ []) text
-unfolding segments
-graphemes-printable text h =
-    ap (λ cs. map encode_utf8_all (cut (is_grapheme_break true) [] cs [])) (chars-IsAscii text (below-all text h))
-    ∙ ap (map encode_utf8_all) (cut-printable [] text h) ∙ same text h
-  where
-    same : (cs : List ℕ) → list_all is_printable cs ≡ true → map encode_utf8_all (map (λ c. c ∷ []) cs) ≡ map (λ c. c ∷ []) cs
-    same [] h = refl
-    same (c ∷ cs) h =
-        let parts = and_parts (is_printable c) (list_all is_printable cs) h in
-        ap₂ (λ p ps. p ∷ ps) (append-nil _ ∙ encode_ascii c (printable_ascii c parts.0)) (same cs parts.1)
-
--- the clusters of such a text, each with its place
-pub clusters-printable : (text : List ℕ) → list_all is_printable text ≡ true → clusters text ≡ with_offsets 0 (map (λ c. c ∷ []) text)
-clusters-printable text h = ap (with_offsets 0) (graphemes-printable text h)
 
 -- ---- two printable characters at a text's end
 cut-letters : (cs before : List ℕ) (p c : ℕ) → is_printable p ≡ true → is_printable c ≡ true → cut (is_grapheme_break true) before (cs ++ p ∷ c ∷ []) [] ≡ cut (is_grapheme_break true) before (cs ++ p ∷ []) [] ++ (c ∷ []) ∷ []

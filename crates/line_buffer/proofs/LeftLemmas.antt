@@ -1,6 +1,5 @@
 -- What a failed call leaves of a line: what the first of its events made of it.
-use Rattle.std.proofs.Common.{◌≡◌, Bool, true, false, ℕ, ◌+◌, ◌-◌, ◌≤◌, List, [], ◌∷◌, ◌++◌, inl, length, refl, sym, subst, ap, ◌∙◌, arith, append_assoc}
-use Rattle.std.specs.Prelude.{Result, Ok, Err, OnErr, IsErrAnd, min, slice_range, if◌then◌else◌}
+use Rattle.std.proofs.Common.{◌≡◌, Bool, true, false, ℕ, ◌+◌, ◌-◌, ◌≤◌, List, [], ◌∷◌, ◌++◌, inl, length, refl, sym, subst, ap, ◌∙◌, arith, append_assoc, Result, Ok, Err, OnErr, IsErrAnd, min, slice_range, if◌then◌else◌}
 use Rattle.std.specs.List.{replace_range}
 use Rattle.std.specs.Result.{result_map_both}
 use Rattle.std.proofs.lemmas.List.{drop_all}

@@ -1,6 +1,5 @@
 -- The search for the first cluster of a word, and what is told where its letters are changed.
-use Rattle.std.proofs.Common.{◌≡◌, ℕ, Bool, true, false, List, [], ◌∷◌, Some, sym, ap, ◌∙◌, cond}
-use Rattle.std.specs.Prelude.{find, slice_range}
+use Rattle.std.proofs.Common.{◌≡◌, ℕ, Bool, true, false, List, [], ◌∷◌, Some, sym, ap, ◌∙◌, cond, find, slice_range}
 use Rattle.line_buffer.specs.declared.types.WordAction.{WordAction}
 use Rattle.line_buffer.specs.LetterCase.{word_to_edit, word_in_case, recase_events, edit_word_events}
 use Rattle.line_buffer.specs.Line.{Line}

@@ -1,7 +1,6 @@
 -- The last cluster of a text that ends in two printable characters of ASCII, and the first of one
 -- that begins with two.
-use Rattle.std.proofs.Common.{◌≡◌, ℕ, ◌-◌, true, List, [], ◌∷◌, ◌++◌, length, take, drop, reverse, None, Some, sym, ap, ap₂, ◌∙◌, arith, append_assoc}
-use Rattle.std.specs.Prelude.{IsUtf8, chars, encode_utf8}
+use Rattle.std.proofs.Common.{◌≡◌, ℕ, ◌-◌, true, List, [], ◌∷◌, ◌++◌, length, take, drop, reverse, None, Some, sym, ap, ap₂, ◌∙◌, arith, append_assoc, IsUtf8, chars, encode_utf8}
 use Rattle.std.specs.Char.{IsScalar}
 use Rattle.std.specs.List.{last_or}
 use Rattle.std.proofs.lemmas.Bool.Decides.{nat_tests}

@@ -30,7 +30,6 @@ pub mod RowStartLemmas
 pub mod RowStepLemmas
 pub mod RowWalkLemmas
 pub mod RunLemmas
-pub mod SeamLemmas
 pub mod SpanLemmas
 pub mod StopLemmas
 pub mod TabClusters

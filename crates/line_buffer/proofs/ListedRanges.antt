@@ -1,11 +1,14 @@
 -- Characters by the ranges that hold them.
-use Rattle.std.proofs.Common.{◌≡◌, ℕ, ◌==◌, nat_lt, ⊎_elim, Bool, true, false, ◌||◌, List, [], ◌∷◌, refl, sym, ap, ◌∙◌, arith}
+use Rattle.std.proofs.Common.{◌≡◌, ℕ, ◌==◌, nat_lt, ⊎_elim, Bool, true, false, not, ◌||◌, List, [], ◌∷◌, refl, sym, ap, ◌∙◌, arith, eqb-true}
 use Rattle.std.specs.Int.{is_in_range}
 use Rattle.std.specs.List.{list_all}
+use Rattle.std.proofs.Math.Bool.{or-false}
 use Rattle.std.proofs.lemmas.Bool.{and_parts, or_cases}
 use Rattle.std.proofs.lemmas.Bool.Decides.{nat_tests}
-use borrow.Author.Tests.{eqb-true}
 use Rattle.ucd_table.specs.Rows.{Range, in_ranges}
+
+pub implied : (a b : Bool) → a ≡ true → (not a || b) ≡ true → b ≡ true
+implied a b e h = grind (arith, nat_tests)
 
 -- in the first range, or in one of the others
 abbrev pub in_some : Range → List Range → ℕ → Bool
@@ -14,11 +17,7 @@ in_some r (s ∷ rs) c = is_in_range r.0 r.1 c || in_some s rs c
 
 pub in_ranges-some : (r : Range) (rs : List Range) (c : ℕ) → in_some r rs c ≡ in_ranges (r ∷ rs) c
 unfolding in_ranges
-in_ranges-some r [] c = by (is_in_range r.0 r.1 c)
-  where
-    by : (b : Bool) → b ≡ (b || false)
-    by true = refl
-    by false = refl
+in_ranges-some r [] c = sym (or-false (is_in_range r.0 r.1 c))
 in_ranges-some r (s ∷ rs) c = ap (λ b. is_in_range r.0 r.1 c || b) (in_ranges-some s rs c)
 
 -- no character of the range is one from a to b

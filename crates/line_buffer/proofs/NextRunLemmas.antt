@@ -1,6 +1,5 @@
 -- The first clusters of a text that are of one kind: a run of bytes of ASCII in a word, or the first cluster alone.
-use Rattle.std.proofs.Common.{◌≡◌, ℕ, suc, ◌+◌, ◌-◌, ◌<◌, ◌≤◌, true, List, [], ◌∷◌, ◌++◌, length, take, drop, get_or, None, Some, refl, sym, ap, ap₂, ◌∙◌, subst, arith}
-use Rattle.std.specs.Prelude.{IsUtf8, IsCharBoundary, encode_utf8, option_to_list}
+use Rattle.std.proofs.Common.{◌≡◌, ℕ, suc, ◌+◌, ◌-◌, ◌<◌, ◌≤◌, true, List, [], ◌∷◌, ◌++◌, length, take, drop, get_or, None, Some, refl, sym, ap, ap₂, ◌∙◌, subst, arith, IsUtf8, IsCharBoundary, encode_utf8, option_to_list, add-zero}
 use Rattle.std.specs.List.{last_or, list_all, concat}
 use Rattle.std.proofs.lemmas.Bool.{and_parts}
 use Rattle.std.proofs.lemmas.List.{take-append-drop, length-take-le, drop-drop, drop_more}
@@ -13,39 +12,23 @@ use Rattle.line_buffer.specs.Clusters.{clusters}
 use Rattle.line_buffer.specs.Printable.{is_printable}
 use Rattle.line_buffer.specs.Words.{BeginsInRun, clusters_at, kind_of, kinds, is_word_byte, edges_of, edge_between}
 use Rattle.line_buffer.specs.declared.types.At.{At}
-use Rattle.line_buffer.specs.declared.types.At.TheVariants.{Start, BeforeEnd, AfterEnd}
 use Rattle.line_buffer.specs.declared.types.Word.{Word}
 use Rattle.line_buffer.specs.declared.words.ClusterKind.{ClusterKind}
-use Rattle.line_buffer.specs.declared.words.ClusterKind.TheVariants.{Blank, InWord, Other}
+use Rattle.line_buffer.specs.declared.words.ClusterKind.TheVariants.{InWord}
 use Rattle.line_buffer.proofs.LetterLemmas.{first_letter}
 use Rattle.line_buffer.proofs.RestLemmas.{graphemes_rest}
 use Rattle.line_buffer.proofs.StopLemmas.{clusters-empty}
-use Rattle.line_buffer.proofs.WordLemmas.{edges_of-cons}
 use Rattle.line_buffer.proofs.JoinLemmas.{printable_ascii}
-use Rattle.line_buffer.proofs.WordRunLemmas.{kind_of_word_byte, word_printable}
+use Rattle.line_buffer.proofs.WordRunLemmas.{kind_of_word_byte, word_printable, no_edge}
 
 -- ---- the first cluster alone
-no_edge : (at : At) (kind : ClusterKind) (i j : ℕ) → edge_between at (i, kind) (j, kind) ≡ None
-no_edge Start Blank i j = refl
-no_edge Start InWord i j = refl
-no_edge Start Other i j = refl
-no_edge BeforeEnd Blank i j = refl
-no_edge BeforeEnd InWord i j = refl
-no_edge BeforeEnd Other i j = refl
-no_edge AfterEnd Blank i j = refl
-no_edge AfterEnd InWord i j = refl
-no_edge AfterEnd Other i j = refl
-
-from_here : (n : ℕ) → n ≡ n + 0
-from_here n = omega arith
-
 begins_in_piece : (word : Word) (text p : List ℕ) (ps : List (List ℕ)) → IsUtf8 text → graphemes true text ≡ p ∷ ps → BeginsInRun word text 0 (length p) (kind_of word p)
 unfolding with_offsets
 begins_in_piece word text p ps u is = record {
   boundary = rest.0;
   some = (subst (AllPieces (λ q. 0 < length q)) is (segments_nonempty (is_grapheme_break true) text)).0;
   first = λ at from. ap (edges_of at) (shape from) ∙ place at from;
-  splits = λ at from left. ap (λ xs. edges_of at (left ∷ xs)) (shape from) ∙ edges_of-cons at left (from, kind_of word p) (behind from) ∙ ap (λ zs. option_to_list (edge_between at left (from, kind_of word p)) ++ zs) (place at from);
+  splits = λ at from left. ap (λ xs. edges_of at (left ∷ xs)) (shape from) ∙ ap (λ zs. option_to_list (edge_between at left (from, kind_of word p)) ++ zs) (place at from);
 }
   where
     rest : IsCharBoundary text (length p) × (graphemes true (drop (length p) text) ≡ ps)
@@ -58,7 +41,7 @@ begins_in_piece word text p ps u is = record {
     shape from = ap (λ gs. kinds word (with_offsets from gs)) is ∙ ap (λ gs. (from, kind_of word p) ∷ kinds word (with_offsets (from + length p) gs)) (sym rest.1)
 
     place : (at : At) (from : ℕ) → edges_of at ((from, kind_of word p) ∷ behind from) ≡ edges_of at ((from + 0, kind_of word p) ∷ behind from)
-    place at from = ap (λ n. edges_of at ((n, kind_of word p) ∷ behind from)) (from_here from)
+    place at from = ap (λ n. edges_of at ((n, kind_of word p) ∷ behind from)) (sym (add-zero from))
 
 first_piece : (text p : List ℕ) (ps : List (List ℕ)) (x : ℕ × List ℕ) → graphemes true text ≡ p ∷ ps → Some x ≡ last_or None (take 1 (clusters text)) → x.1 ≡ p
 unfolding with_offsets
@@ -106,9 +89,6 @@ behind_first text x u found = by (graphemes true text) refl
         (rest.0, ap (λ gs. drop 1 (with_offsets 0 gs)) e ∙ ap₂ with_offsets long (sym rest.1))
 
 -- ---- one run after another of the same kind
-drop-drop_add : (i j : ℕ) (xs : List ℕ) → drop j (drop i xs) ≡ drop (i + j) xs
-drop-drop_add i j xs = drop-drop j i xs
-
 runs_join : (word : Word) (text : List ℕ) (last end later upto : ℕ) (kind : ClusterKind) → BeginsInRun word text last end kind → BeginsInRun word (drop end text) later upto kind → BeginsInRun word text (end + later) (end + upto) kind
 runs_join word text last end later upto kind one two = record {
   boundary = IsCharBoundary-from_rest text end upto one.boundary.0 two.boundary;
@@ -125,7 +105,7 @@ runs_join word text last end later upto kind one two = record {
         two.splits at (from + end) (from + last, kind)
         ∙ ap (λ o. option_to_list o ++ edges_of at ((from + end + later, kind) ∷ kinds word (clusters_at (from + end + upto) (drop upto (drop end text))))) (no_edge at kind (from + last) (from + end))
         ∙ ap₂ (λ i j. edges_of at ((i, kind) ∷ kinds word (clusters_at j (drop upto (drop end text))))) place behind
-        ∙ ap (λ bs. edges_of at ((from + (end + later), kind) ∷ kinds word (clusters_at (from + (end + upto)) bs))) (drop-drop_add end upto text)
+        ∙ ap (λ bs. edges_of at ((from + (end + later), kind) ∷ kinds word (clusters_at (from + (end + upto)) bs))) (drop-drop upto end text)
 
 -- ---- bytes of a word
 in_front : (c : ℕ) (text : List ℕ) → is_printable c ≡ true → c ∷ text ≡ encode_utf8 c ++ text

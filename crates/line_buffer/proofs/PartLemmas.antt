@@ -1,11 +1,10 @@
 -- The clusters of a text are parts of it, between characters.
-use Rattle.std.proofs.Common.{◌≡◌, ℕ, ◌+◌, ◌-◌, ◌≤◌, true, ◌<◌, ◌⊎◌, inl, inr, get_or, List, length, map, reverse, take, drop, Option, None, Some, refl, sym, ap, ◌∙◌, subst, arith, add_assoc}
-use Rattle.std.specs.Prelude.{option_map, IfSome, All, IsUtf8, IsCharBoundary, slice_range}
+use Rattle.std.proofs.Common.{◌≡◌, ℕ, ◌+◌, ◌-◌, ◌≤◌, true, ◌<◌, ◌⊎◌, inl, inr, get_or, List, length, map, reverse, take, drop, Option, None, Some, refl, sym, ap, ◌∙◌, subst, arith, add_assoc, option_map, IfSome, All, IsUtf8, IsCharBoundary, slice_range, Bor}
 use Rattle.std.specs.List.{last_or}
+use Rattle.std.proofs.lemmas.Bool.{cases_lt}
 use Rattle.std.proofs.lemmas.List.{length-take-le, get_or-take}
 use Rattle.std.proofs.lemmas.List.Elements.{All-take}
 use Rattle.std.proofs.lemmas.Str.{IsCharBoundary-from_rest}
-use denote.Ref.{Bor}
 use Rattle.unicode_segmentation.specs.Grapheme.{is_grapheme_break}
 use Rattle.unicode_segmentation.proofs.SegmentsLemmas.{All-IsPieceOf}
 use Rattle.line_buffer.specs.Clusters.{clusters, IsPart, place_forward, place_backward}
@@ -54,14 +53,11 @@ backward_from_cluster l m same text n o t e =
 
 -- a part of what stands before a place, and of what stands after it
 pub boundary_before : (text : List ℕ) (p i : ℕ) → IsCharBoundary text p → IsCharBoundary (take p text) i → IsCharBoundary text i
-boundary_before text p i b h = by_order (le_or_eq i p (omega (arith, h.0, length-take-le p text b.0)))
+boundary_before text p i b h = by_order (cases_lt i p)
   where
-    le_or_eq : (i p : ℕ) → i ≤ p → (i < p) ⊎ (i ≡ p)
-    le_or_eq i p l = grind (arith, l)
-
-    by_order : (i < p) ⊎ (i ≡ p) → IsCharBoundary text i
+    by_order : (i < p) ⊎ (p ≤ i) → IsCharBoundary text i
     by_order (inl l) = (omega (arith, l, b.0), λ m a. let e : get_or (take p text) i 0 ≡ get_or text i 0 = get_or-take p text i 0 l in omega (arith, e, h.1 (omega (arith, l, length-take-le p text b.0)) (omega (arith, e, a))))
-    by_order (inr e) = subst (IsCharBoundary text) (sym e) b
+    by_order (inr e) = subst (IsCharBoundary text) (let k : p ≡ i = omega (arith, e, h.0, length-take-le p text b.0) in k) b
 
 pub part_before : (text : List ℕ) (p i len : ℕ) → IsCharBoundary text p → IsPart (take p text) i len → IsPart text i len × (i + len ≤ p)
 part_before text p i len b h =

@@ -1,17 +1,16 @@
 -- Where a text may be parted. Its columns are read from its end, with a state; so two texts that leave the same state act alike
 -- on what stands before them. A character with columns of its own leaves a state that what follows does not change.
-use Rattle.std.proofs.Common.{◌≡◌, ℕ, ◌+◌, ◌-◌, ◌==◌, ◌<◌, ◌≤◌, nat_le, nat_lt, ◌⊎◌, inl, inr, ⊎_elim, Bool, true, false, not, cond, ◌&&◌, ◌||◌, List, [], ◌∷◌, ◌++◌, length, Option, None, Some, refl, sym, ap, ◌∙◌, subst, arith}
+use Rattle.std.proofs.Common.{◌≡◌, ℕ, zero, suc, ◌+◌, ◌-◌, ◌==◌, ◌<◌, ◌≤◌, nat_le, nat_lt, ◌⊎◌, inl, inr, ⊎_elim, Bool, true, false, not, cond, ◌&&◌, ◌||◌, List, [], ◌∷◌, ◌++◌, length, Option, None, Some, refl, sym, ap, ◌∙◌, subst, arith, sum_by, IsUtf8, chars, encode_utf8, eqb-true, true≢false}
 use Rattle.std.proofs.Math.ListN.{replicate}
-use Rattle.std.specs.Prelude.{sum_by, IsUtf8, chars, encode_utf8}
 use Rattle.std.specs.Char.{IsScalar}
 use Rattle.std.specs.Int.{is_in_range}
 use Rattle.std.proofs.lemmas.Str.{IsUtf8-encode, chars-append}
 use Rattle.unicode_segmentation.proofs.TextLemmas.{IsUtf8-before, chars-encode_utf8}
 use Rattle.std.specs.List.{onto_first, list_all}
 use Rattle.std.proofs.lemmas.List.Sums.{sum_by-cons, sum_by-append}
-use Rattle.std.proofs.lemmas.Bool.{and_from, and_parts, or_parts, not-true, cases_lt}
+use Rattle.std.proofs.Math.Bool.{or-false}
+use Rattle.std.proofs.lemmas.Bool.{and_from, and_right, and_parts, or_left, or_right, or_cases, or_parts, not-true, cases_lt}
 use Rattle.std.proofs.lemmas.Bool.Decides.{nat_tests}
-use borrow.Author.Tests.{eqb-true}
 use Rattle.ucd_table.specs.Rows.{Range, in_ranges}
 use Rattle.ucd_table.proofs.StepsLemmas.{rises_from}
 use Rattle.ucd_table.proofs.Stepped.{Stepped, of_ranges, zip_stepped}
@@ -35,13 +34,12 @@ use Rattle.unicode_width.specs.Kind.{kind, is_ligature_transparent, is_text_pres
 use Rattle.unicode_width.specs.Width.{before, plain, single, of_kind, alone, char_width, joins, before_alef, is_lam, is_tifinagh, skips_marks, is_joined_emoji, if_kept, is_plain, is_line_feed, is_quote, is_emoji, Reading, first_of, added, joined_or, past_selectors, in_context, past_emoji, step, read_before, str_width}
 use Rattle.unicode_width.proofs.Computing.{unicode_width}
 use Rattle.unicode_width.proofs.KindLemmas.{kind_stepped, is_ligature_transparent_stepped}
-use Rattle.unicode_width.proofs.Rules.{str_width-append_simple}
+use Rattle.unicode_width.proofs.Rules.{is_simple, str_width-append_simple}
 use Rattle.line_buffer.specs.declared.layout.GraphemeClusterMode.{GraphemeClusterMode}
 use Rattle.line_buffer.specs.declared.layout.GraphemeClusterMode.TheVariants.{Unicode, WcWidth, NoZwj}
 use Rattle.line_buffer.specs.Parting.{looks_ahead, is_solid, takes_marks, is_tone, is_bare, parts, first, is_flag_letter}
 use Rattle.line_buffer.specs.Width.{char_columns_of, parts_between_joiners, columns_of}
-use Rattle.line_buffer.proofs.ListedRanges.{apart}
-use Rattle.line_buffer.proofs.SeamLemmas.{read-append, read_letters, letters_simple}
+use Rattle.line_buffer.proofs.ListedRanges.{apart, implied}
 
 -- ---- facts of the tables
 
@@ -71,14 +69,14 @@ turns c = in_ranges flag c || (is_emoji_modifier_base c && not (is_emoji_variati
 
 -- what the rules can make of a character, by its kind
 abbrev fits : Kind → Bool → Bool → Bool → Bool → Bool
-fits kinds.Zero zero close turn tone = true
-fits kinds.Single zero close turn tone = true
-fits kinds.Narrow zero close turn tone = not zero && (not turn && not tone)
-fits kinds.Wide zero close turn tone = not zero && (not turn && not tone)
-fits kinds.Ambiguous zero close turn tone = not zero && (not turn && not tone)
-fits kinds.Emoji zero close turn tone = not zero && (not close && not tone)
-fits kinds.EmojiModifier zero close turn tone = not zero && (not close && (not turn && tone))
-fits _ zero close turn tone = not zero && (not close && (not turn && not tone))
+fits kinds.Zero empty close turn tone = true
+fits kinds.Single empty close turn tone = true
+fits kinds.Narrow empty close turn tone = not empty && (not turn && not tone)
+fits kinds.Wide empty close turn tone = not empty && (not turn && not tone)
+fits kinds.Ambiguous empty close turn tone = not empty && (not turn && not tone)
+fits kinds.Emoji empty close turn tone = not empty && (not close && not tone)
+fits kinds.EmojiModifier empty close turn tone = not empty && (not close && (not turn && tone))
+fits _ empty close turn tone = not empty && (not close && (not turn && not tone))
 
 holds : ℕ → Bool
 holds c = fits (kind c) (is_zero c) (closes c) (turns c) (in_ranges tones c)
@@ -114,7 +112,7 @@ is_shaky s = s.emoji || (s.text || is_shaky_after s.after)
 -- of a character with this width and state, which is an emoji or not
 record Facts (c : ℕ) (own : ℕ × State) (emoji : Bool) : Type 0 where
   wide : (own.0 == 0) ≡ false
-  zero : is_zero c ≡ false
+  empty : is_zero c ≡ false
   closing : closes c ≡ true → own.1 ≡ plain
   turning : turns c ≡ true → own.1 ≡ before after.Emoji
   joined : emoji ≡ true → own.1 ≡ before after.Emoji
@@ -122,40 +120,31 @@ record Facts (c : ℕ) (own : ℕ × State) (emoji : Bool) : Type 0 where
   steady : is_tone c ≡ false → is_shaky own.1 ≡ false
 
 never : {P : Type 0} (b : Bool) → b ≡ false → b ≡ true → P
-never true h e = cc
-never false h e = cc
+never b h e = absurd (true≢false (sym e ∙ h))
 
 unless : {P : Type 0} (b : Bool) → b ≡ true → b ≡ false → P
-unless true h e = cc
-unless false h e = cc
+unless b h e = absurd (true≢false (sym h ∙ e))
 
 same_tone : (c : ℕ) → in_ranges tones c ≡ is_tone c
 unfolding in_ranges
-same_tone c = by (is_tone c)
-  where
-    by : (b : Bool) → (b || false) ≡ b
-    by true = refl
-    by false = refl
+same_tone c = or-false (is_tone c)
 
-record Clear (zero close turn tone : Bool) : Type 0 where
-  zero_is : zero ≡ false
+record Clear (empty close turn tone : Bool) : Type 0 where
+  empty_is : empty ≡ false
   close_is : close ≡ false
   turn_is : turn ≡ false
   tone_is : tone ≡ false
 
-clear : (zero close turn tone : Bool) → (not zero && (not close && (not turn && not tone))) ≡ true → Clear zero close turn tone
-clear false false false false h = record { zero_is = refl; close_is = refl; turn_is = refl; tone_is = refl }
-clear true _ _ _ h = cc
-clear false true _ _ h = cc
-clear false false true _ h = cc
-clear false false false true h = cc
+clear : (empty close turn tone : Bool) → (not empty && (not close && (not turn && not tone))) ≡ true → Clear empty close turn tone
+clear false false false false h = record { empty_is = refl; close_is = refl; turn_is = refl; tone_is = refl }
+clear _ _ _ _ h = cc
 
 -- it joins nothing
 clear_facts : (c : ℕ) (own : ℕ × State) (emoji : Bool) → (own.0 == 0) ≡ false → emoji ≡ false → is_shaky own.1 ≡ false → Clear (is_zero c) (closes c) (turns c) (is_tone c) → Facts c own emoji
 clear_facts c own emoji w no_emoji calm k =
     record {
       wide = w;
-      zero = k.zero_is;
+      empty = k.empty_is;
       closing = never (closes c) k.close_is;
       turning = never (turns c) k.turn_is;
       joined = never emoji no_emoji;
@@ -169,7 +158,7 @@ plain_facts c n w h =
     let b = and_parts (not (turns c)) _ a.1 in
     record {
       wide = w;
-      zero = not-true _ a.0;
+      empty = not-true _ a.0;
       closing = λ _. refl;
       turning = never (turns c) (not-true _ b.0);
       joined = λ e. cc;
@@ -183,7 +172,7 @@ emoji_facts c h =
     let b = and_parts (not (closes c)) _ a.1 in
     record {
       wide = refl;
-      zero = not-true _ a.0;
+      empty = not-true _ a.0;
       closing = never (closes c) (not-true _ b.0);
       turning = λ _. refl;
       joined = λ _. refl;
@@ -198,7 +187,7 @@ tone_facts c h =
     let d = and_parts (not (turns c)) _ b.1 in
     record {
       wide = refl;
-      zero = not-true _ a.0;
+      empty = not-true _ a.0;
       closing = never (closes c) (not-true _ b.0);
       turning = never (turns c) (not-true _ d.0);
       joined = λ e. cc;
@@ -218,11 +207,7 @@ by_kind c kinds.Wide s h w = plain_facts c 2 refl h
 by_kind c kinds.Ambiguous s h w = plain_facts c 1 refl h
 by_kind c kinds.Emoji s h w = emoji_facts c h
 by_kind c kinds.EmojiModifier s h w = tone_facts c h
-by_kind c kinds.Alef s h w = clear_facts c _ _ refl refl refl (clear _ _ _ _ h)
-by_kind c kinds.KhmerLetter s h w = clear_facts c _ _ refl refl refl (clear _ _ _ _ h)
-by_kind c kinds.TifinaghConsonant s h w = clear_facts c _ _ refl refl refl (clear _ _ _ _ h)
-by_kind c kinds.LisuTone s h w = clear_facts c _ _ refl refl refl (clear _ _ _ _ h)
-by_kind c kinds.RegionalIndicator s h w = clear_facts c _ _ refl refl refl (clear _ _ _ _ h)
+by_kind c _ s h w = clear_facts c _ _ refl refl refl (clear _ _ _ _ h)
 
 -- characters with rules of their own
 sound : ℕ → Bool
@@ -230,25 +215,22 @@ sound c =
     (not ((alone false c).0 == 0) && (not (is_emoji (kind c)) && not (is_shaky (alone false c).1)))
     && (not (is_zero c) && (not (closes c) && (not (turns c) && not (is_tone c))))
 
-sound_lamed : sound 0x05DC ≡ true
-unfolding unicode_width sound
-sound_lamed = refl
+abbrev singles : List ℕ
+singles = 0x05DC ∷ 0xFB3C ∷ 0x17D8 ∷ 0x1A10 ∷ 0x10C03 ∷ []
 
-sound_composed : sound 0xFB3C ≡ true
+all_sound : list_all sound singles ≡ true
 unfolding unicode_width sound
-sound_composed = refl
+all_sound = refl
 
-sound_beyyal : sound 0x17D8 ≡ true
-unfolding unicode_width sound
-sound_beyyal = refl
+abbrev is_listed : ℕ → List ℕ → Bool
+is_listed c [] = false
+is_listed c (d ∷ ds) = (c == d) || is_listed c ds
 
-sound_ya : sound 0x1A10 ≡ true
-unfolding unicode_width sound
-sound_ya = refl
-
-sound_orkhon : sound 0x10C03 ≡ true
-unfolding unicode_width sound
-sound_orkhon = refl
+sound_listed : (c : ℕ) (ds : List ℕ) → list_all sound ds ≡ true → is_listed c ds ≡ true → sound c ≡ true
+sound_listed c [] h e = cc
+sound_listed c (d ∷ ds) h e =
+    let parts = and_parts (sound d) (list_all sound ds) h in
+    ⊎_elim (λ (is : (c == d) ≡ true). ap sound (eqb-true c d is) ∙ parts.0) (sound_listed c ds parts.1) (or_cases (c == d) (is_listed c ds) e)
 
 sound_facts : (c : ℕ) → sound c ≡ true → Facts c (alone false c) (is_emoji (kind c))
 unfolding sound
@@ -262,30 +244,14 @@ sound_facts c h =
 module _ (c : ℕ) (wide : ((alone false c).0 == 0) ≡ false) (apart : looks_ahead c ≡ false) where
   single_sound : kind c ≡ kinds.Single → sound c ≡ true
   unfolding alone
-  single_sound is = by-lamed (c == 0x05DC) refl
+  single_sound is = by (is_listed c singles) refl
     where
       own : ((single false c).0 == 0) ≡ false
       own = ap (λ k. (of_kind false c k).0 == 0) (sym is) ∙ wide
 
-      by-orkhon : (b : Bool) → (c == 0x10C03) ≡ b → (c == 0x05DC) ≡ false → (c == 0xFB3C) ≡ false → (c == 0x17D8) ≡ false → (c == 0x1A10) ≡ false → sound c ≡ true
-      by-orkhon true e p q r s = ap sound (eqb-true c 0x10C03 e) ∙ sound_orkhon
-      by-orkhon false e p q r s = grind (arith, nat_tests, own, apart, p, q, r, s, e)
-
-      by-ya : (b : Bool) → (c == 0x1A10) ≡ b → (c == 0x05DC) ≡ false → (c == 0xFB3C) ≡ false → (c == 0x17D8) ≡ false → sound c ≡ true
-      by-ya true e p q r = ap sound (eqb-true c 0x1A10 e) ∙ sound_ya
-      by-ya false e p q r = by-orkhon (c == 0x10C03) refl p q r e
-
-      by-beyyal : (b : Bool) → (c == 0x17D8) ≡ b → (c == 0x05DC) ≡ false → (c == 0xFB3C) ≡ false → sound c ≡ true
-      by-beyyal true e p q = ap sound (eqb-true c 0x17D8 e) ∙ sound_beyyal
-      by-beyyal false e p q = by-ya (c == 0x1A10) refl p q e
-
-      by-composed : (b : Bool) → (c == 0xFB3C) ≡ b → (c == 0x05DC) ≡ false → sound c ≡ true
-      by-composed true e p = ap sound (eqb-true c 0xFB3C e) ∙ sound_composed
-      by-composed false e p = by-beyyal (c == 0x17D8) refl p e
-
-      by-lamed : (b : Bool) → (c == 0x05DC) ≡ b → sound c ≡ true
-      by-lamed true e = ap sound (eqb-true c 0x05DC e) ∙ sound_lamed
-      by-lamed false e = by-composed (c == 0xFB3C) refl e
+      by : (b : Bool) → is_listed c singles ≡ b → sound c ≡ true
+      by true e = sound_listed c singles all_sound e
+      by false e = grind (arith, nat_tests, own, apart, e)
 
   facts : Facts c (alone false c) (is_emoji (kind c))
   unfolding holds alone
@@ -338,19 +304,7 @@ outside [] c h = tt
 outside (r ∷ rs) c h = let parts = or_parts (is_in_range r.0 r.1 c) (in_ranges rs c) h in (parts.0, outside rs c parts.1)
 
 none_of : (rs : List Range) (c d : ℕ) → in_ranges rs c ≡ false → in_ranges rs d ≡ true → (c == d) ≡ false
-none_of rs c d h k = by (c == d) refl
-  where
-    by : (b : Bool) → (c == d) ≡ b → b ≡ false
-    by true e = sym k ∙ ap (in_ranges rs) (sym (eqb-true c d e)) ∙ h
-    by false e = refl
-
-or_right : (a b : Bool) → b ≡ true → (a || b) ≡ true
-or_right true b h = refl
-or_right false b h = h
-
-or_left : (a b : Bool) → a ≡ true → (a || b) ≡ true
-or_left true b h = refl
-or_left false b h = cc
+none_of rs c d h k = apart (λ x. not (in_ranges rs x)) c d (ap not h) (ap not k)
 
 -- ---- cases of a reading
 
@@ -369,10 +323,10 @@ weaker c own x some more h (inr e) = let parts = and_parts some (takes_marks c) 
 
 module _ (c : ℕ) (f : Facts c (alone false c) (is_emoji (kind c))) (apart : looks_ahead c ≡ false) where
   zeros_apart : in_ranges zeros c ≡ false
-  zeros_apart = (or_parts (is_ligature_transparent c) (in_ranges zeros c) f.zero).1
+  zeros_apart = (or_parts (is_ligature_transparent c) (in_ranges zeros c) f.empty).1
 
   opaque : is_ligature_transparent c ≡ false
-  opaque = (or_parts (is_ligature_transparent c) (in_ranges zeros c) f.zero).0
+  opaque = (or_parts (is_ligature_transparent c) (in_ranges zeros c) f.empty).0
 
   no_joiner : (c == 0x200D) ≡ false
   unfolding in_ranges
@@ -440,28 +394,14 @@ module _ (c : ℕ) (f : Facts c (alone false c) (is_emoji (kind c))) (apart : lo
 
   joins_left : (n : ℕ) (a : After) → Left c (alone false c).1 (is_shaky_after a) (joined_or n (joins false a c) (alone false c)).1
   unfolding joins before_alef in_ranges
-  joins_left n after.Nothing = inl refl
-  joins_left n after.LineFeed = inl refl
   joins_left n after.EmojiModifier = modified n (is_emoji_modifier_base c) refl
-  joins_left n after.RegionalIndicator = inl (own_none n c (joins false after.RegionalIndicator c) (rw (no_indicator)))
-  joins_left n after.RegionalIndicators = inl (own_none n c (joins false after.RegionalIndicators c) (rw (no_indicator, no_joiner)))
-  joins_left n after.Emoji = inl (own_none n c (joins false after.Emoji c) (rw (no_joiner)))
   joins_left n after.ZwjEmoji =
       inl
       (own_unless n c (c == 0x20E3) _ _ (none_of zeros c 0x20E3 zeros_apart refl)
       (own_unless n c (is_in_range 0x1F1E6 0x1F1FF c) _ _ no_indicator
       (own_if n c (is_in_range 0x1F3FB 0x1F3FF c) Same after.EmojiModifier _ f.toned
       (own_unless n c (c == 0xE007F) _ _ (none_of zeros c 0xE007F zeros_apart refl) (own_if n c (is_emoji (kind c)) Same after.Emoji None f.joined refl)))))
-  joins_left n after.KeycapZwjEmoji = inl refl
-  joins_left n after.IndicatorZwj = inl (own_none n c (joins false after.IndicatorZwj c) (rw (no_indicator)))
-  joins_left n after.EvenIndicatorsZwj = inl (own_none n c (joins false after.EvenIndicatorsZwj c) (rw (no_joiner, no_indicator)))
-  joins_left n after.OddIndicatorsZwj = inl (own_none n c (joins false after.OddIndicatorsZwj c) (rw (no_joiner, no_indicator)))
-  joins_left n after.TagEnd = inl (own_none n c (joins false after.TagEnd c) (rw (no_letter, no_digit)))
-  joins_left n after.TagDigit1 = inl (own_none n c (joins false after.TagDigit1 c) (rw (no_digit)))
-  joins_left n after.TagDigit2 = inl (own_none n c (joins false after.TagDigit2 c) (rw (no_digit)))
   joins_left n after.TagDigit3 = inl (own_if n c _ Same after.Emoji None turning_flag refl)
-  joins_left n after.TagLetter1 = inl (own_none n c (joins false after.TagLetter1 c) (rw (no_letter, no_digit)))
-  joins_left n after.TagLetter2 = inl (own_none n c (joins false after.TagLetter2 c) (rw (no_letter, no_digit)))
   joins_left n after.TagLetter3 = inl (own_unless n c _ _ _ no_letter (own_unless n c _ _ _ no_digit (own_if n c _ Same after.Emoji None turning_flag refl)))
   joins_left n after.TagLetter4 = inl (own_unless n c _ _ _ no_letter (own_unless n c _ _ _ no_digit (own_if n c _ Same after.Emoji None turning_flag refl)))
   joins_left n after.TagLetter5 = inl (own_unless n c _ _ _ no_letter (own_if n c _ Same after.Emoji None turning_flag refl))
@@ -472,30 +412,19 @@ module _ (c : ℕ) (f : Facts c (alone false c) (is_emoji (kind c))) (apart : lo
       inl
       (own_if n c (is_lam c) Same after.Nothing _ (λ e. f.closing (or_left (is_lam c) _ e))
       (own_unless n c (((alone false c).0 == 0) && joining_type_eq (joining_type c) Transparent) _ None (ap (λ b. b && joining_type_eq (joining_type c) Transparent) f.wide) refl))
-  joins_left n after.Solidus = inl refl
-  joins_left n after.SolidusAlef = inl refl
-  joins_left n after.Lamed = inl refl
   joins_left n after.ZwjLamed = inl (own_one n c (c == 0x05D0) Same (closing_at 0x05D0 refl))
-  joins_left n after.Ya = inl refl
-  joins_left n after.ZwjYa = inl (own_none n c (joins false after.ZwjYa c) (rw (none_of zeros c 0x1A17 zeros_apart refl)))
   joins_left n after.VowelZwjYa = inl (own_one n c (c == 0x1A15) Same (closing_at 0x1A15 refl))
-  joins_left n after.Tifinagh = inl (own_none n c (joins false after.Tifinagh c) (rw (no_tifinagh_joiner)))
   joins_left n after.ZwjTifinagh = joined n (c == 0x2D7F) (is_tifinagh c) no_tifinagh_joiner refl
   joins_left n after.JoinerTifinagh = less n (is_tifinagh c) refl
   joins_left n after.LisuTone = inl (own_one n c (is_in_range 0xA4F8 0xA4FB c) Same closing_lisu)
-  joins_left n after.OrkhonI = inl refl
   joins_left n after.ZwjOrkhonI = inl (own_one n c (c == 0x10C32) Same (closing_at 0x10C32 refl))
-  joins_left n after.KhmerLetter = inl (own_none n c (joins false after.KhmerLetter c) (rw (none_of zeros c 0x17D2 zeros_apart refl)))
+  joins_left n a = inl (own_none n c (joins false a c) (grind (arith, nat_tests, no_indicator, no_joiner, no_letter, no_digit, no_tifinagh_joiner, none_of zeros c 0x17D2 zeros_apart refl, none_of zeros c 0x1A17 zeros_apart refl)))
 
   past_selectors_left : (n : ℕ) (a : After) → Left c (alone false c).1 (is_shaky_after a) (past_selectors false c n a).1
   unfolding past_selectors
   past_selectors_left n a =
-      left_unless c (skips_marks a && (c == 0x200D)) _ _ _ _ (and_false (skips_marks a) _ no_joiner)
-      (left_unless c (skips_marks a && is_ligature_transparent c) _ _ _ _ (and_false (skips_marks a) _ opaque) (joins_left n a))
-    where
-      and_false : (a b : Bool) → b ≡ false → (a && b) ≡ false
-      and_false true b e = e
-      and_false false b e = refl
+      left_unless c (skips_marks a && (c == 0x200D)) _ _ _ _ (and_right (skips_marks a) _ no_joiner)
+      (left_unless c (skips_marks a && is_ligature_transparent c) _ _ _ _ (and_right (skips_marks a) _ opaque) (joins_left n a))
 
   presented : (b : Bool) → (b && is_text_presentation_base c) ≡ true → (b ≡ true) × (takes_marks c ≡ true)
   unfolding is_text_presentation_base
@@ -590,16 +519,24 @@ parts_leave c ds h n =
 
     settled : {x : State} → Left c (own c) (is_shaky (read_before false ds (n, plain)).1) x → (b : Bool) → takes_marks c ≡ b → (not b || is_bare (first ds)) ≡ true → x ≡ own c
     settled (inl e) b is k = e
-    settled (inr e) false is k = absurd (no (sym (and_parts (is_shaky (read_before false ds (n, plain)).1) (takes_marks c) e.0).1 ∙ is))
-      where
-        no : true ≡ false → ⊥
-        no x = cc
-    settled (inr e) true is k = absurd (no (sym (and_parts (is_shaky (read_before false ds (n, plain)).1) (takes_marks c) e.0).0 ∙ calm ds k))
-      where
-        no : true ≡ false → ⊥
-        no x = cc
+    settled (inr e) false is k = absurd (true≢false (sym (and_parts (is_shaky (read_before false ds (n, plain)).1) (takes_marks c) e.0).1 ∙ is))
+    settled (inr e) true is k = absurd (true≢false (sym (and_parts (is_shaky (read_before false ds (n, plain)).1) (takes_marks c) e.0).0 ∙ calm ds k))
 
 -- ---- the rule: texts that leave the same state act alike on what stands before them
+
+read-append : (xs ys : List ℕ) (r : Reading) → read_before false (xs ++ ys) r ≡ read_before false xs (read_before false ys r)
+read-append [] ys r = refl
+read-append (x ∷ xs) ys r = ap (step false x) (read-append xs ys r)
+
+-- so many columns, read as letters
+read_letters : (n : ℕ) → read_before false (replicate n 97) (0, plain) ≡ (n, plain)
+unfolding unicode_width
+read_letters zero = refl
+read_letters (suc n) = let e : n + 1 ≡ suc n = omega arith in ap (step false 97) (read_letters n) ∙ ap (λ m. (m, plain)) e
+
+letters_simple : (n : ℕ) → list_all is_simple (replicate n 97) ≡ true
+letters_simple zero = refl
+letters_simple (suc n) = letters_simple n
 
 module _ (s : State) (ds es : List ℕ) (p : Leaves s ds) (q : Leaves s es) where
   after_letters : (n : ℕ) (fs : List ℕ) → Leaves s fs → read_before false fs (n, plain) ≡ (str_width false fs + n, s)
@@ -801,11 +738,8 @@ selected_parts c ds h e =
       part = λ p ps is. selected_leaves c p h (by p (begun_part c ds p ps (base_joiner c h) is));
     }
   where
-    no : true ≡ false → ⊥
-    no x = cc
-
     by : (p : List ℕ) → Begins ds p → first p ≡ Some 0xFE0F
-    by _ (none k) = absurd (no (sym k ∙ ap stops e))
+    by _ (none k) = absurd (true≢false (sym k ∙ ap stops e))
     by _ (same d p k j) = sym k ∙ e
 
 pub columns_selected : (c : ℕ) (ds es : List ℕ) → is_emoji_variation_base c ≡ true → first ds ≡ Some 0xFE0F → first es ≡ Some 0xFE0F → (mode : GraphemeClusterMode) (cs : List ℕ) → Balanced (columns_of mode) cs (c ∷ ds) (c ∷ es)
@@ -831,13 +765,9 @@ all_flags_hold : (c : ℕ) → flags_hold c ≡ true
 unfolding unicode_width tables flags_stepped flag_letters rises_from
 all_flags_hold = Stepped-everywhere flags_hold flags_stepped refl
 
-implied_by : (a b : Bool) → a ≡ true → (not a || b) ≡ true → b ≡ true
-implied_by true b e h = h
-implied_by false b e h = cc
-
 flag_alone : (c : ℕ) → is_flag_letter c ≡ true → alone false c ≡ (1, before after.RegionalIndicator)
 unfolding alone flags_hold in_ranges flag_letters
-flag_alone c h = by (kind c) (implied_by (in_ranges flag_letters c) (is_indicator_kind (kind c)) (grind (arith, nat_tests, h)) (all_flags_hold c))
+flag_alone c h = by (kind c) (implied (in_ranges flag_letters c) (is_indicator_kind (kind c)) (grind (arith, nat_tests, h)) (all_flags_hold c))
   where
     by : (k : Kind) → is_indicator_kind k ≡ true → of_kind false c k ≡ (1, before after.RegionalIndicator)
     by kinds.RegionalIndicator e = refl
@@ -883,10 +813,7 @@ flags_unjoined (c ∷ cs) h =
     no_joiner c h = apart is_flag_letter c 0x200D h refl
 
 flags_leave : (a b : ℕ) (ds : List ℕ) → list_all is_flag_letter (a ∷ b ∷ ds) ≡ true → Leaves (before after.RegionalIndicators) (a ∷ b ∷ ds)
-flags_leave a b ds h n = ap (λ r. r.1) (read_flags n (a ∷ b ∷ ds) h ∙ ap (λ s. (n + length (a ∷ b ∷ ds), s)) (by ds))
-  where
-    by : (ds : List ℕ) → after_flags (a ∷ b ∷ ds) ≡ before after.RegionalIndicators
-    by ds = refl
+flags_leave a b ds h n = ap (λ r. r.1) (read_flags n (a ∷ b ∷ ds) h)
 
 flags_parts : (a b : ℕ) (ds : List ℕ) → list_all is_flag_letter (a ∷ b ∷ ds) ≡ true → Parts (before after.RegionalIndicators) a (b ∷ ds)
 flags_parts a b ds h =

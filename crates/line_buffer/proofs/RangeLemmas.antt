@@ -1,6 +1,5 @@
 -- The newline at the end of a row, and a part that is there.
-use Rattle.std.proofs.Common.{◌≡◌, ℕ, ◌+◌, ◌<◌, ◌≤◌, List, length, get_or, drop, refl, sym, ◌∙◌, inl, inr, arith}
-use Rattle.std.specs.Prelude.{true, is_some, Option, None, Some, IsUtf8, IsCharBoundary}
+use Rattle.std.proofs.Common.{◌≡◌, ℕ, ◌+◌, ◌<◌, ◌≤◌, List, length, get_or, drop, refl, sym, ◌∙◌, inl, inr, arith, true, is_some, Option, None, Some, IsUtf8, IsCharBoundary}
 use Rattle.line_buffer.specs.declared.range.TextSpan.{TextSpan}
 use Rattle.std.specs.List.{prefix_len}
 use Rattle.std.proofs.lemmas.List.{get_or-drop, length-drop}

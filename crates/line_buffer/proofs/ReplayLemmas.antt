@@ -1,6 +1,5 @@
 -- Calls of several events: what they make of a listener and of a text.
-use Rattle.std.proofs.Common.{◌≡◌, Bool, true, ℕ, ◌+◌, ◌-◌, arith, take, drop, List, [], ◌∷◌, ◌++◌, inr, refl, subst, ap, ◌∙◌}
-use Rattle.std.specs.Prelude.{if◌then◌else◌, Result, Ok, Err, OnErr, IsUtf8, IsCharBoundary}
+use Rattle.std.proofs.Common.{◌≡◌, Bool, true, ℕ, ◌+◌, ◌-◌, arith, take, drop, List, [], ◌∷◌, ◌++◌, inr, refl, subst, ap, ◌∙◌, if◌then◌else◌, IsUtf8, IsCharBoundary}
 use Rattle.std.specs.List.{replace_range, insert_slice}
 use Rattle.line_buffer.specs.Event.{ChangeEvent}
 use Rattle.line_buffer.specs.Replay.{Swaps, Replays, ReplaysAll, TakesAll, Reports, StopsAmong, wants_or}
@@ -28,10 +27,6 @@ reports_then {S} {takes} {es} {fs} {s} {t} {u} {a} {b} {c} x y = record {
   told = TakesAll-append takes es fs s t u x.told y.told;
   replays = ReplaysAll-append es fs a b c x.replays y.replays;
 }
-
--- what holds where the answer is an error
-pub on_refusal : {T E : Type 0} (r : Result T E) {P : Type 0} → P → OnErr r P
-on_refusal {T} {E} r {P} h = elim r as (λ r. OnErr r P) [ Ok x ↦ tt | Err x ↦ h ]
 
 -- the failed event, as another equation has it
 pub refused_as : {S : Type 0} (refuses : S → ChangeEvent → S → Type 0) {e f : ChangeEvent} {s t : S} → e ≡ f → wants_or refuses s e t → wants_or refuses s f t

@@ -1,6 +1,5 @@
 -- What replay leaves, as a function: of any events that replay, and of the events of each edit.
-use Rattle.std.proofs.Common.{◌≡◌, ℕ, ◌+◌, ◌-◌, ◌≤◌, ◌==◌, Bool, true, false, List, [], ◌∷◌, ◌++◌, length, Option, None, Some, refl, sym, ap, ◌∙◌, arith}
-use Rattle.std.specs.Prelude.{IfSome, slice_range, if◌then◌else◌, encode_utf8}
+use Rattle.std.proofs.Common.{◌≡◌, ℕ, ◌+◌, ◌-◌, ◌≤◌, Bool, true, false, List, [], ◌∷◌, ◌++◌, length, Option, None, Some, refl, sym, ap, ◌∙◌, arith, IfSome, slice_range, if◌then◌else◌, encode_utf8}
 use Rattle.std.specs.List.{replace_range, insert_slice, repeat}
 use Rattle.std.proofs.lemmas.List.{append-nil, drop_all}
 use Rattle.std.proofs.lemmas.List.Edits.{length-between}
@@ -9,20 +8,13 @@ use Rattle.line_buffer.specs.declared.types.Direction.{Direction}
 use Rattle.line_buffer.specs.declared.types.Direction.TheVariants.{Forward}
 use Rattle.line_buffer.specs.declared.types.Movement.{Movement}
 use Rattle.line_buffer.specs.Event.{ChangeEvent}
-use Rattle.line_buffer.specs.Event.ChangeEvent.{StartKilling, StopKilling, Delete, InsertChar, InsertStr, Replace}
+use Rattle.line_buffer.specs.Event.ChangeEvent.{StartKilling, StopKilling}
 use Rattle.line_buffer.specs.Indent.{indent_events, indent_line}
-use Rattle.line_buffer.specs.Insertions.{Insertion, has_room, text_that_fits, update_events, with_text_at_cursor, no_insertion, insertion_by, insertion_of, insert, yank, without_before, yank_pop}
+use Rattle.line_buffer.specs.Insertions.{text_that_fits, update_events, insert, yank, without_before, yank_pop}
 use Rattle.line_buffer.specs.Line.{Line}
 use Rattle.line_buffer.specs.Range.{IsSpanOf, range_of, deletion_events, deletion_line, kill_events, kill_line, goes_by_clusters}
-use Rattle.line_buffer.specs.Replay.{Replays, deletion, insertion, replacement, text_after_event, text_after_events, line_after_event, line_after_events}
-
-pub replayed_is : (e : ChangeEvent) (a b : List ℕ) → Replays e a b → b ≡ text_after_event e a
-replayed_is StartKilling a b h = h
-replayed_is StopKilling a b h = h
-replayed_is (Delete at text direction) a b h = h.becomes
-replayed_is (InsertChar at c) a b h = h.becomes
-replayed_is (InsertStr at text) a b h = h.becomes
-replayed_is (Replace at removed added) a b h = h.becomes
+use Rattle.line_buffer.specs.Replay.{deletion, insertion, replacement, text_after_event, text_after_events, line_after_event, line_after_events}
+use Rattle.line_buffer.proofs.InsertionLemmas.{insert_cases, yank_cases}
 
 pub replayed_all-append : (es fs : List ChangeEvent) (a : List ℕ) → text_after_events (es ++ fs) a ≡ text_after_events fs (text_after_events es a)
 unfolding text_after_events
@@ -59,27 +51,15 @@ update_replayed text l =
     ∙ ap (λ t. text_after_event (insertion 0 (text_that_fits text l)) t) (replayed_deletion l.text 0 (length l.text) Forward (omega arith) (omega arith) ∙ drop_all (length l.text) l.text (omega arith))
     ∙ append-nil (text_that_fits text l)
 
-insertion_by_replayed : (e : ChangeEvent) (added : List ℕ) (l : Line) → text_after_event e l.text ≡ insert_slice l.text l.place added
-    → text_after_events (insertion_by e added l).events l.text ≡ (insertion_by e added l).line.text
-insertion_by_replayed e added l h =
-    let put : Bool → Insertion = λ b. if b then record { answer = Some (l.place == length l.text); events = e ∷ []; line = with_text_at_cursor added l } else no_insertion l in
-    elim (has_room (length added) l) as (λ b. text_after_events (put b).events l.text ≡ (put b).line.text) [ true ↦ replayed_all-one e l.text ∙ h | false ↦ replayed_all-none l.text ]
-
-insertion_of_replayed : (text : List ℕ) (n : ℕ) (l : Line) → text_after_events (insertion_of text n l).events l.text ≡ (insertion_of text n l).line.text
-insertion_of_replayed text n l = insertion_by_replayed (insertion l.place (repeat n text)) (repeat n text) l (replayed_insertion l.text l.place (repeat n text))
-
 pub insert_replayed : (c n : ℕ) (l : Line) → text_after_events (insert c n l).events l.text ≡ (insert c n l).line.text
 insert_replayed c n l =
-    let put : Bool → Insertion = λ b. if b then insertion_by (InsertChar l.place c) (encode_utf8 c) l else insertion_of (encode_utf8 c) n l in
-    elim (n == 1) as (λ b. text_after_events (put b).events l.text ≡ (put b).line.text) [
-      | true ↦ insertion_by_replayed (InsertChar l.place c) (encode_utf8 c) l (replayed_insertion l.text l.place (encode_utf8 c))
-      | false ↦ insertion_of_replayed (encode_utf8 c) n l
-    ]
+    insert_cases (λ x. text_after_events x.events l.text ≡ x.line.text) c n l (replayed_all-none l.text)
+    (λ one. replayed_all-one _ l.text ∙ replayed_insertion l.text l.place (encode_utf8 c))
+    (replayed_all-one _ l.text ∙ replayed_insertion l.text l.place (repeat n (encode_utf8 c)))
 
 pub yank_replayed : (text : List ℕ) (n : ℕ) (l : Line) → text_after_events (yank text n l).events l.text ≡ (yank text n l).line.text
 yank_replayed text n l =
-    let put : Bool → Insertion = λ b. if b then no_insertion l else insertion_of text n l in
-    elim (length text == 0) as (λ b. text_after_events (put b).events l.text ≡ (put b).line.text) [ true ↦ replayed_all-none l.text | false ↦ insertion_of_replayed text n l ]
+    yank_cases (λ x. text_after_events x.events l.text ≡ x.line.text) text n l (replayed_all-none l.text) (replayed_all-one _ l.text ∙ replayed_insertion l.text l.place (repeat n text))
 
 pub yank_pop_replayed : (size : ℕ) (text : List ℕ) (l : Line) → l.place ≤ length l.text → text_after_events (yank_pop size text l).events l.text ≡ (yank_pop size text l).line.text
 yank_pop_replayed size text l fits =

@@ -1,7 +1,6 @@
 -- The text behind a text's first cluster is cut into the clusters that come after it: no rule reads past a break.
-use Rattle.std.proofs.Common.{◌≡◌, ℕ, Bool, true, false, not, cond, ◌&&◌, ◌||◌, List, [], ◌∷◌, ◌++◌, length, map, drop, unwrap_or, refl, sym, ap, ap₂, ◌∙◌, append_assoc, subst}
-use Rattle.std.specs.Prelude.{IsUtf8, IsCharBoundary, chars, encode_utf8_all}
-use Rattle.std.proofs.lemmas.Bool.{and_parts}
+use Rattle.std.proofs.Common.{◌≡◌, ℕ, Bool, true, false, not, cond, ◌&&◌, ◌||◌, List, [], ◌∷◌, ◌++◌, length, map, drop, unwrap_or, refl, sym, ap, ap₂, ◌∙◌, append_assoc, subst, IsUtf8, IsCharBoundary, chars, encode_utf8_all, arith}
+use Rattle.std.proofs.lemmas.Bool.{and_parts, not-true}
 use Rattle.std.proofs.lemmas.Str.{encodes-append, encodes-chars, IsUtf8-past_char}
 use Rattle.std.proofs.Math.Seq.{drop-append_seam}
 use Rattle.ucd_table.proofs.Stepped.{Stepped, zip_stepped}
@@ -19,6 +18,8 @@ use Rattle.ucd_emoji.specs.Binary.{is_extended_pictographic}
 use Rattle.ucd_emoji.proofs.BinaryLemmas.{is_extended_pictographic_stepped}
 use Rattle.unicode_segmentation.specs.Grapheme.{break_by_pair, joins_conjunct, joins_emoji, joins_flag, is_consonant, ends_in_linker, ends_in_pictograph, ends_in_half_flag, is_extend, is_zwj, is_regional, is_grapheme_break, graphemes}
 use Rattle.unicode_segmentation.specs.Segments.{cut, segments, prepend}
+use Rattle.line_buffer.proofs.JoinLemmas.{cut-some}
+use Rattle.line_buffer.proofs.ListedRanges.{implied}
 use Rattle.line_buffer.proofs.CutLemmas.{at_seam}
 use Rattle.line_buffer.proofs.FrontLemmas.{pieces, chars_encoded}
 
@@ -67,33 +68,13 @@ all_dull : (c : ℕ) → dull c ≡ true
 unfolding tables dull_stepped indic_conjunct_break_stepped grapheme_cluster_break_stepped is_extended_pictographic_stepped
 all_dull = Stepped-everywhere dull dull_stepped refl
 
-implied : (a b : Bool) → a ≡ true → (not a || b) ≡ true → b ≡ true
-implied true b e h = h
-implied false b e h = cc
-
-not_true : (b : Bool) → not b ≡ true → b ≡ false
-not_true true h = sym h
-not_true false h = refl
-
 -- such a character is joined to what stands before it, unless that is a control character
 after_control : (v w : GraphemeClusterBreak) (b : Bool) → joins_before w ≡ true → unwrap_or (break_by_pair true v w) b ≡ true → is_control v ≡ true
 after_control Gcb.Control w b j h = refl
 after_control Gcb.Cr w b j h = refl
 after_control Gcb.Lf w b j h = refl
-after_control v Gcb.Extend b j h = by v h
-  where
-    by : (v : GraphemeClusterBreak) → unwrap_or (break_by_pair true v Gcb.Extend) b ≡ true → is_control v ≡ true
-    by Gcb.Control e = refl
-    by Gcb.Cr e = refl
-    by Gcb.Lf e = refl
-    by _ e = e
-after_control v Gcb.Zwj b j h = by v h
-  where
-    by : (v : GraphemeClusterBreak) → unwrap_or (break_by_pair true v Gcb.Zwj) b ≡ true → is_control v ≡ true
-    by Gcb.Control e = refl
-    by Gcb.Cr e = refl
-    by Gcb.Lf e = refl
-    by _ e = e
+after_control _ Gcb.Extend b j h = h
+after_control _ Gcb.Zwj b j h = h
 after_control v _ b j h = absurd (let e : false ≡ true = j in cc)
 
 -- ---- the rules see the same with a text before the break and without it
@@ -115,7 +96,7 @@ control_extends _ h = refl
 
 last_false : (a b : Bool) → not (a || b) ≡ true → b ≡ false
 last_false true b h = absurd cc
-last_false false b h = not_true b h
+last_false false b h = not-true b h
 
 first_false : (a b : Bool) → b ≡ true → (a && b) ≡ false → a ≡ false
 first_false true b e h = sym e ∙ h
@@ -137,7 +118,7 @@ nothing_seen c x before rest h = record {
     clear j =
         let control = after_control (grapheme_cluster_break c) (grapheme_cluster_break x) none j h in
         let both = and_parts (not (links (indic_conjunct_break c))) (not (is_extended_pictographic c)) (implied (is_control (grapheme_cluster_break c)) _ control (all_dull c)) in
-        (control, not_true _ both.0, not_true _ both.1)
+        (control, not-true _ both.0, not-true _ both.1)
 
     no_pictograph : joins_before (grapheme_cluster_break x) ≡ true → ends_in_pictograph (c ∷ before) ≡ false
     no_pictograph j =
@@ -212,6 +193,14 @@ module _ (x : ℕ) (before : List ℕ) (seen : NothingSeen x before) where
   same_pieces [] zs = refl
   same_pieces (c ∷ cs) zs = ap₂ (λ b ps. cond b ((c ∷ []) ∷ ps) (prepend (c ∷ []) ps)) (same_breaks (c ∷ zs) (cs ++ [])) (same_pieces cs (c ∷ zs))
 
+-- what stands before a break isn't seen behind it
+pub pieces_behind : (c : ℕ) (before ds : List ℕ) → is_grapheme_break true (c ∷ before) (ds ++ []) ≡ true → pieces [] ds ≡ pieces (c ∷ before) ds
+unfolding cut
+pieces_behind c before [] e = refl
+pieces_behind c before (d ∷ ds) e =
+    let seen = nothing_seen c d before (ds ++ []) e in
+    sym (ap₂ (λ b ps. cond b ((d ∷ []) ∷ ps) (prepend (d ∷ []) ps)) (same_breaks d (c ∷ before) seen [] (ds ++ [])) (same_pieces d (c ∷ before) seen ds []))
+
 -- ---- behind the first piece
 abbrev Behind : List ℕ → List ℕ → List (List ℕ) → Type 0
 Behind cs q qs = (c : ℕ) × (before : List ℕ) × (ds : List ℕ) × (cs ≡ q ++ ds) × (pieces (c ∷ before) ds ≡ qs) × (is_grapheme_break true (c ∷ before) (ds ++ []) ≡ true)
@@ -219,12 +208,7 @@ Behind cs q qs = (c : ℕ) × (before : List ℕ) × (ds : List ℕ) × (cs ≡ 
 no_pieces : (before cs : List ℕ) → pieces before cs ≡ [] → cs ≡ []
 unfolding cut
 no_pieces before [] h = refl
-no_pieces before (c ∷ cs) h = absurd (by (is_grapheme_break true (c ∷ before) (cs ++ [])) (pieces (c ∷ before) cs) h)
-  where
-    by : (b : Bool) (rest : List (List ℕ)) → cond b ((c ∷ []) ∷ rest) (prepend (c ∷ []) rest) ≡ [] → ⊥
-    by true rest h = cc
-    by false [] h = cc
-    by false (p ∷ rest) h = cc
+no_pieces before (c ∷ cs) h = absurd (omega (arith, cut-some before c cs, ap length h))
 
 cut_rest : (cs before q : List ℕ) (qs : List (List ℕ)) → pieces before cs ≡ q ∷ qs → Behind cs q qs
 unfolding cut is_grapheme_break
@@ -244,14 +228,7 @@ cut_rest (c ∷ cs) before q qs h = by (λ p ps e. cut_rest cs (c ∷ before) p 
         (inner.0, inner.1, inner.2, ap (λ t. c ∷ t) inner.3 ∙ ap (λ t. t ++ inner.2) first, inner.4 ∙ ap (drop 1) h, inner.5)
 
 pieces_rest : (cs q : List ℕ) (qs : List (List ℕ)) → pieces [] cs ≡ q ∷ qs → (ds : List ℕ) × (cs ≡ q ++ ds) × (pieces [] ds ≡ qs)
-unfolding cut
-pieces_rest cs q qs h = let b = cut_rest cs [] q qs h in (b.2, b.3, by b.0 b.1 b.2 b.5 ∙ b.4)
-  where
-    by : (c : ℕ) (before ds : List ℕ) → is_grapheme_break true (c ∷ before) (ds ++ []) ≡ true → pieces [] ds ≡ pieces (c ∷ before) ds
-    by c before [] e = refl
-    by c before (d ∷ ds) e =
-        let seen = nothing_seen c d before (ds ++ []) e in
-        sym (ap₂ (λ b ps. cond b ((d ∷ []) ∷ ps) (prepend (d ∷ []) ps)) (same_breaks d (c ∷ before) seen [] (ds ++ [])) (same_pieces d (c ∷ before) seen ds []))
+pieces_rest cs q qs h = let b = cut_rest cs [] q qs h in (b.2, b.3, pieces_behind b.0 b.1 b.2 b.5 ∙ b.4)
 
 -- ---- the same of the text's bytes
 utf8_behind : (cs ds : List ℕ) → IsUtf8 (encode_utf8_all cs ++ encode_utf8_all ds) → IsUtf8 (encode_utf8_all ds)

@@ -1,12 +1,11 @@
 -- Where the rows of a text start and end.
-use Rattle.std.proofs.Common.{◌⊎◌, inl, inr, subst, zero-add, ◌≡◌, ◌≢◌, ℕ, zero, suc, ◌+◌, ◌-◌, ◌<◌, ◌≤◌, ◌==◌, Bool, true, false, not, cond, List, [], ◌∷◌, ◌++◌, length, map, reverse, filter, take, drop, get_or, refl, sym, ap, ◌∙◌, arith, le_refl, length-take, length-drop, take_all, take-take, take-append-drop, get_or-take, get_or-drop}
-use Rattle.std.specs.Prelude.{IsUtf8, IsCharBoundary}
+use Rattle.std.proofs.Common.{inl, inr, subst, zero-add, ◌≡◌, ◌≢◌, ℕ, zero, suc, ◌+◌, ◌-◌, ◌<◌, ◌≤◌, ◌==◌, Bool, true, false, not, cond, List, [], ◌∷◌, ◌++◌, length, map, reverse, filter, take, drop, get_or, refl, sym, ap, ◌∙◌, arith, le_refl, length-take, length-drop, take_all, take-take, take-append-drop, get_or-take, get_or-drop, IsUtf8, IsCharBoundary, ne_eqb, eq-eqb}
 use Rattle.std.specs.List.{list_all, prefix_len, suffix_len, enumerate_from}
+use Rattle.std.proofs.lemmas.Bool.{cases_lt}
 use Rattle.std.proofs.lemmas.List.Folds.{list_all_at}
 use Rattle.std.proofs.lemmas.Str.{IsCharBoundary-after_ascii, IsCharBoundary-before_ascii, IsCharBoundary-start, IsCharBoundary-end}
 use Rattle.std.proofs.lemmas.List.{reverse-append, length-reverse, get_or-reverse, drop_more, length-take-le}
 use Rattle.std.proofs.lemmas.List.Sums.{prefix_len_is, prefix_len_passes, prefix_len_stops, prefix_len-le-length, suffix_len_is}
-use borrow.Author.Tests.{ne_eqb, eq-eqb}
 use Rattle.line_buffer.specs.Rows.{FindsPlace, is_in_row, row_start, row_end, behind_newlines, row_starts, row_close}
 
 -- ---- the first newline, and the last
@@ -42,12 +41,23 @@ in_row_at bs i h l = by (is_in_row (get_or bs i 0)) refl
     by true e = refl
     by false e = sym (list_all_at is_in_row bs i 0 l e) ∙ h
 
+-- after a newline a text may be cut
+pub behind_newline : (text : List ℕ) (start : ℕ) → IsUtf8 text → (0 < start → (start - 1 < length text) × (get_or text (start - 1) 0 ≡ 10)) → IsCharBoundary text start
+behind_newline text zero u h = IsCharBoundary-start text u
+behind_newline text (suc k) u h =
+    let same : suc k - 1 ≡ k = omega arith in
+    let next : k + 1 ≡ suc k = omega arith in
+    let here = h (omega arith) in
+    let inside : k < length text = omega (arith, here.0) in
+    let low : get_or text k 0 < 128 = omega (arith, ap (λ j. get_or text j 0) (sym same) ∙ here.1) in
+    subst (IsCharBoundary text) next (IsCharBoundary-after_ascii text k u inside low)
+
 pub finds_row_start : (text bytes : List ℕ) (start : ℕ) → bytes ≡ text → IsUtf8 text → start ≤ length bytes → (0 < start → get_or bytes (start - 1) 0 ≡ 10) → list_all is_in_row (drop start bytes) ≡ true
     → FindsPlace (row_start text (length text)) text start
 finds_row_start text bytes start same u fits newline in_row =
     subst (λ bs. FindsPlace (row_start bs (length bs)) bs start) same (record {
       value = sym (row_start_is bytes start (record { fits = fits; newline = newline; none = none }));
-      boundary = by start fits newline;
+      boundary = behind_newline bytes start (subst IsUtf8 (sym same) u) (λ l. (omega (arith, l, fits), newline l));
     })
   where
     none : (i : ℕ) → start ≤ i → i < length bytes → get_or bytes i 0 ≢ 10
@@ -56,29 +66,18 @@ finds_row_start text bytes start same u fits newline in_row =
         not_newline (get_or bytes i 0) (ap (λ k. is_in_row (get_or bytes k 0)) (sym place) ∙ ap is_in_row (sym (get_or-drop start bytes (i - start) 0))
         ∙ in_row_at (drop start bytes) (i - start) in_row (omega (arith, l, m, length-drop start bytes)))
 
-    by : (n : ℕ) → n ≤ length bytes → (0 < n → get_or bytes (n - 1) 0 ≡ 10) → IsCharBoundary bytes n
-    by zero l h = IsCharBoundary-start bytes (subst IsUtf8 (sym same) u)
-    by (suc n) l h =
-        let k : suc n - 1 ≡ n = omega arith in
-        let e : get_or bytes n 0 ≡ 10 = ap (λ j. get_or bytes j 0) (sym k) ∙ h (omega arith) in
-        let m : n + 1 ≡ suc n = omega arith in
-        subst (IsCharBoundary bytes) m (IsCharBoundary-after_ascii bytes n (subst IsUtf8 (sym same) u) (omega (arith, l)) (omega (arith, e)))
-
 pub finds_row_end : (text bytes : List ℕ) (end : ℕ) → bytes ≡ text → end ≤ length bytes → (end < length bytes → get_or bytes end 0 ≡ 10) → list_all is_in_row (take end bytes) ≡ true → FindsPlace (row_end text 0) text end
 finds_row_end text bytes end same fits newline in_row =
     subst (λ bs. FindsPlace (row_end bs 0) bs end) same (record {
       value = sym (zero-add _ ∙ prefix_len_is is_in_row bytes end 0 fits inside (λ l. ap not (eq-eqb _ 10 (newline l))));
-      boundary = elim (le_or_eq end (length bytes) fits) [
+      boundary = elim (cases_lt end (length bytes)) [
         | inl l ↦ IsCharBoundary-before_ascii bytes end l (omega (arith, newline l))
-        | inr e ↦ subst (IsCharBoundary bytes) (sym e) (IsCharBoundary-end bytes)
+        | inr e ↦ subst (IsCharBoundary bytes) (let last : length bytes ≡ end = omega (arith, e, fits) in last) (IsCharBoundary-end bytes)
       ];
     })
   where
     inside : (k : ℕ) → k < end → is_in_row (get_or bytes k 0) ≡ true
     inside k l = ap is_in_row (sym (get_or-take end bytes k 0 l)) ∙ in_row_at (take end bytes) k in_row (omega (arith, l, length-take-le end bytes fits))
-
-    le_or_eq : (i j : ℕ) → i ≤ j → (i < j) ⊎ (i ≡ j)
-    le_or_eq i j l = grind (arith, l)
 
 pub row_close_some : (bs : List ℕ) (k : ℕ) → (k < length bs) × (get_or bs k 0 ≡ 10) × ((i : ℕ) → i < k → get_or bs i 0 ≢ 10) → row_close bs 0 ≡ k + 1
 row_close_some bs k h = omega (arith, row_len_some bs k h, h.0)

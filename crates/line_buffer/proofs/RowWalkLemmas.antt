@@ -1,14 +1,13 @@
 -- The walks from row to row: a turn finds the start of one row more.
-use Rattle.std.proofs.Common.{◌≡◌, ◌≢◌, ℕ, zero, suc, ◌+◌, ◌-◌, ◌<◌, List, [], ◌∷◌, length, take, drop, slice_range, get_or, Option, None, Some, refl, sym, ap, ◌∙◌, subst, arith, length-take, length-drop, get_or-take, get_or-drop}
-use Rattle.std.specs.Prelude.{option_map, IfSome, IsUtf8, IsCharBoundary}
+use Rattle.std.proofs.Common.{◌≡◌, ◌≢◌, ℕ, zero, suc, ◌+◌, ◌-◌, ◌<◌, List, [], ◌∷◌, length, take, drop, slice_range, get_or, Option, None, Some, refl, sym, ap, ◌∙◌, arith, length-take, length-drop, get_or-take, get_or-drop, option_map, IfSome, IsUtf8, IsCharBoundary}
 use Rattle.std.specs.List.{last_or}
 use Rattle.std.proofs.lemmas.List.{drop-drop}
-use Rattle.std.proofs.lemmas.Str.{IsCharBoundary-start, IsCharBoundary-after_ascii}
+use Rattle.std.proofs.lemmas.Str.{IsCharBoundary-start}
 use Rattle.line_buffer.specs.Line.{Line, text_after}
 use Rattle.line_buffer.specs.Clusters.{nth_or_last}
 use Rattle.line_buffer.specs.Rows.{row_start, behind_newlines, starts_below}
 use Rattle.line_buffer.proofs.ChainLemmas.{nth_or_last-map}
-use Rattle.line_buffer.proofs.RowStartLemmas.{behind-shift, opens_last_row, rows_back, rows_over, rows_over-take, rows_back_is, behind_first, behind_none}
+use Rattle.line_buffer.proofs.RowStartLemmas.{behind-shift, opens_last_row, rows_back, rows_over, rows_over-take, rows_back_is, behind_first, behind_none, behind_newline}
 
 -- one place of a list is taken
 took_one : (found : Option ℕ) (left less : ℕ) (xs ys : List ℕ) (r : ℕ) → left ≡ less + 1 → xs ≡ r ∷ ys → last_or found (take left xs) ≡ last_or (Some r) (take less ys)
@@ -21,17 +20,6 @@ took_all found left xs e = ap (λ k. last_or found (take k xs)) e
 took_rest : (found : Option ℕ) (left : ℕ) (xs : List ℕ) → xs ≡ [] → last_or found (take left xs) ≡ found
 took_rest found zero xs e = refl
 took_rest found (suc left) xs e = ap (λ zs. last_or found (take (suc left) zs)) e
-
--- after a newline a text may be cut
-pub behind_newline : (text : List ℕ) (start : ℕ) → IsUtf8 text → (0 < start → (start - 1 < length text) × (get_or text (start - 1) 0 ≡ 10)) → IsCharBoundary text start
-behind_newline text zero u h = IsCharBoundary-start text u
-behind_newline text (suc k) u h =
-    let same : suc k - 1 ≡ k = omega arith in
-    let next : k + 1 ≡ suc k = omega arith in
-    let here = h (omega arith) in
-    let inside : k < length text = omega (arith, here.0) in
-    let low : get_or text k 0 < 128 = omega (arith, ap (λ j. get_or text j 0) (sym same) ∙ here.1) in
-    subst (IsCharBoundary text) next (IsCharBoundary-after_ascii text k u inside low)
 
 -- ---- up
 

@@ -1,6 +1,5 @@
 -- What a movement names is a part of the text between characters: a fact of the definitions.
-use Rattle.std.proofs.Common.{◌≡◌, ℕ, suc, ◌+◌, ◌-◌, ◌<◌, ◌≤◌, ◌==◌, Bool, true, false, cond, List, [], ◌∷◌, length, map, reverse, take, drop, get_or, Option, None, Some, refl, sym, ap, ◌∙◌, subst, ◌⊎◌, inl, inr, arith, nat_lt}
-use Rattle.std.specs.Prelude.{IsUtf8, IsCharBoundary, IfSome, All, option_map, unwrap_or, filter, encode_utf8, if◌then◌else◌}
+use Rattle.std.proofs.Common.{◌≡◌, ℕ, suc, ◌+◌, ◌-◌, ◌<◌, ◌≤◌, ◌==◌, Bool, true, false, cond, List, [], ◌∷◌, length, map, reverse, take, drop, get_or, Option, None, Some, refl, sym, ap, ◌∙◌, subst, ◌⊎◌, inl, inr, arith, nat_lt, IsUtf8, IsCharBoundary, IfSome, All, option_map, unwrap_or, filter, encode_utf8, if◌then◌else◌}
 use Rattle.std.specs.List.{prefix_len, enumerate_from}
 use Rattle.std.proofs.lemmas.Bool.Decides.{nat_tests}
 use Rattle.std.proofs.lemmas.List.{length-drop, length-take-le, length-reverse, drop-drop, get_or-drop, get_or-take, get_or-reverse}

@@ -1,35 +1,23 @@
 -- The clusters of a text with a tab in it: those before the tab, the tab, and those after it.
-use Rattle.std.proofs.Common.{◌≡◌, ℕ, zero, suc, ◌+◌, ◌<◌, Bool, true, false, not, cond, ◌&&◌, ◌||◌, List, [], ◌∷◌, ◌++◌, length, map, Option, unwrap_or, refl, sym, ap, ap₂, ◌∙◌, arith, slice_index}
-use Rattle.std.specs.Prelude.{IsUtf8, chars, encode_utf8, encode_utf8_all}
+use Rattle.std.proofs.Common.{◌≡◌, ℕ, zero, suc, ◌+◌, ◌<◌, Bool, true, not, cond, ◌&&◌, ◌||◌, List, [], ◌∷◌, ◌++◌, length, map, unwrap_or, refl, sym, ap, ap₂, ◌∙◌, arith, slice_index, IsUtf8, chars, encode_utf8, encode_utf8_all}
 use Rattle.std.proofs.lemmas.List.{append-nil, map-append}
 use Rattle.std.proofs.lemmas.Str.{IsUtf8-append, IsUtf8-from_ascii, chars-append, chars_past_char, encode_ascii}
 use Rattle.ucd_breaks.specs.GraphemeClusterBreak.{grapheme_cluster_break}
 use Rattle.ucd_breaks.specs.declared.GraphemeClusterBreak.{GraphemeClusterBreak}
 use Rattle.ucd_breaks.specs.declared.GraphemeClusterBreak.TheVariants.{Control, Cr}
-use Rattle.ucd_derived.specs.IndicConjunctBreak.{indic_conjunct_break}
-use Rattle.ucd_derived.specs.declared.IndicConjunctBreak.{IndicConjunctBreak}
-use Rattle.ucd_derived.specs.declared.IndicConjunctBreak.TheVariants as InCb
-use Rattle.ucd_emoji.specs.Binary.{is_extended_pictographic}
-use Rattle.unicode_segmentation.specs.Grapheme.{break_by_pair, ends_in_linker, is_consonant, joins_conjunct, is_zwj, is_extend, is_regional, ends_in_pictograph, joins_emoji, ends_in_half_flag, joins_flag, is_grapheme_break, graphemes}
+use Rattle.unicode_segmentation.specs.Grapheme.{break_by_pair, joins_conjunct, joins_emoji, joins_flag, is_grapheme_break, graphemes}
 use Rattle.unicode_segmentation.specs.Segments.{cut, segments, prepend, with_offsets}
 use Rattle.unicode_segmentation.proofs.Computing.{unicode_segmentation}
 use Rattle.unicode_segmentation.proofs.GraphemeLemmas.{is_grapheme_break-inside}
 use Rattle.unicode_segmentation.proofs.SegmentsLemmas.{concat-segments}
 use Rattle.line_buffer.specs.Clusters.{clusters}
 use Rattle.line_buffer.proofs.JoinLemmas.{next_alone, cut-some, cut-join, with_offsets-append}
+use Rattle.line_buffer.proofs.RestLemmas.{pieces_behind}
 
 -- ---- a tab, and what the rules see of it
 tab_class : grapheme_cluster_break 9 ≡ Control
 unfolding unicode_segmentation
 tab_class = refl
-
-tab_no_pictograph : is_extended_pictographic 9 ≡ false
-unfolding unicode_segmentation
-tab_no_pictograph = refl
-
-tab_ends_linker : (vs : List IndicConjunctBreak) → ends_in_linker (indic_conjunct_break 9 ∷ vs) ≡ false
-unfolding unicode_segmentation
-tab_ends_linker vs = refl
 
 breaks-after_tab : (before after : List ℕ) → is_grapheme_break true (9 ∷ before) after ≡ true
 unfolding is_grapheme_break
@@ -49,49 +37,11 @@ breaks-before_tab c before after =
     by_class Cr = refl
     by_class _ = refl
 
--- ---- what stands before a tab isn't seen after it
-linker-step : (v : IndicConjunctBreak) (xs ys : List IndicConjunctBreak) → ends_in_linker xs ≡ ends_in_linker ys → ends_in_linker (v ∷ xs) ≡ ends_in_linker (v ∷ ys)
-unfolding ends_in_linker
-linker-step InCb.Extend xs ys e = e
-linker-step _ xs ys e = refl
-
-linker-past : (front back : List ℕ) → ends_in_linker (map indic_conjunct_break (front ++ 9 ∷ back)) ≡ ends_in_linker (map indic_conjunct_break front)
-unfolding ends_in_linker
-linker-past [] back = tab_ends_linker (map indic_conjunct_break back)
-linker-past (c ∷ front) back = linker-step (indic_conjunct_break c) _ _ (linker-past front back)
-
-pictograph-past : (front back : List ℕ) → ends_in_pictograph (front ++ 9 ∷ back) ≡ ends_in_pictograph front
-unfolding ends_in_pictograph
-pictograph-past [] back =
-    ap (λ b. b || (is_extend (grapheme_cluster_break 9) && ends_in_pictograph back)) tab_no_pictograph ∙ ap (λ v. is_extend v && ends_in_pictograph back) tab_class
-pictograph-past (c ∷ front) back = ap (λ b. is_extended_pictographic c || (is_extend (grapheme_cluster_break c) && b)) (pictograph-past front back)
-
-flag-past : (front back : List ℕ) → ends_in_half_flag (front ++ 9 ∷ back) ≡ ends_in_half_flag front
-unfolding ends_in_half_flag
-flag-past [] back = ap (λ v. is_regional v && not (ends_in_half_flag back)) tab_class
-flag-past (c ∷ front) back = ap (λ b. is_regional (grapheme_cluster_break c) && not b) (flag-past front back)
-
-rule-past : (c : ℕ) (front back after : List ℕ) → is_grapheme_break true (c ∷ (front ++ 9 ∷ back)) after ≡ is_grapheme_break true (c ∷ front) after
-unfolding is_grapheme_break
-rule-past c front back [] = refl
-rule-past c front back (next ∷ after) =
-    ap (λ b. unwrap_or pair (not ((true && (b && is_consonant (indic_conjunct_break next))) || joins_emoji (c ∷ (front ++ 9 ∷ back)) next || joins_flag (c ∷ (front ++ 9 ∷ back)) next))) (linker-past (c ∷ front) back)
-    ∙ ap (λ b. unwrap_or pair (not ((true && joins_conjunct (c ∷ front) next) || (is_zwj (grapheme_cluster_break c) && b && is_extended_pictographic next) || joins_flag (c ∷ (front ++ 9 ∷ back)) next))) (pictograph-past front back)
-    ∙ ap (λ b. unwrap_or pair (not ((true && joins_conjunct (c ∷ front) next) || joins_emoji (c ∷ front) next || (b && is_regional (grapheme_cluster_break next))))) (flag-past (c ∷ front) back)
-  where
-    pair : Option Bool
-    pair = break_by_pair true (grapheme_cluster_break c) (grapheme_cluster_break next)
-
-cut-past : (cs front back : List ℕ) → cut (is_grapheme_break true) (front ++ 9 ∷ back) cs [] ≡ cut (is_grapheme_break true) front cs []
-unfolding cut
-cut-past [] front back = refl
-cut-past (c ∷ cs) front back = ap₂ (λ b rest. cond b ((c ∷ []) ∷ rest) (prepend (c ∷ []) rest)) (rule-past c front back (cs ++ [])) (cut-past cs (c ∷ front) back)
-
 -- ---- a tab cuts
 cut-tab : (cs ds before : List ℕ) → cut (is_grapheme_break true) before (cs ++ 9 ∷ ds) [] ≡ cut (is_grapheme_break true) before cs [] ++ (9 ∷ []) ∷ cut (is_grapheme_break true) [] ds []
 unfolding cut is_grapheme_break
 cut-tab [] ds before =
-    ap₂ (λ b rest. cond b ((9 ∷ []) ∷ rest) (prepend (9 ∷ []) rest)) (breaks-after_tab before (ds ++ [])) (cut-past ds [] before)
+    ap₂ (λ b rest. cond b ((9 ∷ []) ∷ rest) (prepend (9 ∷ []) rest)) (breaks-after_tab before (ds ++ [])) (sym (pieces_behind 9 before ds (breaks-after_tab before (ds ++ []))))
 cut-tab (c ∷ []) ds before =
     ap₂ (λ b rest. cond b ((c ∷ []) ∷ rest) (prepend (c ∷ []) rest)) (breaks-before_tab c before (ds ++ [])) (cut-tab [] ds (c ∷ before))
 cut-tab (c ∷ (d ∷ cs)) ds before =

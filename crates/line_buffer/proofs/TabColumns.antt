@@ -1,14 +1,12 @@
 -- Columns and boundaries of a row with a tab in it: those before the tab, and those after it.
-use Rattle.std.proofs.Common.{◌≡◌, ◌≢◌, ℕ, suc, ◌+◌, ◌-◌, ◌*◌, ◌<◌, ◌≤◌, ◌==◌, nat_le, Bool, true, false, cond, List, [], ◌∷◌, ◌++◌, length, map, filter, take, drop, get_or, Option, None, Some, refl, sym, ap, ap₂, ◌∙◌, subst, arith, length-append, length-drop, length-take, drop-cons, take-append-drop, get_or-take, get_or-drop}
-use Rattle.std.specs.Prelude.{option_map, unwrap_or, IsUtf8, IsCharBoundary, All, slice_range}
+use Rattle.std.proofs.Common.{◌≡◌, ◌≢◌, ℕ, suc, ◌+◌, ◌-◌, ◌*◌, ◌<◌, ◌≤◌, ◌==◌, nat_le, Bool, true, false, cond, List, [], ◌∷◌, ◌++◌, length, map, filter, take, drop, get_or, Option, None, Some, refl, sym, ap, ap₂, ◌∙◌, subst, arith, length-append, length-drop, length-take, drop-cons, take-append-drop, get_or-take, get_or-drop, option_map, unwrap_or, IsUtf8, IsCharBoundary, All, slice_range, ne_eqb}
 use Rattle.std.specs.List.{last_or, concat, slice_split}
-use Rattle.std.proofs.lemmas.Bool.Decides.{nat_tests}
-use Rattle.std.proofs.lemmas.List.{map-append, drop-drop, take-append-le}
+use Rattle.std.proofs.lemmas.Bool.{le-leb, lt-leb}
+use Rattle.std.proofs.lemmas.List.{append-nil, map-append, drop-drop, take-append-le}
 use Rattle.std.proofs.lemmas.List.Elements.{filter-append, All-from_get_or}
 use Rattle.std.proofs.lemmas.List.Splits.{slice_split_none, slice_split_at, length-slice_split}
 use Rattle.std.proofs.lemmas.Str.{chars-nil, IsUtf8-take, IsUtf8-drop, IsCharBoundary-start, IsCharBoundary-before_ascii, IsCharBoundary-after_ascii}
 use Rattle.std.proofs.Math.Seq.{take-append-add}
-use borrow.Author.Tests.{ne_eqb}
 use Rattle.unicode_segmentation.specs.Grapheme.{graphemes, is_grapheme_break}
 use Rattle.unicode_segmentation.specs.Segments.{with_offsets}
 use Rattle.unicode_segmentation.proofs.SegmentsLemmas.{concat-segments}
@@ -20,7 +18,7 @@ use Rattle.line_buffer.specs.Clusters.{clusters, cluster_ends}
 use Rattle.line_buffer.specs.Columns.{boundary_columns, place_at_column}
 use Rattle.line_buffer.specs.Tabs.{tab_end, parts_end, column_after}
 use Rattle.line_buffer.specs.Width.{columns_of, width_of}
-use Rattle.line_buffer.proofs.ChainLemmas.{option_map-last_or}
+use Rattle.line_buffer.proofs.ChainLemmas.{option_map-last_or, last_or-append}
 use Rattle.line_buffer.proofs.TabClusters.{clusters-tab}
 
 -- a text without tabs, and a text whose first tab is at a place
@@ -173,12 +171,8 @@ module _ (mode : GraphemeClusterMode) (stops : TabStops) where
 
   boundaries_plain : (first : ℕ) (row : List ℕ) → IsUtf8 row → NoTabs row → boundary_columns mode (Some stops) first row ≡ boundary_columns mode None first row
   boundaries_plain first row u none =
-      ap (λ t. map (measure (Some stops) first t) (0 ∷ cluster_ends row)) (sym (append_nil row))
+      ap (λ t. map (measure (Some stops) first t) (0 ∷ cluster_ends row)) (sym (append-nil row))
       ∙ ap₂ (λ x more. x ∷ more) (measure_in_front first row [] 0 none (omega arith)) (fronts first row [] none 0 (graphemes true row) (omega (arith, whole_of row u)))
-    where
-      append_nil : (xs : List ℕ) → xs ++ [] ≡ xs
-      append_nil [] = refl
-      append_nil (x ∷ xs) = ap (λ t. x ∷ t) (append_nil xs)
 
   boundaries_past : (first : ℕ) (xs ys : List ℕ) → IsUtf8 xs → IsUtf8 ys → NoTabs xs
       → boundary_columns mode (Some stops) first (xs ++ 9 ∷ ys)
@@ -209,12 +203,6 @@ module _ (mode : GraphemeClusterMode) (stops : TabStops) where
   abbrev place_of : Option (ℕ × ℕ) → ℕ
   place_of o = unwrap_or (option_map (λ x. x.0) o) 0
 
-  yes : (a b : ℕ) → a ≤ b → nat_le a b ≡ true
-  yes a b l = grind (arith, nat_tests)
-
-  no : (a b : ℕ) → b < a → nat_le a b ≡ false
-  no a b l = grind (arith, nat_tests)
-
   filter_shift : (column n : ℕ) (xs : List (ℕ × ℕ)) → filter (fits column) (map (shift n) xs) ≡ map (shift n) (filter (fits column) xs)
   filter_shift column n [] = refl
   filter_shift column n (x ∷ xs) = by_test (fits column x) (filter_shift column n xs)
@@ -223,10 +211,6 @@ module _ (mode : GraphemeClusterMode) (stops : TabStops) where
           → cond b (shift n x ∷ filter (fits column) (map (shift n) xs)) (filter (fits column) (map (shift n) xs)) ≡ map (shift n) (cond b (x ∷ filter (fits column) xs) (filter (fits column) xs))
       by_test true e = ap (λ ys. shift n x ∷ ys) e
       by_test false e = e
-
-  last_append : (o : Option (ℕ × ℕ)) (xs ys : List (ℕ × ℕ)) → last_or o (xs ++ ys) ≡ last_or (last_or o xs) ys
-  last_append o [] ys = refl
-  last_append o (x ∷ xs) ys = last_append (Some x) xs ys
 
   place_shift : (n : ℕ) (z : ℕ × ℕ) (zs : List (ℕ × ℕ)) → place_of (option_map (shift n) (last_or (Some z) zs)) ≡ n + place_of (last_or (Some z) zs)
   place_shift n z [] = refl
@@ -237,7 +221,7 @@ module _ (mode : GraphemeClusterMode) (stops : TabStops) where
   none_fit first column row past [] = refl
   none_fit first column row past (i ∷ is) =
       ap (λ b. cond b (measure (Some stops) first row i ∷ filter (fits column) (map (measure (Some stops) first row) is)) (filter (fits column) (map (measure (Some stops) first row) is)))
-      (no (column_after mode (Some stops) first (take i row)) column (omega (arith, past, parts_grow first (slice_split is_tab (take i row)))))
+      (lt-leb (column_after mode (Some stops) first (take i row)) column (omega (arith, past, parts_grow first (slice_split is_tab (take i row)))))
       ∙ none_fit first column row past is
 
   module _ (first column : ℕ) (xs ys : List ℕ) (u : IsUtf8 xs) (v : IsUtf8 ys) (none : NoTabs xs) where
@@ -259,7 +243,7 @@ module _ (mode : GraphemeClusterMode) (stops : TabStops) where
         ap (λ bs. place_of (last_or None (filter (fits column) bs))) (boundaries_past first xs ys u v none)
         ∙ ap (λ bs. place_of (last_or None bs)) (filter-append (fits column) (boundary_columns mode None first xs) (map (shift n) (boundary_columns mode (Some stops) next ys))
         ∙ ap (λ bs. front ++ bs) (filter_shift column n (boundary_columns mode (Some stops) next ys)))
-        ∙ ap place_of (last_append None front (map (shift n) back))
+        ∙ ap place_of (last_or-append None front (map (shift n) back))
 
     place_hit : column < next → place_at_column mode (Some stops) first column (xs ++ 9 ∷ ys) ≡ place_at_column mode None first column xs
     unfolding place_at_column front back
@@ -284,7 +268,7 @@ module _ (mode : GraphemeClusterMode) (stops : TabStops) where
         here = omega (arith, no_width mode, low)
 
         starts : filter (fits column) (boundary_columns mode (Some stops) next ys) ≡ start ∷ rest
-        starts = ap (λ b. cond b (start ∷ rest) rest) (yes (column_after mode (Some stops) next (take 0 ys)) column here)
+        starts = ap (λ b. cond b (start ∷ rest) rest) (le-leb (column_after mode (Some stops) next (take 0 ys)) column here)
 
   -- ---- the walk from tab to tab
 

@@ -1,6 +1,5 @@
 -- Sums of columns that stop at the most that a number of columns can be, and the parts of a text between joiners.
-use Rattle.std.proofs.Common.{◌≡◌, ℕ, ◌+◌, ◌<◌, ◌≤◌, ◌==◌, min, Bool, true, false, cond, ◌&&◌, List, [], ◌∷◌, ◌++◌, length, take, drop, Option, None, Some, refl, sym, ap, ◌∙◌, subst, arith, append_assoc, take-append-drop}
-use Rattle.std.specs.Prelude.{chars, encode_utf8, encode_utf8_all, sum_by, IsUtf8, MatchOption, All}
+use Rattle.std.proofs.Common.{◌≡◌, ℕ, ◌+◌, ◌<◌, ◌≤◌, ◌==◌, min, Bool, true, false, cond, ◌&&◌, List, [], ◌∷◌, ◌++◌, length, take, drop, Option, None, Some, refl, sym, ap, ◌∙◌, subst, arith, append_assoc, take-append-drop, chars, encode_utf8, encode_utf8_all, sum_by, IsUtf8, MatchOption, All, eq-eqb, true≢false}
 use Rattle.std.specs.List.{fold, slice_split}
 use Rattle.std.specs.Str.{NonePass, NoCharPasses}
 use Rattle.std.specs.Str.Pattern.{FindsChar}
@@ -13,7 +12,6 @@ use Rattle.std.proofs.lemmas.List.Splits.{slice_split_none, slice_split_at}
 use Rattle.std.proofs.lemmas.List.Sums.{sum_by-cons}
 use Rattle.std.proofs.lemmas.Str.{chars-encodes, chars_from_encodes, encodes-chars, scalars-chars, cons_from_encodes, len_utf8_bounds}
 use lib.Utf8.{scalar, scalars}
-use borrow.Author.Tests.{eq-eqb}
 
 -- ---- sums that stop
 
@@ -76,11 +74,8 @@ part_off : (c : ℕ) (w x rest : List ℕ) (live : Bool) (o : Option (ℕ × ℕ
 part_off c w x rest live None u h is = (
   slice_split_none (λ d. d == c) (chars w) (subst (All (λ d. (d == c) ≡ false)) (chars_from_encodes h.0 w u h.1) (All-from_NonePass (λ d. d == c) h.0 h.2))
       ∙ ap (λ t. chars t ∷ []) (sym is.0) ∙ ap (λ b. chars x ∷ cond b (slice_split (λ d. d == c) (chars rest)) []) (sym is.1),
-  λ yes. absurd (no (sym is.1 ∙ yes)),
+  λ yes. absurd (true≢false (sym yes ∙ is.1)),
 )
-  where
-    no : false ≡ true → ⊥
-    no e = cc
 part_off c w x rest live (Some q) u h is =
     let some : 0 < q.1 = omega (arith, h.1.ends, (len_utf8_bounds c).0) in
     let found = is some in

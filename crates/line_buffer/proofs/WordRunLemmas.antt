@@ -1,10 +1,9 @@
 -- The last clusters of a text that are of one kind: a run of bytes of ASCII in a word, or the last cluster alone.
-use Rattle.std.proofs.Common.{◌≡◌, ℕ, zero, suc, ◌+◌, ◌-◌, ◌==◌, ◌<◌, ◌≤◌, ◌⊎◌, inl, inr, Bool, true, false, not, ◌&&◌, ◌||◌, if◌then◌else◌, List, [], ◌∷◌, ◌++◌, length, map, take, drop, reverse, get_or, Option, None, Some, refl, sym, ap, ap₂, ◌∙◌, subst, arith, append_assoc}
-use Rattle.std.specs.Prelude.{IsUtf8, chars, option_to_list, bytes_eq}
+use Rattle.std.proofs.Common.{◌≡◌, ℕ, zero, suc, ◌+◌, ◌-◌, ◌==◌, ◌<◌, ◌≤◌, ◌⊎◌, inl, inr, Bool, true, false, not, ◌&&◌, ◌||◌, if◌then◌else◌, List, [], ◌∷◌, ◌++◌, length, map, take, drop, reverse, get_or, Option, None, Some, refl, sym, ap, ap₂, ◌∙◌, subst, arith, append_assoc, IsUtf8, chars, option_to_list, bytes_eq}
 use Rattle.std.specs.Char.{is_ascii_alphanumeric, is_whitespace}
 use Rattle.std.specs.List.{last_or, list_all, concat}
 use Rattle.std.proofs.Math.Seq.{get_or-append_seam}
-use Rattle.std.proofs.lemmas.Bool.{and_from, and_parts}
+use Rattle.std.proofs.lemmas.Bool.{and_from, and_parts, cases_lt}
 use Rattle.std.proofs.lemmas.Bool.Decides.{nat_tests}
 use Rattle.std.proofs.lemmas.List.{reverse-append, reverse-reverse, length-append, length-take-le, length-drop, drop_more, map-append, append-nil, take_at, take_all, take-take, length-take, take-append-drop}
 use Rattle.std.proofs.lemmas.List.Folds.{list_all-append}
@@ -15,8 +14,9 @@ use Rattle.unicode_segmentation.proofs.AsciiLemmas.{is_alphanumeric_ascii}
 use Rattle.unicode_segmentation.proofs.SegmentsLemmas.{concat-segments, nil_from-with_offsets}
 use Rattle.line_buffer.specs.Clusters.{clusters}
 use Rattle.line_buffer.specs.Printable.{is_printable}
-use Rattle.line_buffer.specs.Words.{EndsInRun, kind_of, kinds, is_word_byte, starts_of, edges_of, edge_between}
-use Rattle.line_buffer.specs.declared.types.At.TheVariants.{Start}
+use Rattle.line_buffer.specs.Words.{EndsInRun, kind_of, kinds, is_word_byte, edges_of, edge_between}
+use Rattle.line_buffer.specs.declared.types.At.{At}
+use Rattle.line_buffer.specs.declared.types.At.TheVariants.{Start, BeforeEnd, AfterEnd}
 use Rattle.line_buffer.specs.declared.types.Word.{Word}
 use Rattle.line_buffer.specs.declared.types.Word.TheVariants.{Big, Emacs, Vi}
 use Rattle.line_buffer.specs.declared.words.ClusterKind.{ClusterKind}
@@ -25,7 +25,7 @@ use Rattle.line_buffer.proofs.FrontLemmas.{clusters_front, ends_or_not}
 use Rattle.line_buffer.proofs.JoinLemmas.{clusters-letters, printable_ascii}
 use Rattle.line_buffer.proofs.LetterLemmas.{printable_scalar}
 use Rattle.line_buffer.proofs.PartingLemmas.{chars_last}
-use Rattle.line_buffer.proofs.WordLemmas.{edges_of-nil, edges_of-one, edges_of-snoc}
+use Rattle.line_buffer.proofs.WordLemmas.{edges_of-snoc}
 
 reversed_all : (p : ℕ → Bool) (xs : List ℕ) → list_all p xs ≡ true → list_all p (reverse xs) ≡ true
 reversed_all p [] h = refl
@@ -37,8 +37,7 @@ reversed_all p (x ∷ xs) h =
 -- ---- bytes of a word
 word_bounds : (word : Word) (c : ℕ) → is_word_byte word c ≡ true → (33 ≤ c) × (c < 127)
 word_bounds Emacs c h = grind (arith, nat_tests, h)
-word_bounds Big c h = grind (arith, nat_tests, h)
-word_bounds Vi c h = grind (arith, nat_tests, h)
+word_bounds _ c h = grind (arith, nat_tests, h)
 
 pub word_printable : (word : Word) (c : ℕ) → is_word_byte word c ≡ true → is_printable c ≡ true
 word_printable word c h = let bounds = word_bounds word c h in grind (arith, nat_tests, bounds.0, bounds.1)
@@ -60,9 +59,7 @@ no_space : (word : Word) (c : ℕ) → is_word_byte word c ≡ true → is_white
 no_space word c h = let bounds = word_bounds word c h in grind (arith, nat_tests, bounds.0, bounds.1)
 
 one_of : (a b : Bool) → (a || b) ≡ true → ((a && true) || (b && true)) ≡ true
-one_of true b h = refl
-one_of false true h = refl
-one_of false false h = h
+one_of a b h = grind (arith, nat_tests)
 
 pub kind_of_word_byte : (word : Word) (c : ℕ) → is_word_byte word c ≡ true → kind_of word (c ∷ []) ≡ InWord
 kind_of_word_byte Emacs c h = ap (λ b. if b then InWord else Blank) (is_letter c (word_ascii Emacs c h) ∙ ap (λ b. b && true) h)
@@ -169,15 +166,12 @@ ends_in_cluster word text start cluster kind u found is = elim (ends_or_not (clu
         let front = clusters_front text start cluster new u last in
         record {
           start = front.0;
-          shorter = by_order (at_most start (length text) front.0.0) front.1 last;
+          shorter = by_order (cases_lt start (length text)) front.1 last;
           later = [];
           splits = ap (kinds word) last ∙ map-append (λ y. (y.0, kind_of word y.1)) new ((start, cluster) ∷ []) ∙ ap₂ (λ ys k. kinds word ys ++ (start, k) ∷ []) (sym front.1) (sym is);
         }
       where
-        at_most : (i j : ℕ) → i ≤ j → (i < j) ⊎ (i ≡ j)
-        at_most i j l = grind (arith, l)
-
-        by_order : (start < length text) ⊎ (start ≡ length text) → clusters (take start text) ≡ new → clusters text ≡ new ++ (start, cluster) ∷ [] → start < length text
+        by_order : (start < length text) ⊎ (length text ≤ start) → clusters (take start text) ≡ new → clusters text ≡ new ++ (start, cluster) ∷ [] → start < length text
         by_order (inl l) c d = l
         by_order (inr q) c d =
             let whole : take start text ≡ text = take_all start text (omega (arith, q)) in
@@ -191,10 +185,11 @@ no_cluster text u found = elim (ends_or_not (clusters text)) [
 ]
 
 -- ---- the starts of words around such clusters
-no_start : (kind : ClusterKind) (i j : ℕ) → edge_between Start (i, kind) (j, kind) ≡ None
-no_start Blank i j = refl
-no_start InWord i j = refl
-no_start Other i j = refl
+pub no_edge : (at : At) (kind : ClusterKind) (i j : ℕ) → edge_between at (i, kind) (j, kind) ≡ None
+no_edge Start Blank i j = refl
+no_edge BeforeEnd Blank i j = refl
+no_edge AfterEnd Blank i j = refl
+no_edge _ _ i j = refl
 
 run_edges : (xs : List (ℕ × ClusterKind)) (kind : ClusterKind) (at : ℕ) (later : List ℕ) (y : ℕ × ClusterKind)
     → edges_of Start ((xs ++ map (λ i. (i, kind)) (at ∷ later)) ++ y ∷ []) ≡ edges_of Start (xs ++ (at, kind) ∷ []) ++ option_to_list (edge_between Start (at, kind) y)
@@ -204,14 +199,14 @@ run_edges xs kind at (i ∷ later) y =
     ∙ run_edges (xs ++ (at, kind) ∷ []) kind i later y
     ∙ ap (λ zs. zs ++ option_to_list (edge_between Start (at, kind) y))
     (ap (edges_of Start) (append_assoc xs ((at, kind) ∷ []) ((i, kind) ∷ [])) ∙ edges_of-snoc Start xs (at, kind) (i, kind)
-    ∙ ap (λ o. edges_of Start (xs ++ (at, kind) ∷ []) ++ option_to_list o) (no_start kind at i) ∙ append-nil (edges_of Start (xs ++ (at, kind) ∷ [])))
+    ∙ ap (λ o. edges_of Start (xs ++ (at, kind) ∷ []) ++ option_to_list o) (no_edge Start kind at i) ∙ append-nil (edges_of Start (xs ++ (at, kind) ∷ [])))
 
 reverse_option : (o : Option ℕ) → reverse (option_to_list o) ≡ option_to_list o
 reverse_option None = refl
 reverse_option (Some i) = refl
 
 pub run_split : (word : Word) (text : List ℕ) (end at : ℕ) (kind right : ClusterKind) → EndsInRun word (take end text) at kind
-    → reverse (starts_of (kinds word (clusters (take end text)) ++ (end, right) ∷ [])) ≡ option_to_list (edge_between Start (at, kind) (end, right)) ++ reverse (starts_of (kinds word (clusters (take at text)) ++ (at, kind) ∷ []))
+    → reverse (edges_of Start (kinds word (clusters (take end text)) ++ (end, right) ∷ [])) ≡ option_to_list (edge_between Start (at, kind) (end, right)) ++ reverse (edges_of Start (kinds word (clusters (take at text)) ++ (at, kind) ∷ []))
 run_split word text end at kind right run =
     let front = take at (take end text) in
     let edge = option_to_list (edge_between Start (at, kind) (end, right)) in
@@ -221,11 +216,11 @@ run_split word text end at kind right run =
     ∙ ap₂ (λ zs bs. zs ++ reverse (edges_of Start (kinds word (clusters bs) ++ (at, kind) ∷ []))) (reverse_option (edge_between Start (at, kind) (end, right))) (take-take at end text (omega (arith, run.shorter, length-take end text)))
 
 -- nothing starts at the text's end
-pub blank_end : (word : Word) (text : List ℕ) → starts_of (kinds word (clusters text)) ≡ starts_of (kinds word (clusters (take (length text) text)) ++ (length text, Blank) ∷ [])
+pub blank_end : (word : Word) (text : List ℕ) → edges_of Start (kinds word (clusters text)) ≡ edges_of Start (kinds word (clusters (take (length text) text)) ++ (length text, Blank) ∷ [])
 blank_end word text = sym (ap (λ bs. edges_of Start (kinds word (clusters bs) ++ (length text, Blank) ∷ [])) (take_all (length text) text (omega arith)) ∙ behind (ends_or_not (kinds word (clusters text))))
   where
     behind : {xs : List (ℕ × ClusterKind)} → (xs ≡ []) ⊎ ((ys : List (ℕ × ClusterKind)) × (y : ℕ × ClusterKind) × (xs ≡ ys ++ y ∷ [])) → edges_of Start (xs ++ (length text, Blank) ∷ []) ≡ edges_of Start xs
-    behind (inl e) = ap (λ zs. edges_of Start (zs ++ (length text, Blank) ∷ [])) e ∙ edges_of-one Start (length text, Blank) ∙ sym (edges_of-nil Start) ∙ ap (edges_of Start) (sym e)
+    behind (inl e) = ap (λ zs. edges_of Start (zs ++ (length text, Blank) ∷ [])) e ∙ ap (edges_of Start) (sym e)
     behind (inr h) =
         ap (λ zs. edges_of Start (zs ++ (length text, Blank) ∷ [])) h.2 ∙ ap (edges_of Start) (append_assoc h.0 (h.1 ∷ []) ((length text, Blank) ∷ []))
         ∙ edges_of-snoc Start h.0 h.1 (length text, Blank) ∙ append-nil (edges_of Start (h.0 ++ h.1 ∷ [])) ∙ ap (edges_of Start) (sym h.2)

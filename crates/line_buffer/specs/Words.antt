@@ -1,5 +1,5 @@
 -- Where words start and end, and the places to which motions by words lead.
-use Rattle.std.specs.Prelude.{◌≡◌, ℕ, ◌+◌, ◌==◌, ◌<◌, Bool, true, false, not, ◌||◌, if◌then◌else◌, List, [], ◌∷◌, ◌++◌, length, map, reverse, filter, zip, take, drop, chars, IsCharBoundary, bytes_eq, Option, None, Some, option_map, option_to_list}
+use Rattle.std.specs.Prelude.{◌≡◌, ℕ, ◌+◌, ◌==◌, ◌<◌, Bool, true, false, not, ◌||◌, if◌then◌else◌, List, [], ◌∷◌, ◌++◌, length, map, reverse, take, drop, chars, IsCharBoundary, bytes_eq, Option, None, Some, option_map, option_to_list}
 use Rattle.std.specs.List.{list_all, last_or}
 use Rattle.std.specs.Char.{is_ascii_alphanumeric, is_ascii_graphic, is_whitespace}
 use Rattle.unicode_segmentation.specs.Grapheme.{graphemes}
@@ -49,9 +49,6 @@ ends_between x y = starts_between y x
 abbrev pub kinds : Word → List (ℕ × List ℕ) → List (ℕ × ClusterKind)
 kinds word pieces = map (λ x. (x.0, kind_of word x.1)) pieces
 
-abbrev pub neighbours : {A : Type 0} → List A → List (A × A)
-neighbours xs = zip xs (drop 1 xs)
-
 -- the clusters of a text from a place on are of one kind, and what stands before the place is cut
 -- into clusters as it is alone
 pub record EndsInRun (word : Word) (text : List ℕ) (at : ℕ) (kind : ClusterKind) : Type 0 where
@@ -61,29 +58,16 @@ pub record EndsInRun (word : Word) (text : List ℕ) (at : ℕ) (kind : ClusterK
   pub splits : kinds word (clusters text) ≡
       kinds word (clusters (take at text)) ++ map (λ i. (i, kind)) (at ∷ later)
 
--- the places at which a word starts after something else
-unfoldable pub starts_of : List (ℕ × ClusterKind) → List ℕ
-starts_of xs = map (λ p. p.1.0) (filter (λ p. starts_between p.0.1 p.1.1) (neighbours xs))
-
--- the places at which something else follows a word
-unfoldable pub ends_of : List (ℕ × ClusterKind) → List ℕ
-ends_of xs = map (λ p. p.1.0) (filter (λ p. ends_between p.0.1 p.1.1) (neighbours xs))
-
--- the places of the last clusters of these words
-unfoldable pub lasts_of : List (ℕ × ClusterKind) → List ℕ
-lasts_of xs = map (λ p. p.0.0) (filter (λ p. ends_between p.0.1 p.1.1) (neighbours xs))
-
--- the places at which such a motion can stop inside a text
-abbrev pub edges_of : At → List (ℕ × ClusterKind) → List ℕ
-edges_of Start xs = starts_of xs
-edges_of BeforeEnd xs = lasts_of xs
-edges_of AfterEnd xs = ends_of xs
-
 -- the place between two neighbours, if such a motion can stop there
 abbrev pub edge_between : At → ℕ × ClusterKind → ℕ × ClusterKind → Option ℕ
 edge_between Start x y = if starts_between x.1 y.1 then Some y.0 else None
 edge_between BeforeEnd x y = if ends_between x.1 y.1 then Some x.0 else None
 edge_between AfterEnd x y = if ends_between x.1 y.1 then Some y.0 else None
+
+-- the places at which such a motion can stop inside a text
+abbrev pub edges_of : At → List (ℕ × ClusterKind) → List ℕ
+edges_of at (x ∷ (y ∷ xs)) = option_to_list (edge_between at x y) ++ edges_of at (y ∷ xs)
+edges_of at _ = []
 
 -- the clusters of a text that stands at this place
 abbrev pub clusters_at : ℕ → List ℕ → List (ℕ × List ℕ)
@@ -117,14 +101,14 @@ later_last pieces = option_to_list (option_map (λ x. x.0) (last_or None (drop 1
 -- where a motion back over a text can stop, nearest first: at each start of a word, and at last at
 -- the text's start
 abbrev pub stops_back : Word → List ℕ → List ℕ
-stops_back word text = reverse (text_start text ++ starts_of (kinds word (clusters text)))
+stops_back word text = reverse (text_start text ++ edges_of Start (kinds word (clusters text)))
 
 -- where a motion over a text can stop inside it: at each start of a word, after its end, or at its
 -- last cluster (never at the text's first one). With Emacs words the place after the end counts as
 -- the last cluster
 abbrev pub inner_stops : At → Word → List ℕ → List ℕ
-inner_stops BeforeEnd Emacs text = ends_of (kinds Emacs (clusters text))
-inner_stops BeforeEnd word text = lasts_of (kinds word (drop 1 (clusters text)))
+inner_stops BeforeEnd Emacs text = edges_of AfterEnd (kinds Emacs (clusters text))
+inner_stops BeforeEnd word text = edges_of BeforeEnd (kinds word (drop 1 (clusters text)))
 inner_stops at word text = edges_of at (kinds word (clusters text))
 
 -- where it stops at last

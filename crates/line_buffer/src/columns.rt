@@ -1,5 +1,6 @@
 //! Motions up and down by rows. They keep the cursor's column as nearly as the clusters of the row
 //! allow.
+#![tactic(auto, unfolding(crate::specs::Columns::cursor_column, crate::specs::Columns::place_in_row, crate::specs::Columns::line_up, crate::specs::Columns::line_down))]
 
 ghost use Rattle.std.specs.Char.{IsScalar};
 ghost use Rattle.std.specs.Prelude.{◌≡◌, ◌<◌, ◌≤◌, ◌+◌, ◌&&◌, ◌||◌, min, take, drop, slice_range, chars, Some, None, is_some, IfSome, IsCharBoundary};
@@ -204,7 +205,6 @@ fn boundary_in_row(layout: &Layout, row: &str, first: Unit, column: u128) -> usi
 
 impl LineBuffer {
     /// The column of the cursor.
-    #[tactic(auto, unfolding(crate::specs::Columns::cursor_column))]
     fn column(&self, layout: &Layout) -> u128
         ensures { result ≡ cursor_column layout.now.grapheme_cluster_mode layout.now.tab_stops
             layout.now.prompt_size.col self.now }
@@ -219,7 +219,6 @@ impl LineBuffer {
     }
 
     /// The place with the cursor's column in the row that starts at `start`.
-    #[tactic(auto, unfolding(crate::specs::Columns::place_in_row))]
     fn place_below_column(&self, layout: &Layout, start: usize) -> usize
         requires { IsCharBoundary self.now.text start }
         ensures value { result ≡ place_in_row layout.now.grapheme_cluster_mode layout.now.tab_stops
@@ -234,7 +233,6 @@ impl LineBuffer {
     }
 
     /// The place to which a motion up by n rows moves the cursor; `None` in the first row.
-    #[tactic(auto, unfolding(crate::specs::Columns::line_up))]
     fn line_up_pos(&self, n: RepeatCount, layout: &Layout) -> Option<usize>
         ensures value { result ≡ line_up layout.now.grapheme_cluster_mode layout.now.tab_stops
             layout.now.prompt_size.col n self.now }
@@ -245,7 +243,6 @@ impl LineBuffer {
     }
 
     /// The place to which a motion down by n rows moves the cursor; `None` in the last row.
-    #[tactic(auto, unfolding(crate::specs::Columns::line_down))]
     fn line_down_pos(&self, n: RepeatCount, layout: &Layout) -> Option<usize>
         ensures value { result ≡ line_down layout.now.grapheme_cluster_mode
             layout.now.tab_stops layout.now.prompt_size.col n self.now }

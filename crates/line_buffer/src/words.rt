@@ -9,6 +9,7 @@ ghost use Rattle.unicode_segmentation.specs.Segments as Segments;
 ghost use Rattle.line_buffer.specs.Clusters.{clusters, nth_or_last};
 ghost use Rattle.line_buffer.specs.Line.{with_cursor_at};
 ghost use Rattle.line_buffer.specs.Words as Words;
+ghost use Rattle.line_buffer.specs.declared.types.At.TheVariants.{Start, BeforeEnd};
 ghost use Rattle.line_buffer.specs.declared.types.Word.TheVariants.{Big, Emacs, Vi};
 
 use crate::line_buffer::LineBuffer;
@@ -170,8 +171,8 @@ fn last_run(text: &str, word: Word) -> Option<(usize, ClusterKind)>
 /// The n-th start of a word, counted back from the text's end.
 fn nth_start_back(text: &str, word: Word, n: RepeatCount) -> Option<usize>
     requires { 0 < n }
-    ensures { result ≡ slice_get (reverse (Words.starts_of (Words.kinds word (clusters text.now))))
-        (n - 1) }
+    ensures { result ≡ slice_get (reverse (Words.edges_of Start
+        (Words.kinds word (clusters text.now)))) (n - 1) }
 {
     let mut end = text.len();
     let mut right = ClusterKind::Blank;
@@ -234,7 +235,7 @@ fn nth_edge(text: &str, from: usize, at: At, word: Word, n: RepeatCount) -> Opti
 /// The n-th last cluster of a word behind the text's first cluster.
 fn nth_last(text: &str, word: Word, n: RepeatCount) -> Option<usize>
     requires { 0 < n }
-    ensures { result ≡ slice_get (Words.lasts_of
+    ensures { result ≡ slice_get (Words.edges_of BeforeEnd
         (Words.kinds word (drop 1 (clusters text.now)))) (n - 1) }
 {
     let (_, first) = nth_cluster(text, 1)?;

@@ -7,7 +7,6 @@ use Rattle.line_buffer.specs.Columns.{line_up, line_down}
 use Rattle.line_buffer.specs.Hits.{chars_placed}
 use Rattle.line_buffer.specs.Rows.{behind_newlines}
 use Rattle.line_buffer.specs.Transpositions.{after_words, before_words}
-use Rattle.line_buffer.specs.Words.{starts_of, ends_of}
 use Rattle.line_buffer.specs.declared.layout.GraphemeClusterMode.TheVariants.{Unicode}
 use Rattle.line_buffer.specs.declared.layout.Layout.{Layout}
 use Rattle.line_buffer.specs.declared.layout.Position.{Position}
@@ -146,7 +145,7 @@ module _ (r : Ring) where
   lone_word = line [] nothing_bound (typed 0x77 ∷ key_with (Char 0x41) ctrl ∷ key_with (Char 0x74) alt ∷ [])
 
   lone_word_calls : lone_word.calls ≡ draw [] (fresh Unicode) ∷ Write (codes "w") ∷ Move (at 3) (at 2) ∷ draw (codes "w") (laid true 2 2 3) ∷ []
-  unfolding unicode_segmentation line_script turns_script turn_script answer_part rest_of_sequence memory_then with_read from_key show_then keep_then reply_then and_then rest_of_count key_sequence emacs_action common_action after_words before_words starts_of ends_of
+  unfolding unicode_segmentation line_script turns_script turn_script answer_part rest_of_sequence memory_then with_read from_key show_then keep_then reply_then and_then rest_of_count key_sequence emacs_action common_action after_words before_words
   lone_word_calls = refl
 
   -- ---- a key bound to a search, in an empty history

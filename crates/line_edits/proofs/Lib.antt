@@ -3,5 +3,4 @@ pub mod PlainLemmas
 pub mod RingLemmas
 pub mod StepLemmas
 pub mod StopLaws
-pub mod UndoLemmas
 pub mod WrittenLemmas

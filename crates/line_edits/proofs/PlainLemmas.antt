@@ -1,43 +1,31 @@
 -- What edits leave plain.
-use Rattle.std.proofs.Common.{◌≡◌, ℕ, zero, suc, ◌+◌, ◌==◌, ◌&&◌, ◌||◌, ◌<◌, ◌≤◌, not, Bool, true, false, List, [], ◌∷◌, ◌++◌, take, drop, refl, sym, ap, subst, ◌∙◌, encode_utf8, arith, if◌then◌else◌, length, append-nil, Some, is_none, Result, Ok, Err}
-use Rattle.std.specs.Prelude.{OnOk, is_ok, slice_range}
+use Rattle.std.proofs.Common.{◌≡◌, ℕ, zero, suc, ◌+◌, ◌==◌, ◌&&◌, ◌||◌, ◌<◌, ◌≤◌, not, Bool, true, false, List, [], ◌∷◌, ◌++◌, take, drop, refl, sym, ap, subst, ◌∙◌, encode_utf8, arith, length, append-nil, is_none, Result, Ok, Err, OnOk, is_ok, slice_range}
 use Rattle.std.specs.List.{replace_range, repeat}
-use Rattle.std.proofs.lemmas.Bool.{and_parts, and_from, or_right, eqb-true, ne_eqb}
+use Rattle.std.proofs.lemmas.Bool.{and_parts, and_from, or_right, ne_eqb}
 use Rattle.std.proofs.lemmas.Bool.Decides.{nat_tests}
 use Rattle.std.proofs.lemmas.List.{take-append-drop}
 use Rattle.std.proofs.lemmas.List.Folds.{list_all-append, drop_split}
 use Rattle.std.proofs.lemmas.Str.{encode_ascii, char_from_byte, length-encode, len_utf8_bounds}
-use Rattle.line_buffer.specs.Event.{ChangeEvent}
-use Rattle.line_buffer.specs.Event.ChangeEvent.{InsertChar}
-use Rattle.line_buffer.specs.Insertions.{no_insertion, has_room, with_text_at_cursor, insertion_by, insertion_of, insert as insertion, yank as yanked_in}
-use Rattle.line_buffer.specs.Replay.{insertion as told_insertion, line_after_event, line_after_events}
+use Rattle.line_buffer.specs.Insertions.{insert as insertion, yank as yanked_in}
+use Rattle.line_buffer.specs.Replay.{line_after_event, line_after_events}
 use Rattle.line_buffer.specs.Line.{Line}
 use Rattle.line_buffer.specs.Indent.{rows_covered, rows_of, front_whitespace, row_event, row_len, row_events, spaces, indent_line}
 use Rattle.line_buffer.specs.Rows.{row_start, row_end}
 use Rattle.line_buffer.specs.Printable.{is_plain, is_plain_byte}
+use Rattle.line_buffer.proofs.InsertionLemmas.{insert_cases, yank_cases}
 use Rattle.line_buffer.specs.declared.types.Movement.{Movement}
 
 swapped : (a b c : Bool) → ((a && b) && c) ≡ ((a && c) && b)
-swapped false b c = refl
-swapped true true true = refl
-swapped true true false = refl
-swapped true false true = refl
-swapped true false false = refl
+swapped a b c = grind (arith, nat_tests)
 
 absorbed : (a b : Bool) → (a && (b || a)) ≡ a
-absorbed false b = refl
-absorbed true true = refl
-absorbed true false = refl
+absorbed a b = grind (arith, nat_tests)
 
 with_true : (a : Bool) → a ≡ (a && true)
-with_true true = refl
-with_true false = refl
+with_true a = grind (arith, nat_tests)
 
 same_answer : (a b : Bool) → (a ≡ true → b ≡ true) → (b ≡ true → a ≡ true) → a ≡ b
-same_answer true true f g = refl
-same_answer true false f g = sym (f refl)
-same_answer false true f g = g refl
-same_answer false false f g = refl
+same_answer a b f g = grind (arith, nat_tests)
 
 -- ---- a text by its parts
 
@@ -79,11 +67,7 @@ char_is_plain c =
 -- ---- what is deleted
 
 by_deleted : (front deleted rest : Bool) → (front && rest) ≡ ((front && (deleted && rest)) || (not deleted && (front && rest)))
-by_deleted false true rest = refl
-by_deleted false false rest = refl
-by_deleted true true true = refl
-by_deleted true true false = refl
-by_deleted true false rest = refl
+by_deleted front deleted rest = grind (arith, nat_tests)
 
 spanned_is : (from upto : ℕ) (text : List ℕ) → from ≤ upto → is_plain text ≡ (is_plain (take from text) && (is_plain (slice_range text from upto) && is_plain (drop upto text)))
 spanned_is from upto text order =
@@ -106,32 +90,16 @@ pub inserted_is : (at : ℕ) (text added : List ℕ) → is_plain (replace_range
 inserted_is at text added =
     replaced_is at at text added ∙ swapped (is_plain (take at text)) (is_plain added) (is_plain (drop at text)) ∙ ap (λ b. b && is_plain added) (sym (parted_is at text))
 
-put_by : (room : Bool) (told : ChangeEvent) (added : List ℕ) (l : Line) → (let put = if room then record { answer = Some (l.place == length l.text); events = told ∷ []; line = with_text_at_cursor added l } else no_insertion l in
-    is_plain put.line.text ≡ (is_plain l.text && (is_none put.answer || is_plain added)))
-put_by true told added l = inserted_is l.place l.text added
-put_by false told added l = with_true (is_plain l.text)
-
-copies_put : (text : List ℕ) (n : ℕ) (l : Line) → is_plain (insertion_of text n l).line.text ≡ (is_plain l.text && (is_none (insertion_of text n l).answer || ((n == 0) || is_plain text)))
-copies_put text n l =
-    put_by (has_room (length (repeat n text)) l) (told_insertion l.place (repeat n text)) (repeat n text) l ∙ ap (λ b. is_plain l.text && (is_none (insertion_of text n l).answer || b)) (repeated_is n text)
-
-typed_by : (one : Bool) (c n : ℕ) (l : Line) → (n == 1) ≡ one → (let put = if one then insertion_by (InsertChar l.place c) (encode_utf8 c) l else insertion_of (encode_utf8 c) n l in
-    is_plain put.line.text ≡ (is_plain l.text && (is_none put.answer || ((n == 0) || is_plain (encode_utf8 c)))))
-typed_by true c n l is =
-    put_by (has_room (length (encode_utf8 c)) l) (InsertChar l.place c) (encode_utf8 c) l
-    ∙ ap (λ m. is_plain l.text && (is_none (insertion_by (InsertChar l.place c) (encode_utf8 c) l).answer || ((m == 0) || is_plain (encode_utf8 c)))) (sym (eqb-true n 1 is))
-typed_by false c n l is = copies_put (encode_utf8 c) n l
-
 pub typed_is : (c n : ℕ) (l : Line) → is_plain (insertion c n l).line.text ≡ (is_plain l.text && (is_none (insertion c n l).answer || ((n == 0) || is_plain (encode_utf8 c))))
-typed_is c n l = typed_by (n == 1) c n l refl
-
-yanked_by : (empty : Bool) (text : List ℕ) (n : ℕ) (l : Line) → (let put = if empty then no_insertion l else insertion_of text n l in
-    is_plain put.line.text ≡ (is_plain l.text && (is_none put.answer || ((n == 0) || is_plain text))))
-yanked_by true text n l = with_true (is_plain l.text)
-yanked_by false text n l = copies_put text n l
+typed_is c n l =
+    insert_cases (λ x. is_plain x.line.text ≡ (is_plain l.text && (is_none x.answer || ((n == 0) || is_plain (encode_utf8 c))))) c n l (with_true (is_plain l.text))
+    (λ one. inserted_is l.place l.text (encode_utf8 c) ∙ ap (λ m. is_plain l.text && ((m == 0) || is_plain (encode_utf8 c))) (sym one))
+    (inserted_is l.place l.text (repeat n (encode_utf8 c)) ∙ ap (λ b. is_plain l.text && b) (repeated_is n (encode_utf8 c)))
 
 pub yanked_is : (text : List ℕ) (n : ℕ) (l : Line) → is_plain (yanked_in text n l).line.text ≡ (is_plain l.text && (is_none (yanked_in text n l).answer || ((n == 0) || is_plain text)))
-yanked_is text n l = yanked_by (length text == 0) text n l
+yanked_is text n l =
+    yank_cases (λ x. is_plain x.line.text ≡ (is_plain l.text && (is_none x.answer || ((n == 0) || is_plain text)))) text n l (with_true (is_plain l.text))
+    (inserted_is l.place l.text (repeat n text) ∙ ap (λ b. is_plain l.text && b) (repeated_is n text))
 
 -- ---- rows moved in or out
 

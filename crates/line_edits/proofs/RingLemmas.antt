@@ -1,15 +1,13 @@
 -- What a kill that fails leaves of line, record and ring.
-use Rattle.std.specs.Prelude.{Bool, true, false, if◌then◌else◌, Option, Some, None, is_some, Result, Ok, Err, OnErr, IsErrAnd, IsUtf8}
-use Rattle.std.proofs.Common.{◌≡◌, ◌⊎◌, inl, inr, ℕ, List, [], ◌∷◌, ◌++◌, refl, ap, ◌∙◌}
+use Rattle.std.proofs.Common.{◌≡◌, ◌⊎◌, inl, inr, ℕ, List, [], ◌∷◌, ◌++◌, refl, ap, ◌∙◌, Bool, true, false, if◌then◌else◌, is_some, Result, Ok, Err, OnErr, IsErrAnd, IsUtf8, sym, subst}
 use Rattle.line_buffer.specs.Edit.{StopsAt}
 use Rattle.line_buffer.specs.Event.{ChangeEvent}
 use Rattle.line_buffer.specs.Event.ChangeEvent.{StartKilling, StopKilling}
 use Rattle.line_buffer.specs.Line.{Line}
 use Rattle.line_buffer.specs.Range.{range_of, goes_by_clusters, deletion_events, kill_events, kill_closing}
-use Rattle.line_buffer.specs.Replay.{TakesAll, StopsAmong, deletion}
-use Rattle.line_buffer.specs.declared.range.TextSpan.{TextSpan}
+use Rattle.line_buffer.specs.Replay.{TakesAll, StopsAmong}
 use Rattle.line_buffer.specs.declared.types.Movement.{Movement}
-use Rattle.line_buffer.proofs.KeptLemmas.{no_split, no_change, split_alone, split_between}
+use Rattle.line_buffer.proofs.KeptLemmas.{KillCut, kill_cut}
 use Rattle.line_record.specs.declared.joined.Joined.{Joined}
 use Rattle.line_buffer.proofs.ReplayLemmas.{stops_wanting}
 use Rattle.line_record.proofs.JoinedLaws.{refusals_leave_no_unmade_change}
@@ -18,20 +16,13 @@ use Rattle.line_record.specs.Items.{Items, ItemsStand, RecordsEventIn, record_re
 use Rattle.line_record.specs.Ring.{Ring, ring_step, ring_all, ring_refuses}
 use Rattle.line_record.specs.RecordCourse.{record_after_events}
 use Rattle.line_record.specs.Together.{joined_takes, joined_refuses}
-use Rattle.line_edits.specs.Edits.{TookOrNot}
+use Rattle.line_edits.specs.Edits.{TookOrNot, ring_without_kill}
 use Rattle.line_edits.specs.WriteSteps.{CutEvents}
 use Rattle.line_edits.specs.Written.{line_and_record}
 use Rattle.line_edits.proofs.StepLemmas.{among}
 
 abbrev hears : Ring → ChangeEvent → Ring → Type 0
 hears r e q = q ≡ ring_step e r
-
--- a kill's one event, and its events, by whether it has marks
-abbrev deleted : TextSpan → Line → ChangeEvent
-deleted span l = deletion span.from span.upto span.direction l.text
-
-abbrev killed_by : Bool → Option TextSpan → Line → List ChangeEvent
-killed_by b range l = let events = deletion_events range l in if b then events else StartKilling ∷ (events ++ (StopKilling ∷ []))
 
 -- the ring has heard what both were told
 ring_told : {B : Type 0} (second : B → ChangeEvent → B → Type 0) (es : List ChangeEvent) (s t : Joined Ring B) → TakesAll (joined_takes hears second) s es t → t.first.now ≡ ring_all es s.first.now
@@ -47,44 +38,34 @@ module _ {B : Type 0} (second second_refuses : B → ChangeEvent → B → Type 
   after_refusal e u v (names, inl kept) = inl kept.0.0
   after_refusal e u v (names, inr took) = inr took.0
 
-  abbrev Stopped : Bool → Option TextSpan → Line → Joined Ring B → Joined Ring B → List ℕ → List ℕ → Type 0
-  Stopped b range l s t before after =
-      StopsAmong (joined_takes hears second) (joined_refuses hears ring_refuses second_refuses) (if b then [] else StopKilling ∷ []) (killed_by b range l) s t before after
+  abbrev Stopped : Movement → Line → Joined Ring B → Joined Ring B → List ℕ → List ℕ → Type 0
+  Stopped movement l = StopsAmong (joined_takes hears second) (joined_refuses hears ring_refuses second_refuses) (kill_closing movement) (kill_events movement l)
 
-  ring_by : (b : Bool) (range : Option TextSpan) (l : Line) (s t : Joined Ring B) (before after : List ℕ) → Stopped b range l s t before after
-      → (t.first.now ≡ ring_all (killed_by b range l) s.first.now) ⊎ (t.first.now ≡ (if b then s.first.now else record s.first.now { killing = false }))
-  ring_by true None l s t before after call = no_split call.done call.never call.refused call.split
-  ring_by false None l s t before after call = no_change call.done call.never call.refused call.split call.change
-  ring_by true (Some span) l s t before after call =
-      split_alone (deleted span l) call.done call.never call.refused call.split (λ none is.
-      let between : call.between.first.now ≡ s.first.now = ring_told second call.done s call.between call.reported.told ∙ ap (λ es. ring_all es s.first.now) none in
-      let closed : t.first.now ≡ call.left.first.now = ring_told second [] call.left t call.closed.told in
-      elim (after_refusal call.refused call.between call.left call.stopped) [
-        | inl kept ↦ inr (closed ∙ kept ∙ between)
-        | inr took ↦ inl (closed ∙ took ∙ ap (ring_step call.refused) between ∙ ap (λ e. ring_step e s.first.now) is)
-      ])
-  ring_by false (Some span) l s t before after call =
-      split_between (deleted span l) call.done call.never call.refused call.split call.change (λ one is.
-      let between : call.between.first.now ≡ ring_step StartKilling s.first.now = ring_told second call.done s call.between call.reported.told ∙ ap (λ es. ring_all es s.first.now) one in
-      let closed : t.first.now ≡ ring_step StopKilling call.left.first.now = ring_told second (StopKilling ∷ []) call.left t call.closed.told in
-      elim (after_refusal call.refused call.between call.left call.stopped) [
-        | inl kept ↦ inr (closed ∙ ap (ring_step StopKilling) (kept ∙ between))
-        | inr took ↦ inl (closed ∙ ap (ring_step StopKilling) (took ∙ ap (ring_step call.refused) between ∙ ap (λ e. ring_step e (ring_step StartKilling s.first.now)) is))
-      ])
-
-  some_by : (b : Bool) (range : Option TextSpan) (l : Line) (s t : Joined Ring B) (before after : List ℕ) → Stopped b range l s t before after → is_some range ≡ true
-  some_by true None l s t before after call = no_split call.done call.never call.refused call.split
-  some_by false None l s t before after call = no_change call.done call.never call.refused call.split call.change
-  some_by b (Some span) l s t before after call = refl
+  cut_of : (movement : Movement) (l : Line) {s t : Joined Ring B} {before after : List ℕ} (call : Stopped movement l s t before after) → KillCut (goes_by_clusters movement) (range_of movement l) l call.done call.refused
+  cut_of movement l call = kill_cut (goes_by_clusters movement) (range_of movement l) l call.done call.never call.refused call.split call.change
 
   -- a kill that fails deletes something
-  pub some_killed : (movement : Movement) (l : Line) {s t : Joined Ring B} {before after : List ℕ}
-      → StopsAmong (joined_takes hears second) (joined_refuses hears ring_refuses second_refuses) (kill_closing movement) (kill_events movement l) s t before after → is_some (range_of movement l) ≡ true
-  some_killed movement l {s} {t} {before} {after} call = some_by (goes_by_clusters movement) (range_of movement l) l s t before after call
+  pub some_killed : (movement : Movement) (l : Line) {s t : Joined Ring B} {before after : List ℕ} → Stopped movement l s t before after → is_some (range_of movement l) ≡ true
+  some_killed movement l call = ap is_some (cut_of movement l call).some
 
-  pub ring_stopped : (movement : Movement) (l : Line) {s t : Joined Ring B} {before after : List ℕ}
-      → StopsAmong (joined_takes hears second) (joined_refuses hears ring_refuses second_refuses) (kill_closing movement) (kill_events movement l) s t before after → TookOrNot movement l s.first.now t.first.now
-  ring_stopped movement l {s} {t} {before} {after} call = ring_by (goes_by_clusters movement) (range_of movement l) l s t before after call
+  -- the ring before and after the change, by whether the kill has marks
+  ring_by : (plain : Bool) (change : ChangeEvent) (r between left after : Ring) → between ≡ ring_all (if plain then [] else StartKilling ∷ []) r
+      → after ≡ ring_all (if plain then [] else StopKilling ∷ []) left → (left ≡ between) ⊎ (left ≡ ring_step change between)
+      → (after ≡ ring_all (if plain then change ∷ [] else StartKilling ∷ change ∷ StopKilling ∷ []) r) ⊎ (after ≡ (if plain then r else record r { killing = false }))
+  ring_by true change r between left after b a (inl kept) = inr (a ∙ kept ∙ b)
+  ring_by true change r between left after b a (inr took) = inl (a ∙ took ∙ ap (ring_step change) b)
+  ring_by false change r between left after b a (inl kept) = inr (a ∙ ap (ring_step StopKilling) (kept ∙ b))
+  ring_by false change r between left after b a (inr took) = inl (a ∙ ap (ring_step StopKilling) (took ∙ ap (ring_step change) b))
+
+  pub ring_stopped : (movement : Movement) (l : Line) {s t : Joined Ring B} {before after : List ℕ} → Stopped movement l s t before after → TookOrNot movement l s.first.now t.first.now
+  ring_stopped movement l {s} {t} call =
+      let cut = cut_of movement l call in
+      let r = s.first.now in
+      subst (λ o. (t.first.now ≡ ring_all (let events = deletion_events o l in if goes_by_clusters movement then events else StartKilling ∷ (events ++ (StopKilling ∷ []))) r) ⊎ (t.first.now ≡ ring_without_kill movement r)) (sym cut.some)
+      (subst (λ e. (t.first.now ≡ ring_all (if goes_by_clusters movement then e ∷ [] else StartKilling ∷ e ∷ StopKilling ∷ []) r) ⊎ (t.first.now ≡ ring_without_kill movement r)) cut.change
+      (ring_by (goes_by_clusters movement) call.refused r call.between.first.now call.left.first.now t.first.now
+      (ring_told second call.done s call.between call.reported.told ∙ ap (λ es. ring_all es r) cut.marks) (ring_told second (kill_closing movement) call.left t call.closed.told)
+      (after_refusal call.refused call.between call.left call.stopped)))
 
 -- ---- line and record, of a ring and a record
 

@@ -1,6 +1,5 @@
 -- Edits by their steps: what a call owes that succeeded, or failed.
-use Rattle.std.specs.Prelude.{Result, Ok, Err, OnErr, IsErrAnd, IsUtf8}
-use Rattle.std.proofs.Common.{◌≡◌, ℕ, List, [], ◌∷◌, ◌++◌, refl, ap, ◌∙◌, subst, inl, inr}
+use Rattle.std.proofs.Common.{◌≡◌, ℕ, List, [], ◌∷◌, ◌++◌, refl, ap, ◌∙◌, subst, inl, inr, Result, Ok, Err, OnErr, IsErrAnd, IsUtf8}
 use Rattle.std.proofs.lemmas.Result.{on_err_weaker}
 use Rattle.line_buffer.specs.Edit.{StopsAt}
 use Rattle.line_buffer.specs.Event.{ChangeEvent}
@@ -10,9 +9,8 @@ use Rattle.line_buffer.proofs.LeftLemmas.{stopped_first}
 use Rattle.line_record.specs.Items.{Items, ItemsStand, RecordsEventIn, record_refuses, record_on, items_with_mark}
 use Rattle.line_record.specs.RecordCourse.{record_after_events}
 use Rattle.line_record.proofs.RunLemmas.{told_stand, told_held, stopped_stand, part_stopped, recorded_all-nil}
-use Rattle.line_edits.specs.WriteSteps.{WriteStep, Tells, Leaves, Closes, CutEvents, CutAlong, CutEdit, Rewrites, Edits, effect_of_edit, effect_of_steps, single_step, in_turn, with_answer, steps_in_group, WriteSteps, effect_of_step}
-use Rattle.line_edits.specs.Written.{Written, Writes, line_and_record, line_and_record_in}
-use Rattle.line_edits.specs.declared.recorded_line.RecordedLine.{RecordedLine}
+use Rattle.line_edits.specs.WriteSteps.{WriteStep, Tells, Leaves, Closes, CutEvents, CutAlong, CutEdit, Rewrites, effect_of_edit, effect_of_steps, single_step, in_turn, with_answer, steps_in_group, WriteSteps, effect_of_step}
+use Rattle.line_edits.specs.Written.{Written, Writes, line_and_record}
 
 -- ---- steps
 
@@ -47,11 +45,6 @@ pub rewrites_refused : {A E : Type 0} {steps : WriteSteps A} {before after : Lin
     → IsErrAnd result (λ x. x ≡ e) → ItemsStand new after.text → CutEdit steps (line_and_record before old) (line_and_record after new) → Rewrites steps before after old new result
 rewrites_refused e (Ok a) is stand stops = absurd is
 rewrites_refused e (Err x) is stand stops = record { writes = record { answers = tt; line = tt; held = tt; stand = stand }; left = stops }
-
-pub edits_refused : {A E : Type 0} {steps : WriteSteps A} {before after : RecordedLine} (e : E) (result : Result A E)
-    → IsErrAnd result (λ x. x ≡ e) → ItemsStand after.changes after.line.text → CutEdit steps (line_and_record_in before) (line_and_record_in after) → Edits steps before after result
-edits_refused {steps = steps} {before = before} {after = after} e result is stand stops =
-    let h = rewrites_refused e result is stand stops in record { writes = h.writes; left = left_unanswered result steps (line_and_record_in before) (line_and_record_in after) h.left }
 
 -- one that was answered is where its edit leads
 pub written_is : {A E : Type 0} {edit : Written → Written} {answer : A} {before after : Line} {old new : Items} {a : A} → Writes {A = A} {E = E} edit answer before after old new (Ok a)

@@ -1,13 +1,12 @@
 -- What a failed edit leaves: one of a single change, a kill, and a group.
-use Rattle.std.specs.Prelude.{Bool, true, false, if◌then◌else◌, Option, Some, None}
-use Rattle.std.proofs.Common.{◌≡◌, ◌≤◌, inl, inr, List, [], ◌∷◌, ◌++◌, length, refl, ap, ◌∙◌, arith, length-append}
+use Rattle.std.proofs.Common.{◌≡◌, ◌≤◌, inl, inr, List, [], ◌∷◌, ◌++◌, length, refl, ap, ◌∙◌, arith, Bool, true, false, if◌then◌else◌}
 use Rattle.line_buffer.specs.Event.{ChangeEvent}
-use Rattle.line_buffer.specs.Event.ChangeEvent.{StartKilling, StopKilling}
+use Rattle.line_buffer.specs.Event.ChangeEvent.{StartKilling}
 use Rattle.line_buffer.specs.Line.{Line}
-use Rattle.line_buffer.specs.Range.{range_of, goes_by_clusters, deletion_events}
-use Rattle.line_buffer.specs.Replay.{deletion, line_after_events}
-use Rattle.line_buffer.specs.declared.range.TextSpan.{TextSpan}
-use Rattle.line_buffer.proofs.KeptLemmas.{no_change, deletion_few, insert_few, split_between, yank_few}
+use Rattle.line_buffer.specs.declared.types.Movement.{Movement}
+use Rattle.line_buffer.specs.Range.{range_of, goes_by_clusters, kill_events}
+use Rattle.line_buffer.specs.Replay.{line_after_events}
+use Rattle.line_buffer.proofs.KeptLemmas.{none_done, kill_cut, insert_few, yank_few}
 use Rattle.line_record.specs.RecordCourse.{record_after_events}
 use Rattle.line_edits.specs.Edits.{RefusedChangesLeaveAll, RefusedGroupsStayOpen}
 use Rattle.line_edits.specs.WriteSteps.{WriteStep, Tells, Closes, CutEvents, CutAlong, CutEdit, after_events, single_step, effect_of_step}
@@ -23,19 +22,17 @@ followed-mark w = refl
 
 -- of one event at most none was made
 kept_within : (events : List ChangeEvent) {w v : Written} → length events ≤ 1 → CutEvents events w v → v ≡ w
-kept_within events {w} {v} few x = by x.done x.split x.left
-  where
-    by : (done : List ChangeEvent) → events ≡ done ++ x.refused ∷ x.never → v ≡ after_events done w → v ≡ w
-    by [] split left = left ∙ followed-none w
-    by (e ∷ es) split left = absurd (omega (arith, few, ap length split, length-append es (x.refused ∷ x.never)))
+kept_within events {w} few x = x.left ∙ ap (λ es. after_events es w) (none_done x.done x.never x.refused few x.split) ∙ followed-none w
 
 -- of a kill the mark alone
-kill_within : (by_clusters : Bool) (range : Option TextSpan) (l : Line) {w v : Written}
-    → CutEvents (if by_clusters then deletion_events range l else StartKilling ∷ (deletion_events range l ++ (StopKilling ∷ []))) w v → v ≡ w
-kill_within true range l x = kept_within (deletion_events range l) (deletion_few range l) x
-kill_within false None l x = no_change x.done x.never x.refused x.split x.change
-kill_within false (Some span) l {w} x =
-    split_between (deletion span.from span.upto span.direction l.text) x.done x.never x.refused x.split x.change (λ one is. x.left ∙ ap (λ es. after_events es w) one ∙ followed-mark w)
+mark_within : (plain : Bool) (w : Written) → after_events (if plain then [] else StartKilling ∷ []) w ≡ w
+mark_within true w = followed-none w
+mark_within false w = followed-mark w
+
+kill_within : (movement : Movement) (l : Line) {w v : Written} → CutEvents (kill_events movement l) w v → v ≡ w
+kill_within movement l {w} x =
+    let cut = kill_cut (goes_by_clusters movement) (range_of movement l) l x.done x.never x.refused x.split x.change in
+    x.left ∙ ap (λ es. after_events es w) cut.marks ∙ mark_within (goes_by_clusters movement) w
 
 -- an edit of one step
 stopped_step : {A : Type 0} {events : List ChangeEvent} {line : Line} {answer : A} {w v : Written} → CutEdit (single_step (Tells events line) answer) w v → CutEvents events w v
@@ -47,7 +44,7 @@ refused_changes_leave_all = record {
   yanked = λ text n w v h. kept_within _ (yank_few text n w.line) (stopped_step h);
   put = λ text w v h. kept_within _ (omega arith) (stopped_step h);
   put_over = λ c end w v h. kept_within _ (omega arith) (stopped_step h);
-  killed = λ movement w v h. kill_within (goes_by_clusters movement) (range_of movement w.line) w.line (stopped_step h);
+  killed = λ movement w v h. kill_within movement w.line (stopped_step h);
 }
 
 -- closing marks never fails

@@ -1,4 +1,6 @@
 //! Insertions.
+#![tactic(auto, using(crate::proofs::PlainLemmas::typed_is, crate::proofs::PlainLemmas::inserted_is, crate::proofs::PlainLemmas::yanked_is, crate::proofs::StepLemmas::left_unanswered))]
+
 ghost use Rattle.std.specs.Prelude.{◌≡◌, ◌≤◌, ◌-◌, true, is_some, OnErr, IsCharBoundary};
 ghost use Rattle.line_buffer.specs.Insertions.{insert as insertion, yank as yanked_in};
 ghost use Rattle.line_record.specs.Items.{ItemsStand};
@@ -102,7 +104,6 @@ fn pop_told_in_group(
 impl RecordedLine {
     /// Inserts a character `n` times. Returns whether that is at the text's end, or `None` if it
     /// doesn't fit.
-    #[tactic(auto, using(crate::proofs::PlainLemmas::typed_is, crate::proofs::StepLemmas::left_unanswered))]
     pub fn insert_char(
         &mut self,
         alloc: Global,
@@ -120,7 +121,6 @@ impl RecordedLine {
     }
 
     /// Inserts a text at the cursor, which stays before it.
-    #[tactic(auto, using(crate::proofs::PlainLemmas::inserted_is))]
     pub fn insert_text(&mut self, alloc: Global, text: &str) -> Result<(), OutOfMemory>
         ensures { Edits (text_steps text.now self.old.line) self.old self.new result }
     {
@@ -131,7 +131,6 @@ impl RecordedLine {
 
     /// Inserts a text `n` times. Returns whether that is at the text's end, or `None` if the text
     /// is empty or doesn't fit.
-    #[tactic(auto, using(crate::proofs::PlainLemmas::yanked_is))]
     pub fn yank(
         &mut self,
         alloc: Global,

@@ -1,4 +1,6 @@
 //! Tests whether a text is plain: of a whole one, of a character, and of a line without a range.
+#![tactic(auto, using(crate::proofs::PlainLemmas::char_is_plain, crate::proofs::PlainLemmas::without_is))]
+
 ghost use Rattle.std.specs.Prelude.{◌≡◌, ◌≤◌, [], encode_utf8, IsCharBoundary};
 ghost use Rattle.std.specs.List.{replace_range};
 ghost use Rattle.line_buffer.specs.Printable.{is_plain};
@@ -8,7 +10,6 @@ pub use line_buffer::is_plain;
 use line_buffer::is_printable;
 
 /// Whether a character is printable ASCII or a newline.
-#[tactic(auto, using(crate::proofs::PlainLemmas::char_is_plain))]
 pub(crate) fn is_plain_char(ch: char) -> bool
     ensures { result ≡ is_plain (encode_utf8 ch) }
 {
@@ -19,7 +20,6 @@ impl RecordedLine {
     /// Whether the text is plain without a range. If that range is plain, this is as it was for the
     /// whole text, and what is left isn't read.
     #[inline]
-    #[tactic(auto, using(crate::proofs::PlainLemmas::without_is))]
     pub(crate) fn is_plain_without(&self, from: usize, upto: usize) -> bool
         requires order { from ≤ upto }
         requires start { IsCharBoundary self.now.line.text from }

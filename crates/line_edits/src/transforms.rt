@@ -1,4 +1,6 @@
 //! Transposes clusters and words, changes the case of words, indents rows.
+#![tactic(auto, using(crate::proofs::StepLemmas::left_unanswered))]
+
 ghost use Rattle.line_record.specs.Items.{ItemsStand};
 ghost use Rattle.line_edits.specs.Edits.{transpose_chars_steps, transpose_chars_group, transpose_words_steps, transpose_words_group, word_steps, word_group, indent_steps};
 ghost use Rattle.line_edits.specs.WriteSteps.{Edits, Rewrites};
@@ -116,7 +118,6 @@ fn rows_told(
 
 impl RecordedLine {
     /// Transposes the clusters around the cursor, in one group. Returns whether there are two.
-    #[tactic(auto, using(crate::proofs::StepLemmas::left_unanswered))]
     pub fn transpose_chars(&mut self, alloc: Global) -> Result<bool, OutOfMemory>
         ensures { Edits (transpose_chars_group self.old.line) self.old self.new result }
     {
@@ -127,7 +128,6 @@ impl RecordedLine {
 
     /// Swaps the word at the cursor or after it with the one `n` words before it, in one group.
     /// Returns whether there are two; if not, the cursor may have moved.
-    #[tactic(auto, using(crate::proofs::StepLemmas::left_unanswered))]
     pub fn transpose_words(&mut self, alloc: Global, n: RepeatCount) -> Result<bool, OutOfMemory>
         ensures { Edits (transpose_words_group n self.old.line) self.old self.new result }
     {
@@ -138,7 +138,6 @@ impl RecordedLine {
 
     /// Changes the case of the word at the cursor or after it, in one group. Returns whether there
     /// is one.
-    #[tactic(auto, using(crate::proofs::StepLemmas::left_unanswered))]
     pub fn edit_word(&mut self, alloc: Global, action: WordAction) -> Result<bool, OutOfMemory>
         ensures { Edits (word_group action self.old.line) self.old self.new result }
     {

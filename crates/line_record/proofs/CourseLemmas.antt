@@ -1,8 +1,8 @@
 -- The texts that a record holds were texts of the line.
-use Rattle.std.proofs.Common.{ℕ, zero, suc, Bool, true, false, List, [], ◌∷◌, drop, Option, Some, None, refl, inl, inr}
-use Rattle.std.specs.Prelude.{if◌then◌else◌}
+use Rattle.std.proofs.Common.{ℕ, zero, suc, Bool, true, false, List, [], ◌∷◌, drop, Option, Some, None, refl, inl, inr, if◌then◌else◌, arith}
+use Rattle.std.proofs.lemmas.Bool.Decides.{nat_tests}
 use Rattle.line_buffer.specs.Event.{ChangeEvent}
-use Rattle.line_buffer.specs.Event.ChangeEvent.{StartKilling, StopKilling, Delete, InsertChar, InsertStr, Replace}
+use Rattle.line_buffer.specs.Event.ChangeEvent.{StartKilling, StopKilling}
 use Rattle.line_buffer.specs.Replay.{text_after_event}
 use Rattle.line_record.specs.Change.{Change}
 use Rattle.line_record.specs.Held.{HeldItem, Undone, text_of, steps_with_change, steps_with_join, steps_with_change_if, record_after_event, change_of, join_of, record_after_close, closes, has_mark, group_with_change, text_back, ahead_back, record_ahead}
@@ -52,10 +52,7 @@ ahead_after_seen : (e : ChangeEvent) (ahead : List Undone) (seen : List (List �
 unfolding AheadSeen
 ahead_after_seen StartKilling ahead seen h = h
 ahead_after_seen StopKilling ahead seen h = h
-ahead_after_seen (Delete at text direction) ahead seen h = tt
-ahead_after_seen (InsertChar at c) ahead seen h = tt
-ahead_after_seen (InsertStr at text) ahead seen h = tt
-ahead_after_seen (Replace at before after) ahead seen h = tt
+ahead_after_seen _ ahead seen h = tt
 
 -- a group that is closed
 grouped_seen : (c : Change) (held : List HeldItem) (seen : List (List ℕ)) → HeldSeen held seen → HeldSeen (group_with_change c held) seen
@@ -65,9 +62,7 @@ grouped_seen c (Opened text ∷ held) seen h = h
 grouped_seen c (Stepped text place newest joinable ∷ held) seen h = h
 
 one_of_three : (a b : Bool) (x y z : List HeldItem) (seen : List (List ℕ)) → HeldSeen x seen → HeldSeen y seen → HeldSeen z seen → HeldSeen (if a then x else if b then y else z) seen
-one_of_three true b x y z seen p q r = p
-one_of_three false true x y z seen p q r = q
-one_of_three false false x y z seen p q r = r
+one_of_three a b x y z seen p q r = grind (arith, nat_tests)
 
 ended_seen : (held : List HeldItem) (seen : List (List ℕ)) → HeldSeen held seen → HeldSeen (record_after_close held) seen
 unfolding HeldSeen

@@ -1,12 +1,11 @@
 -- The record as its items and the number of those done.
-use Rattle.std.proofs.Common.{◌≡◌, ℕ, zero, suc, ◌-◌, ◌<◌, ◌≤◌, Bool, true, false, List, [], ◌∷◌, ◌++◌, length, take, drop, reverse, refl, sym, ap, subst, ◌∙◌, arith, get_or, append_assoc, add-one, Some, None, Option}
+use Rattle.std.proofs.Common.{◌≡◌, ℕ, zero, suc, ◌-◌, ◌<◌, ◌≤◌, Bool, true, false, List, [], ◌∷◌, ◌++◌, length, take, drop, reverse, refl, sym, ap, subst, ◌∙◌, arith, get_or, append_assoc, add-one, Some, None, Option, nat_lt, if◌then◌else◌, unwrap_or, slice_get, is_some, min}
 use Rattle.std.proofs.Math.Seq.{take-length}
-use Rattle.std.specs.Prelude.{nat_lt, if◌then◌else◌, unwrap_or, slice_get, is_some, min}
 use Rattle.std.proofs.lemmas.Bool.Decides.{nat_tests}
 use Rattle.std.proofs.lemmas.List.{take-append-drop, take-take, take_at, drop_at, take_min, drop_all, length-reverse, length-drop, length-take-le, reverse-append, reverse-reverse}
 use Rattle.line_record.specs.Change.{Change}
 use Rattle.line_record.specs.Items.{Item, Items, items_with_texts, DoneStand, changes_of_all, group_of, EndedBy, first_items}
-use Rattle.line_record.specs.Items.Item.{Open, Lone, Group}
+use Rattle.line_record.specs.Items.Item.{Open}
 use Rattle.line_record.specs.LogSteps.{record_of, oldest_mark, IsRecord, mark_within}
 use Rattle.line_record.proofs.EndLemmas.{EndedAs, has_open, gather, gather-reverse, closing, unmarked, ended_nothing, mark_none, none_marked}
 use Rattle.line_record.proofs.StepsLemmas.{newest_item}
@@ -44,8 +43,7 @@ mark_bound_step (Some k) n i h e = omega (arith, some_same k i e, h k refl)
 mark_bound : (items : List Item) (i : ℕ) → oldest_mark items ≡ Some i → i < length items
 mark_bound [] i e = cc
 mark_bound (Open ∷ items) i e = mark_bound_step (oldest_mark items) (length items) i (mark_bound items) e
-mark_bound (Lone c ∷ items) i e = omega (arith, mark_bound items i e)
-mark_bound (Group c cs ∷ items) i e = omega (arith, mark_bound items i e)
+mark_bound (x ∷ items) i e = omega (arith, mark_bound items i e)
 
 within_bound : (o : Option ℕ) (n : ℕ) → ((k : ℕ) → o ≡ Some k → k < n) → mark_within o n ≡ o
 within_bound None n h = refl
@@ -57,8 +55,7 @@ within_opened (Some k) n h = ap (λ b. if b then Some k else None) (lower k n (h
 
 pub within_rest : (x : Item) (rest : List Item) → mark_within (oldest_mark (x ∷ rest)) (length rest) ≡ oldest_mark rest
 within_rest Open rest = within_opened (oldest_mark rest) (length rest) (mark_bound rest)
-within_rest (Lone c) rest = within_bound (oldest_mark rest) (length rest) (mark_bound rest)
-within_rest (Group c cs) rest = within_bound (oldest_mark rest) (length rest) (mark_bound rest)
+within_rest x rest = within_bound (oldest_mark rest) (length rest) (mark_bound rest)
 
 within_if : (b : Bool) (k n m : ℕ) → nat_lt k n ≡ b → m ≤ n → mark_within (if b then Some k else None) m ≡ mark_within (Some k) m
 within_if true k n m e le = refl
@@ -151,12 +148,9 @@ split_open (Some k) items i is h e =
 mark_split : (items : List Item) (i : ℕ) → oldest_mark items ≡ Some i → Split items i
 mark_split [] i e = cc
 mark_split (Open ∷ items) i e = split_open (oldest_mark items) items i refl (mark_split items) e
-mark_split (Lone c ∷ items) i e =
+mark_split (x ∷ items) i e =
     let s = mark_split items i e in
-    record { newer = Lone c ∷ s.newer; older = s.older; whole = ap (λ xs. Lone c ∷ xs) s.whole; count = s.count; free = s.free }
-mark_split (Group c cs ∷ items) i e =
-    let s = mark_split items i e in
-    record { newer = Group c cs ∷ s.newer; older = s.older; whole = ap (λ xs. Group c cs ∷ xs) s.whole; count = s.count; free = s.free }
+    record { newer = x ∷ s.newer; older = s.older; whole = ap (λ xs. x ∷ xs) s.whole; count = s.count; free = s.free }
 
 pub mark_below : (items : List Item) (n i : ℕ) → IsRecord items n (Some i) → i < n
 mark_below items n i h = omega (arith, mark_bound (reverse (take n items)) i (sym h.marked), count_done items n h.inside)

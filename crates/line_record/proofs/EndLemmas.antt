@@ -1,11 +1,10 @@
 -- Groups that are closed.
-use Rattle.std.proofs.Common.{◌≡◌, ℕ, zero, suc, take, ◌||◌, Bool, true, false, List, [], ◌∷◌, ◌++◌, reverse, refl, sym, ap, subst, ◌∙◌, None, append_assoc}
-use Rattle.std.specs.Prelude.{if◌then◌else◌, is_some, slice_get}
+use Rattle.std.proofs.Common.{◌≡◌, ℕ, ◌||◌, Bool, true, false, List, [], ◌∷◌, ◌++◌, reverse, refl, sym, ap, subst, ◌∙◌, None, append_assoc, if◌then◌else◌, is_some, slice_get}
 use Rattle.std.proofs.lemmas.List.{append-nil, reverse-append}
 use Rattle.line_record.specs.Change.{Change, newest_of, all_taken_back, AllStandIn, undo_place, text_after_undo, StandsIn}
 use Rattle.line_record.specs.Held.{HeldItem, has_mark, closes, group_with_change, record_after_close}
 use Rattle.line_record.specs.Held.HeldItem.{Stepped}
-use Rattle.line_record.specs.Items.{Item, changes_of, before_item, items_with_texts, DoneStand, changes_of_all, group_of, last_changes, EndedBy}
+use Rattle.line_record.specs.Items.{Item, changes_of, before_item, items_with_texts, DoneStand, changes_of_all, group_of, EndedBy}
 use Rattle.line_record.specs.Items.Item.{Open, Lone, Group}
 use Rattle.line_record.specs.LogSteps.{oldest_mark, is_open, item_from}
 
@@ -26,7 +25,7 @@ AllStandIn-append : (cs ds : List Change) (text : List ℕ) → AllStandIn cs (a
 AllStandIn-append [] ds text h k = k
 AllStandIn-append (c ∷ cs) ds text h k = (subst (StandsIn c) (sym (all_taken_back-append cs ds text)) h.0, AllStandIn-append cs ds text h.1 k)
 
-newest_of-append : (g c : Change) (gs cs : List Change) → newest_of g (gs ++ (c ∷ cs)) ≡ newest_of c cs
+pub newest_of-append : (g c : Change) (gs cs : List Change) → newest_of g (gs ++ (c ∷ cs)) ≡ newest_of c cs
 newest_of-append g c [] cs = refl
 newest_of-append g c (h ∷ gs) cs = newest_of-append h c gs cs
 
@@ -40,14 +39,12 @@ free_mark : (items : List Item) (text : List ℕ) → has_open items ≡ false �
 unfolding has_open
 free_mark [] text h = refl
 free_mark (Open ∷ items) text h = cc
-free_mark (Lone c ∷ items) text h = free_mark items (before_item (Lone c) text) h
-free_mark (Group c cs ∷ items) text h = free_mark items (before_item (Group c cs) text) h
+free_mark (x ∷ items) text h = free_mark items (before_item x text) h
 
 marked : (newer older : List Item) (text : List ℕ) → has_mark (items_with_texts (newer ++ (Open ∷ older)) text) ≡ true
 marked [] older text = refl
 marked (Open ∷ newer) older text = refl
-marked (Lone c ∷ newer) older text = marked newer older (before_item (Lone c) text)
-marked (Group c cs ∷ newer) older text = marked newer older (before_item (Group c cs) text)
+marked (x ∷ newer) older text = marked newer older (before_item x text)
 
 -- a step ends by what is held below it
 ended_step : Bool → Bool → List ℕ → ℕ → Change → Bool → List HeldItem → List HeldItem → List HeldItem
@@ -66,8 +63,7 @@ free_closes : (items : List Item) (text : List ℕ) → has_open items ≡ false
 unfolding has_open
 free_closes [] text h = refl
 free_closes (Open ∷ items) text h = cc
-free_closes (Lone c ∷ items) text h = free_mark items (before_item (Lone c) text) h
-free_closes (Group c cs ∷ items) text h = free_mark items (before_item (Group c cs) text) h
+free_closes (x ∷ items) text h = free_mark items (before_item x text) h
 
 free_ended : (items : List Item) (text : List ℕ) → has_open items ≡ false → record_after_close (items_with_texts items text) ≡ items_with_texts items text
 unfolding has_open ended_step
@@ -144,19 +140,10 @@ unfolding gather
 gather-reverse [] = refl
 gather-reverse (x ∷ items) = ap gather (reverse-append (x ∷ []) items) ∙ gather-push (reverse items) x ∙ ap (λ cs. changes_of x ++ cs) (gather-reverse items)
 
-pub last_changes_are : (n : ℕ) (items : List Item) → last_changes n items ≡ gather (take n items)
-unfolding gather
-last_changes_are zero items = refl
-last_changes_are (suc n) [] = refl
-last_changes_are (suc n) (x ∷ items) = ap (λ cs. cs ++ changes_of x) (last_changes_are n items)
-
 pub changes_of-item_from : (closed : Bool) (cs : List Change) → changes_of (item_from closed cs) ≡ cs
-changes_of-item_from true [] = refl
-changes_of-item_from false [] = refl
-changes_of-item_from true (c ∷ []) = refl
-changes_of-item_from false (c ∷ []) = refl
 changes_of-item_from true (c ∷ (d ∷ cs)) = refl
 changes_of-item_from false (c ∷ (d ∷ cs)) = refl
+changes_of-item_from _ _ = refl
 
 item_from_closed : (c : Change) (cs : List Change) → item_from true (c ∷ cs) ≡ Group c cs
 item_from_closed c [] = refl
@@ -175,12 +162,10 @@ pub mark_none : (items : List Item) → oldest_mark items ≡ None → has_open 
 unfolding has_open
 mark_none [] e = refl
 mark_none (Open ∷ items) e = cc
-mark_none (Lone c ∷ items) e = mark_none items e
-mark_none (Group c cs ∷ items) e = mark_none items e
+mark_none (x ∷ items) e = mark_none items e
 
 pub none_marked : (items : List Item) → has_open items ≡ false → oldest_mark items ≡ None
 unfolding has_open
 none_marked [] h = refl
 none_marked (Open ∷ items) h = cc
-none_marked (Lone c ∷ items) h = none_marked items h
-none_marked (Group c cs ∷ items) h = none_marked items h
+none_marked (x ∷ items) h = none_marked items h

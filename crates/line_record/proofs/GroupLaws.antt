@@ -1,9 +1,8 @@
 -- A group that is undone as one.
-use Rattle.std.proofs.Common.{◌≡◌, ℕ, ◌+◌, ◌==◌, ◌&&◌, Bool, true, false, List, [], ◌∷◌, ◌++◌, length, take, drop, Option, Some, None, refl, sym, ap, subst, add-zero, ◌∙◌}
-use Rattle.std.specs.Prelude.{if◌then◌else◌}
+use Rattle.std.proofs.Common.{◌≡◌, ℕ, ◌+◌, Bool, true, false, List, [], ◌∷◌, ◌++◌, length, drop, Option, Some, None, refl, sym, ap, subst, ◌∙◌, if◌then◌else◌, arith}
 use Rattle.std.specs.List.{replace_range}
-use Rattle.std.proofs.lemmas.List.{append-nil, take-append-drop}
-use Rattle.std.proofs.lemmas.Bool.{eqb-true}
+use Rattle.std.proofs.lemmas.Bool.{and_parts}
+use Rattle.std.proofs.lemmas.Bool.Decides.{nat_tests}
 use Rattle.line_buffer.specs.Event.{ChangeEvent}
 use Rattle.line_buffer.specs.Event.ChangeEvent.{StartKilling, StopKilling, Delete, InsertChar, InsertStr, Replace}
 use Rattle.line_buffer.specs.Replay.{text_after_event}
@@ -11,8 +10,9 @@ use Rattle.line_record.specs.Change.{Change}
 use Rattle.line_record.specs.Held.{HeldItem, change_of, join_of, step_of, steps_with_change, steps_with_join, steps_with_change_if, record_after_event, has_mark, closes, record_after_close, text_back}
 use Rattle.line_record.specs.Held.HeldItem.{Opened, Stepped}
 use Rattle.line_record.specs.RecordCourse.{RecordCall, RecordCourse, after_call, after_calls}
-use Rattle.line_record.specs.RecordCourse.RecordCall.{Told, Begun, Ended, TakenBack, MadeAnew}
+use Rattle.line_record.specs.RecordCourse.RecordCall.{Told, Begun}
 use Rattle.line_record.specs.Laws.{stays_open, AllStayOpen, UndoTakesTheGroupBack}
+use Rattle.line_record.proofs.NotedLemmas.{none_there, nothing_put}
 use Rattle.line_record.proofs.RecordLaws.{no_mark}
 
 -- the text of the oldest of some steps, or the current one without steps
@@ -27,36 +27,23 @@ record Inside (begun_on : List ℕ) (older held : List HeldItem) (text : List �
   are : held ≡ newer ++ (Opened begun_on ∷ older)
   begun : text_begun newer text ≡ begun_on
 
-empty_text : (text : List ℕ) → (length text == 0) ≡ true → text ≡ []
-empty_text text h = nothing text (eqb-true (length text) 0 h)
-  where
-    nothing : (xs : List ℕ) → length xs ≡ 0 → xs ≡ []
-    nothing [] k = refl
-    nothing (x ∷ xs) k = cc
-
 none_if : {A : Type 0} (b : Bool) (x : A) → (if b then None else Some x) ≡ None → b ≡ true
-none_if true x h = refl
-none_if false x h = cc
-
-both_hold : (a b : Bool) → (a && b) ≡ true → (a ≡ true) × (b ≡ true)
-both_hold true b h = (refl, h)
-both_hold false b h = cc
+none_if b x h = grind (arith, nat_tests)
 
 nothing_swapped : (text : List ℕ) (at : ℕ) (removed added : List ℕ) → removed ≡ [] → added ≡ [] → replace_range text at (at + length removed) added ≡ text
 nothing_swapped text at removed added r a =
-    ap (λ x. replace_range text at (at + length x) added) r ∙ ap (replace_range text at (at + 0)) a ∙ ap (λ k. (take at text ++ []) ++ drop k text) (add-zero at)
-    ∙ ap (λ x. x ++ drop at text) (append-nil (take at text)) ∙ take-append-drop at text
+    ap (λ x. replace_range text at (at + length x) added) r ∙ ap (replace_range text at (at + 0)) a ∙ nothing_put text at
 
 -- an event of no change leaves the text
 pub unchanged : (e : ChangeEvent) (text : List ℕ) → change_of e ≡ None → text_after_event e text ≡ text
 unchanged StartKilling text h = refl
 unchanged StopKilling text h = refl
-unchanged (Delete at removed direction) text h = nothing_swapped text at removed [] (empty_text removed (none_if _ _ h)) refl
+unchanged (Delete at removed direction) text h = nothing_swapped text at removed [] (none_there removed (none_if _ _ h)) refl
 unchanged (InsertChar at c) text h = cc
-unchanged (InsertStr at added) text h = nothing_swapped text at [] added refl (empty_text added (none_if _ _ h))
+unchanged (InsertStr at added) text h = nothing_swapped text at [] added refl (none_there added (none_if _ _ h))
 unchanged (Replace at removed added) text h =
-    let b = both_hold _ _ (none_if _ _ h) in
-    nothing_swapped text at removed added (empty_text removed b.0) (empty_text added b.1)
+    let b = and_parts _ _ (none_if _ _ h) in
+    nothing_swapped text at removed added (none_there removed b.0) (none_there added b.1)
 
 joined_inside : (o : Option Change) (c d : Change) (place : ℕ) (begun_on text after earlier : List ℕ) (newer older : List HeldItem) → text_begun newer earlier ≡ begun_on
     → Inside begun_on older (steps_with_join o c text earlier (Stepped earlier place d true) (newer ++ (Opened begun_on ∷ older))) after
@@ -83,9 +70,7 @@ unfolding text_begun
 call_inside (Told e) c begun_on older s i =
     subst (λ held. Inside begun_on older (record_after_event e c.text held) (text_after_event e c.text)) (sym i.are) (told_inside e (change_of e) begun_on c.text i.newer older refl i.begun)
 call_inside Begun c begun_on older s i = record { newer = Opened c.text ∷ i.newer; are = ap (λ held. Opened c.text ∷ held) i.are; begun = i.begun }
-call_inside Ended c begun_on older s i = cc
-call_inside (TakenBack n) c begun_on older s i = cc
-call_inside MadeAnew c begun_on older s i = cc
+call_inside _ c begun_on older s i = cc
 
 calls_inside : (calls : List RecordCall) (c : RecordCourse) (begun_on : List ℕ) (older : List HeldItem) → AllStayOpen calls → Inside begun_on older c.held c.text
     → Inside begun_on older (after_calls calls c).held (after_calls calls c).text

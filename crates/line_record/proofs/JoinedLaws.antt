@@ -1,6 +1,5 @@
 -- Two listeners, the last of which is a record.
-use Rattle.std.proofs.Common.{◌≡◌, List, refl, ap, ◌∙◌, inl, inr}
-use Rattle.std.specs.Prelude.{ℕ, IsUtf8}
+use Rattle.std.proofs.Common.{◌≡◌, List, refl, ap, ◌∙◌, inl, inr, ℕ, IsUtf8}
 use Rattle.line_buffer.specs.Event.{ChangeEvent}
 use Rattle.line_buffer.specs.Replay.{Reports, StopsAmong}
 use Rattle.line_buffer.proofs.ReplayLemmas.{stops_wanting}

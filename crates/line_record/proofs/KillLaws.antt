@@ -1,18 +1,18 @@
 -- A run of kills comes back by one yank.
-use Rattle.std.proofs.Common.{◌≡◌, ◌≢◌, ℕ, zero, suc, ◌+◌, ◌-◌, ◌<◌, ◌≤◌, ◌==◌, inl, inr, ◌||◌, Bool, true, false, List, [], ◌∷◌, ◌++◌, length, take, drop, Option, None, Some, refl, sym, ap, subst, ◌∙◌, arith, add-zero}
-use Rattle.std.specs.Prelude.{IsUtf8, IsCharBoundary, IfSome, is_some, slice_range, slice_get, slice_set, slice_index_or, if◌then◌else◌, nat_lt, nat_le}
+use Rattle.std.proofs.Common.{◌≡◌, ◌≢◌, ℕ, ◌+◌, ◌-◌, ◌<◌, ◌≤◌, ◌==◌, inl, inr, ◌||◌, Bool, true, false, List, [], ◌∷◌, ◌++◌, length, take, drop, Option, None, Some, refl, sym, ap, subst, ◌∙◌, arith, add-zero, IsUtf8, IsCharBoundary, IfSome, is_some, slice_range, slice_set, slice_index_or, if◌then◌else◌, nat_lt, nat_le}
 use Rattle.std.specs.List.{replace_range}
-use Rattle.std.proofs.lemmas.List.{append-nil, length-drop, length-take-le, take-append-drop, length-set, get_or-set_same, length-append}
+use Rattle.std.proofs.lemmas.List.{append-nil, length-drop, length-take-le, length-set, get_or-set_same, length-append}
 use Rattle.std.proofs.Math.Bool.{or_assoc, or-false}
 use Rattle.std.proofs.Math.Seq.{get_or-append_seam}
 use Rattle.std.proofs.lemmas.Str.{IsUtf8-nil, IsUtf8-append, IsUtf8-between}
-use Rattle.std.proofs.lemmas.Bool.{eqb-true, ltb-true, ltb-false}
+use Rattle.std.proofs.lemmas.Option.{slice_get-get_or}
+use Rattle.std.proofs.lemmas.Bool.{ltb-true, ltb-false}
 use Rattle.std.proofs.lemmas.Bool.Decides.{nat_tests}
 use Rattle.line_buffer.specs.declared.range.TextSpan.{TextSpan}
 use Rattle.line_buffer.specs.declared.types.Mode.{Mode}
 use Rattle.line_buffer.specs.declared.types.Mode.TheVariants.{Append, Prepend}
 use Rattle.line_buffer.specs.declared.types.Movement.{Movement}
-use Rattle.line_buffer.specs.declared.types.Movement.TheVariants.{WholeLine, BeginningOfLine, EndOfLine, BackwardWord, ForwardWord, ViCharSearch, ViFirstPrint, BackwardChar, ForwardChar, LineUp, LineDown, WholeBuffer, BeginningOfBuffer, EndOfBuffer}
+use Rattle.line_buffer.specs.declared.types.Movement.TheVariants.{BeginningOfLine, EndOfLine, BackwardWord, ForwardWord, ViCharSearch, BeginningOfBuffer, EndOfBuffer}
 use Rattle.line_buffer.specs.Event.ChangeEvent.{StartKilling, StopKilling}
 use Rattle.line_buffer.specs.Insertions.{yank, insertion_of, no_insertion, with_text_at_cursor}
 use Rattle.line_buffer.specs.Line.{Line, without_range}
@@ -26,6 +26,7 @@ use Rattle.line_record.specs.Laws.{is_directed, AllDirected, line_killed, ring_k
 use Rattle.line_record.specs.Ring.{Ring, IsRing, joined_text, slot_after, slots_with_text, ring_with_kill, ring_with_kill_after, ring_with_new_kill, mode_of, ring_all}
 use Rattle.line_record.proofs.DirectedLemmas.{Onward, Back, IsDirected, directed}
 use Rattle.line_record.proofs.Exchange.{exchanged, joined_right, joined_left}
+use Rattle.line_record.proofs.NotedLemmas.{none_there, nothing_put}
 
 -- the text put in at the cursor gives the first text
 record Restores (first : List ℕ) (l : Line) (text : List ℕ) : Type 0 where
@@ -219,13 +220,7 @@ directed_events BeginningOfBuffer l d = refl
 directed_events (BackwardWord n word) l d = refl
 directed_events (ForwardWord n at word) l d = refl
 directed_events (ViCharSearch n search) l d = refl
-directed_events WholeLine l d = cc
-directed_events ViFirstPrint l d = cc
-directed_events (BackwardChar n) l d = cc
-directed_events (ForwardChar n) l d = cc
-directed_events (LineUp n) l d = cc
-directed_events (LineDown n) l d = cc
-directed_events WholeBuffer l d = cc
+directed_events _ l d = cc
 
 record Run (some : Bool) (first : List ℕ) (l : Line) (r : Ring) : Type 0 where
   text : List ℕ
@@ -260,19 +255,6 @@ all_kills (m ∷ ms) some first l r d run =
     (or_assoc some (is_some (range_of m l)) (some_taken ms (kill_line m l)))
     (all_kills ms (some || is_some (range_of m l)) first (kill_line m l) (ring_all (kill_events m l) r) d.1 told)
 
-slot_there : (slots : List (List ℕ)) (i : ℕ) → i < length slots → slice_get slots i ≡ Some (slice_index_or slots i [])
-slot_there [] i h = absurd (omega (arith, h))
-slot_there (s ∷ slots) zero h = refl
-slot_there (s ∷ slots) (suc i) h = slot_there slots i (omega (arith, h))
-
-nothing_there : {A : Type 0} (xs : List A) → (length xs == 0) ≡ true → xs ≡ []
-nothing_there [] h = refl
-nothing_there (x ∷ xs) h = absurd (omega (arith, eqb-true (length (x ∷ xs)) 0 h))
-
-nothing_put : (text : List ℕ) (at : ℕ) → text_with_exchange at [] [] text ≡ text
-nothing_put text at =
-    ap (λ x. x ++ drop (at + 0) text) (append-nil (take at text)) ∙ ap (λ k. take at text ++ drop k text) (add-zero at) ∙ take-append-drop at text
-
 put_in_room : (g : Bool) (text : List ℕ) (l : Line) → g ≡ true
     → (if g || nat_le (length l.text + length text) l.limit then record { answer = Some (l.place == length l.text); events = insertion l.place text ∷ []; line = with_text_at_cursor text l } else no_insertion l).line.text
     ≡ text_with_exchange l.place [] text l.text
@@ -284,7 +266,7 @@ yanked_back : (first : List ℕ) (l : Line) (text : List ℕ) → Restores first
 yanked_back first l text r = by_test (length text == 0) refl
   where
     by_test : (b : Bool) → (length text == 0) ≡ b → (if b then no_insertion l else insertion_of text 1 l).line.text ≡ first
-    by_test true e = sym (nothing_put l.text l.place) ∙ ap (λ t. text_with_exchange l.place [] t l.text) (sym (nothing_there text e)) ∙ r.restored
+    by_test true e = sym (nothing_put l.text l.place) ∙ ap (λ t. text_with_exchange l.place [] t l.text) (sym (none_there text e)) ∙ r.restored
     by_test false e = sym (ap (λ x. x.line.text) (one_insertion text 1 l refl)) ∙ put_in_room l.growth text l r.growth ∙ r.restored
 
 pub kills_come_back : KillsComeBack
@@ -296,4 +278,4 @@ kills_come_back ms l r d some u b g ring size last =
       ring = record { last = last; size = size; ring = ring; none = refl };
     } in
     let run = subst (λ k. Run k l.text (line_killed ms l) (ring_killed ms l r)) some (all_kills ms false l.text l r d start) in
-    (run.text, slot_there _ _ run.ring.inside ∙ ap Some run.ring.slot, yanked_back l.text (line_killed ms l) run.text run.line)
+    (run.text, slice_get-get_or _ _ [] run.ring.inside ∙ ap Some run.ring.slot, yanked_back l.text (line_killed ms l) run.text run.line)

@@ -1,8 +1,7 @@
 -- What a log holds where changes are cut off, and one more is put in.
-use Rattle.std.proofs.Common.{◌≡◌, ℕ, zero, suc, ◌+◌, ◌-◌, ◌<◌, ◌≤◌, List, [], ◌∷◌, ◌++◌, length, take, drop, map, refl, sym, ap, subst, ◌∙◌, arith, get_or, append_assoc}
+use Rattle.std.proofs.Common.{◌≡◌, ℕ, zero, suc, ◌+◌, ◌-◌, ◌<◌, ◌≤◌, List, [], ◌∷◌, ◌++◌, length, take, drop, map, refl, sym, ap, subst, ◌∙◌, arith, get_or, append_assoc, Bool, true, false, if◌then◌else◌, All, Option, Some, None, option_map, slice_range, IsUtf8, IsCharBoundary}
 use Rattle.std.proofs.Math.Seq.{take-length}
-use Rattle.std.specs.Prelude.{Bool, true, false, if◌then◌else◌, All, Option, Some, None, option_map, slice_range, IsUtf8, IsCharBoundary}
-use Rattle.std.proofs.lemmas.List.{take-take, take_at, drop_at, take-map, drop-map, get_or-map, get_or_push, get_or_default, length_push, length-map, map_push, length-append, length-take, length-take-le}
+use Rattle.std.proofs.lemmas.List.{take-take, take_at, drop_at, take-map, drop-map, get_or-map, get_or_push, get_or_default, length_push, length-map, length-append, length-take, length-take-le}
 use Rattle.std.proofs.lemmas.List.Elements.{All-take, All-drop}
 use Rattle.std.proofs.lemmas.Str.{IsUtf8-append, IsUtf8-between, IsCharBoundary-from_take}
 use Rattle.unicode_segmentation.proofs.TextLemmas.{take_split, length-slice_range}
@@ -15,8 +14,8 @@ use Rattle.line_record.specs.Held.{join_of}
 use Rattle.line_buffer.specs.Line.{Line}
 use Rattle.line_record.specs.Items.{lines_ahead}
 use Rattle.line_record.proofs.StepLemmas.{ahead_turn, AheadTurn}
-use Rattle.line_record.specs.Logged.{Adjoin, place_of_span, edit_from, edit_in, edits_in, Spelt, IsLog, old_text_with, change_with_text, join_at, change_told}
-use Rattle.line_record.proofs.SpanLemmas.{take_lower, slice_same, adjoin_cut, adjoin_at, place_le, place_fits, adjoin_push, adjoin_kept, views_kept}
+use Rattle.line_record.specs.Logged.{place_of_span, edit_from, edit_in, edits_in, Spelt, IsLog, old_text_with, change_with_text, join_at, change_told}
+use Rattle.line_record.proofs.SpanLemmas.{take_lower, slice_same, adjoin_at, place_le, place_fits, SpansAre, spans_cut, span_pushed}
 
 abbrev from_of : LoggedChange → ℕ
 from_of x = x.start
@@ -39,25 +38,6 @@ edit_kept x xs ys le e h =
     ap (λ r. edit_from x.kind x.at r (slice_range ys x.middle x.end)) (sym (slice_same x.start x.middle xs ys h.removed (take_lower x.middle x.end xs ys h.added e)))
     ∙ ap (λ a. edit_from x.kind x.at (slice_range xs x.start x.middle) a) (sym (slice_same x.middle x.end xs ys h.added e))
 
--- the first n changes, in any text that begins as theirs do
-pub record Kept (text : List ℕ) (entries : List LoggedChange) (n : ℕ) (after : List ℕ) : Type 0 where
-  pub laid : Adjoin from_of to_of Spelt after 0 (take n entries) (place_of_span from_of entries n (length text))
-  pub edits : edits_in after (take n entries) ≡ take n (edits_in text entries)
-
-pub log_kept : (text after : List ℕ) (entries : List LoggedChange) (n place : ℕ) → IsLog text entries → place ≡ place_of_span from_of entries n (length text) → take place text ≡ take place after
-    → Kept text entries n after
-log_kept text after entries n place h is e =
-    let p = place_of_span from_of entries n (length text) in
-    let cut : Adjoin from_of to_of Spelt text 0 (take n entries) p = adjoin_cut from_of to_of Spelt n text entries 0 (length text) h in
-    let same : take p text ≡ take p after = subst (λ k. take k text ≡ take k after) is e in
-    record {
-      laid = adjoin_kept from_of to_of Spelt spelt_kept text after (take n entries) 0 p cut same;
-      edits = views_kept from_of to_of Spelt edit_in edit_kept text after (take n entries) 0 p cut same ∙ sym (take-map (edit_in text) n entries);
-    }
-
-pub place_inside : (text : List ℕ) (entries : List LoggedChange) (n : ℕ) → IsLog text entries → place_of_span from_of entries n (length text) ≤ length text
-place_inside text entries n h = place_le from_of to_of Spelt n text entries 0 (length text) h
-
 pub utf8_upto : (text : List ℕ) (entries : List LoggedChange) (n : ℕ) → IsUtf8 text → IsLog text entries → IsUtf8 (take (place_of_span from_of entries n (length text)) text)
 utf8_upto text entries n u h =
     place_fits from_of to_of Spelt (λ k. IsUtf8 (take k text)) text (λ s f. f.before) n entries 0 (length text) (subst IsUtf8 (sym (take-length text)) u) h
@@ -65,27 +45,16 @@ utf8_upto text entries n u h =
 pub place_between : (text : List ℕ) (entries : List LoggedChange) (n place : ℕ) → IsUtf8 text → IsLog text entries → place ≡ place_of_span from_of entries n (length text) → IsCharBoundary text place
 place_between text entries n place u h is =
     subst (IsCharBoundary text) (sym is)
-    (IsCharBoundary-from_take text (place_of_span from_of entries n (length text)) u (place_inside text entries n h) (utf8_upto text entries n u h))
+    (IsCharBoundary-from_take text (place_of_span from_of entries n (length text)) u (place_le from_of to_of Spelt n text entries 0 (length text) h) (utf8_upto text entries n u h))
+
+-- entries of a text, and the changes that they are
+abbrev pub LogIs : List ℕ → List LoggedChange → List Change → Type 0
+LogIs text entries edits = SpansAre from_of to_of Spelt edit_in text entries (length text) edits
 
 -- cut off
 pub log_cut : (text after : List ℕ) (entries left : List LoggedChange) (n place : ℕ) → IsLog text entries → place ≡ place_of_span from_of entries n (length text) → after ≡ take place text → left ≡ take n entries
-    → IsLog after left × (edits_in after left ≡ take n (edits_in text entries))
-log_cut text after entries left n place h is cut kept =
-    let inside : place ≤ length text = omega (arith, is, place_inside text entries n h) in
-    let count : length after ≡ place = ap length cut ∙ length-take-le place text inside in
-    let same : take place text ≡ take place after = sym (ap (take place) cut ∙ take-take place place text (omega arith)) in
-    let k = log_kept text after entries n place h is same in
-    (subst (λ es. IsLog after es) (sym kept) (subst (λ m. Adjoin from_of to_of Spelt after 0 (take n entries) m) (sym is ∙ sym count) k.laid), ap (edits_in after) kept ∙ k.edits)
-
--- one more
-pub log_pushed : (text after : List ℕ) (entries : List LoggedChange) (n : ℕ) (x : LoggedChange) → IsLog text entries → x.start ≡ place_of_span from_of entries n (length text) → take x.start text ≡ take x.start after
-    → Spelt after x → x.end ≡ length after → IsLog after (take n entries ++ (x ∷ [])) × (edits_in after (take n entries ++ (x ∷ [])) ≡ take n (edits_in text entries) ++ (edit_in after x ∷ []))
-log_pushed text after entries n x h is same spelt end =
-    let k = log_kept text after entries n x.start h is same in (
-      subst (λ m. Adjoin from_of to_of Spelt after 0 (take n entries ++ (x ∷ [])) m) end
-          (adjoin_push from_of to_of Spelt after (take n entries) 0 (place_of_span from_of entries n (length text)) x k.laid is (omega (arith, is, spelt.removed, spelt.added)) spelt),
-      map_push (edit_in after) (take n entries) x ∙ ap (λ es. es ++ (edit_in after x ∷ [])) k.edits,
-    )
+    → LogIs after left (take n (edits_in text entries))
+log_cut text after entries left n place h is = spans_cut from_of to_of Spelt edit_in spelt_kept edit_kept text after entries n place h is left
 
 -- an entry by the texts that stand there
 pub record Placed (text removed added : List ℕ) (x : LoggedChange) : Type 0 where
@@ -119,30 +88,17 @@ placed text front removed added x whole start middle end f r a =
     }
 
 -- one more by the texts that are put in after the first n
-pub record Put (text : List ℕ) (entries : List LoggedChange) (n : ℕ) (edit : Change) (after : List ℕ) (entries_after : List LoggedChange) : Type 0 where
-  pub log : IsLog after entries_after
-  pub edits : edits_in after entries_after ≡ take n (edits_in text entries) ++ (edit ∷ [])
-
 pub log_put : (text after removed added : List ℕ) (entries entries_after : List LoggedChange) (n : ℕ) (x : LoggedChange) → IsLog text entries → IsUtf8 text
     → x.start ≡ place_of_span from_of entries n (length text) → after ≡ take x.start text ++ (removed ++ added) → x.middle ≡ x.start + length removed → x.end ≡ length after
-    → IsUtf8 removed → IsUtf8 added → entries_after ≡ take n entries ++ (x ∷ []) → Put text entries n (edit_from x.kind x.at removed added) after entries_after
+    → IsUtf8 removed → IsUtf8 added → entries_after ≡ take n entries ++ (x ∷ []) → LogIs after entries_after (take n (edits_in text entries) ++ (edit_from x.kind x.at removed added ∷ []))
 log_put text after removed added entries entries_after n x h u is whole middle end r a new =
-    let inside : x.start ≤ length text = omega (arith, is, place_inside text entries n h) in
+    let inside : x.start ≤ length text = omega (arith, is, place_le from_of to_of Spelt n text entries 0 (length text) h) in
     let count : length (take x.start text) ≡ x.start = length-take-le x.start text inside in
     let front : IsUtf8 (take x.start text) = subst (λ k. IsUtf8 (take k text)) (sym is) (utf8_upto text entries n u h) in
     let p = placed after (take x.start text) removed added x whole (sym count) (middle ∙ ap (λ k. k + length removed) (sym count)) end front r a in
     let same : take x.start text ≡ take x.start after = sym (ap (take x.start) whole ∙ take_at (take x.start text) (removed ++ added) x.start count) in
-    let q = log_pushed text after entries n x h is same p.spelt end in
-    record {
-      log = subst (IsLog after) (sym new) q.0;
-      edits = ap (edits_in after) new ∙ q.1 ∙ ap (λ e. take n (edits_in text entries) ++ (e ∷ [])) p.edit;
-    }
-
--- the place by what the code reads
-pub place_is : (text : List ℕ) (seen entries : List LoggedChange) (n place count : ℕ) → place ≡ place_of_span from_of seen n count → seen ≡ entries → count ≡ length text
-    → place ≡ place_of_span from_of entries n (length text)
-place_is text seen entries n place count is same long =
-    is ∙ ap (λ es. place_of_span from_of es n count) same ∙ ap (place_of_span from_of entries n) long
+    span_pushed from_of to_of Spelt edit_in spelt_kept edit_kept text after entries n x.start h is x entries_after (edit_from x.kind x.at removed added) refl same
+    (omega (arith, p.spelt.removed, p.spelt.added)) p.spelt end p.edit new
 
 -- the entry of an index
 pub record EntryAt (text : List ℕ) (entries : List LoggedChange) (n : ℕ) (x : LoggedChange) : Type 0 where
@@ -227,7 +183,7 @@ pub log_grown : (text after r d : List ℕ) (entries entries_after : List Logged
     → EntryAt text entries n x → place ≡ (if before then x.start else x.middle) → after ≡ ((take place (take x.end text) ++ r) ++ drop place (take x.end text)) ++ d
     → middle ≡ x.middle + length r → end ≡ length after → IsUtf8 r → IsUtf8 d
     → entries_after ≡ take n entries ++ ((record { kind = x.kind; at = at; start = x.start; middle = middle; end = end }) ∷ [])
-    → Put text entries n (change_with_text at before r d (edit_in text x)) after entries_after
+    → LogIs after entries_after (take n (edits_in text entries) ++ (change_with_text at before r d (edit_in text x) ∷ []))
 log_grown text after r d entries entries_after n at place middle end before x h u e is whole mid long ru du new =
     let y : LoggedChange = record { kind = x.kind; at = at; start = x.start; middle = middle; end = end } in
     let o = slice_range text x.start x.middle in
@@ -238,7 +194,7 @@ log_grown text after r d entries entries_after n at place middle end before x h 
     let p = log_put text after (old_text_with before r o) (a ++ d) entries entries_after n y h u e.place (whole ∙ grown_text before text x r d place e.spelt is) old long
     (old_utf8 before r o ru (between_utf8 text x.start x.middle u c.start c.middle e.spelt.removed))
     (IsUtf8-append a d (between_utf8 text x.middle x.end u c.middle c.end e.spelt.added) du) new in
-    subst (λ g. Put text entries n g after entries_after) (grown_from at x.at before x.kind r d o a) p
+    subst (λ g. LogIs after entries_after (take n (edits_in text entries) ++ (g ∷ []))) (grown_from at x.at before x.kind r d o a) p
 
 pub mapped_twice : {A B C : Type 0} (f : A → B) (g : B → C) (o : Option A) → option_map g (option_map f o) ≡ option_map (λ x. g (f x)) o
 mapped_twice f g None = refl

@@ -1,11 +1,11 @@
 -- What noting an event does to the record of texts.
-use Rattle.std.proofs.Common.{◌≡◌, ℕ, ◌+◌, ◌==◌, ◌&&◌, not, Bool, true, false, List, [], ◌∷◌, ◌++◌, length, take, drop, Option, Some, None, refl, sym, ap, subst, add-zero, ◌∙◌, arith, eqb-true}
-use Rattle.std.specs.Prelude.{IsUtf8, encode_utf8, if◌then◌else◌}
-use Rattle.std.proofs.lemmas.List.{append-nil, take-append-drop}
+use Rattle.std.proofs.Common.{◌≡◌, ℕ, ◌+◌, ◌==◌, ◌&&◌, not, Bool, true, false, List, [], ◌∷◌, ◌++◌, length, take, drop, Option, Some, None, refl, sym, ap, subst, add-zero, ◌∙◌, eqb-true, IsUtf8, encode_utf8, if◌then◌else◌}
+use Rattle.std.proofs.lemmas.Bool.{and_parts}
+use Rattle.std.proofs.lemmas.List.{append-nil, take-append-drop, nil_from_length}
 use Rattle.unicode_segmentation.specs.Segments.{is_alphanumeric}
 use Rattle.line_buffer.specs.Event.{ChangeEvent}
 use Rattle.line_buffer.specs.Event.ChangeEvent.{StartKilling, StopKilling, Delete, InsertChar, InsertStr, Replace}
-use Rattle.line_buffer.specs.Replay.{Swaps}
+use Rattle.line_buffer.specs.Replay.{Swaps, Replays}
 use Rattle.line_buffer.specs.declared.types.Direction.{Direction}
 use Rattle.line_record.specs.Change.{Change, place_of, old_text_of, new_text_of, text_after_undo, text_with_exchange, StandsAt, StandsIn}
 use Rattle.line_record.specs.Change.Change.{Inserted, Deleted, Replaced}
@@ -64,10 +64,6 @@ follows c before after s u e =
 stands_from_swaps : {at : ℕ} {from to before after : List ℕ} → Swaps at from to before after → StandsAt at from to before
 stands_from_swaps s = record { start = s.start; end = s.end; bytes = s.stands; utf8 = s.text }
 
-both : (a b : Bool) → (a && b) ≡ true → b ≡ true
-both true b h = h
-both false b h = cc
-
 -- the test of a choice that gives something holds
 some_if : {A : Type 0} (b : Bool) (x g : A) → (if b then Some x else None) ≡ Some g → (b ≡ true) × (x ≡ g)
 some_if true x g e = (refl, cc)
@@ -84,7 +80,7 @@ joins_char : (at c : ℕ) (before after : List ℕ) → IsUtf8 before → Swaps 
 unfolding Joins
 joins_char at c before after u w (Inserted place text) g e s =
     let h = some_if (is_alphanumeric c && (at == place + length text)) (Inserted place (text ++ encode_utf8 c)) g e in
-    let i : at ≡ place + length text = eqb-true at (place + length text) (both (is_alphanumeric c) (at == place + length text) h.0) in
+    let i : at ≡ place + length text = eqb-true at (place + length text) (and_parts (is_alphanumeric c) (at == place + length text) h.0).1 in
     let t : StandsAt (place + length text) [] (encode_utf8 c) before = subst (λ k. StandsAt k [] (encode_utf8 c) before) i (stands_from_swaps w) in
     let x : Follows (Inserted place (text ++ encode_utf8 c)) (text_after_undo (Inserted place text) before) after =
     from_joined (Inserted place (text ++ encode_utf8 c)) after (joined_right place [] text [] (encode_utf8 c) before s u t) (w.becomes ∙ ap (λ k. text_with_exchange k [] (encode_utf8 c) before) i) in
@@ -161,14 +157,16 @@ recorded_told e s before after n a = record { stand = (n.stand, tt); held = n.he
 swapped : (c : Change) (before after : List ℕ) → IsUtf8 before → Swaps (place_of c) (old_text_of c) (new_text_of c) before after → Follows c before after
 swapped c before after u w = follows c before after (stands_from_swaps w) u w.becomes
 
-no_length : {A : Type 0} (xs : List A) → (length xs == 0) ≡ true → xs ≡ []
-no_length [] h = refl
-no_length (x ∷ xs) h = absurd (omega (arith, eqb-true (length (x ∷ xs)) 0 h))
+pub none_there : (xs : List ℕ) → (length xs == 0) ≡ true → xs ≡ []
+none_there xs h = nil_from_length xs (eqb-true (length xs) 0 h)
+
+pub nothing_put : (text : List ℕ) (at : ℕ) → text_with_exchange at [] [] text ≡ text
+nothing_put text at =
+    ap (λ x. x ++ drop (at + 0) text) (append-nil (take at text)) ∙ ap (λ k. take at text ++ drop k text) (add-zero at) ∙ take-append-drop at text
 
 nothing_swapped : (at : ℕ) (from to before after : List ℕ) → (length from == 0) ≡ true → (length to == 0) ≡ true → Swaps at from to before after → after ≡ before
 nothing_swapped at from to before after f t w =
-    w.becomes ∙ ap (λ x. text_with_exchange at x to before) (no_length from f) ∙ ap (λ x. text_with_exchange at [] x before) (no_length to t)
-    ∙ ap (λ x. x ++ drop (at + 0) before) (append-nil (take at before)) ∙ ap (λ k. take at before ++ drop k before) (add-zero at) ∙ take-append-drop at before
+    w.becomes ∙ ap (λ x. text_with_exchange at x to before) (none_there from f) ∙ ap (λ x. text_with_exchange at [] x before) (none_there to t) ∙ nothing_put before at
 
 changes_deletion : (at : ℕ) (text : List ℕ) (direction : Direction) (before after : List ℕ) (b : Bool) → (length text == 0) ≡ b → IsUtf8 before → Swaps at text [] before after
     → Changes (Delete at text direction) before after (if b then None else Some (Deleted at text))
@@ -205,35 +203,24 @@ recorded_same e s before after h i r a = record {
 abbrev pub record_after : ChangeEvent → Items → Items
 record_after StartKilling s = s
 record_after StopKilling s = s
-record_after (Delete at text direction) s = items_after_event (Delete at text direction) s
-record_after (InsertChar at c) s = items_after_event (InsertChar at c) s
-record_after (InsertStr at text) s = items_after_event (InsertStr at text) s
-record_after (Replace at before after) s = items_after_event (Replace at before after) s
+record_after e s = items_after_event e s
+
+changed : (e : ChangeEvent) (before after : List ℕ) → IsUtf8 before → Replays e before after → Changes e before after (change_of e)
+unfolding Changes
+changed StartKilling before after u w = w
+changed StopKilling before after u w = w
+changed (Delete at text direction) before after u w = changes_deletion at text direction before after (length text == 0) refl u w
+changed (InsertChar at c) before after u w = changes_char at c before after u w
+changed (InsertStr at text) before after u w = changes_text at text before after (length text == 0) refl u w
+changed (Replace at from to) before after u w = changes_replacement at from to before after (length from == 0) (length to == 0) refl refl u w
 
 -- noting an event is what the record of texts asks for
 pub noted_recorded : (e : ChangeEvent) (s : Items) → RecordsEventIn s e (record_after e s)
 noted_recorded StartKilling s = record { on = λ before after h u w. recorded_same StartKilling s before after h w refl refl }
 noted_recorded StopKilling s = record { on = λ before after h u w. recorded_same StopKilling s before after h w refl refl }
-noted_recorded (Delete at text direction) s = record {
-  on = λ before after h u w.
-      recorded_told (Delete at text direction) s before after (noted_any (Delete at text direction) _ s.done before after (changes_deletion at text direction before after (length text == 0) refl u w) h.0) refl;
-}
-noted_recorded (InsertChar at c) s = record {
-  on = λ before after h u w.
-      recorded_told (InsertChar at c) s before after (noted_any (InsertChar at c) _ s.done before after (changes_char at c before after u w) h.0) refl;
-}
-noted_recorded (InsertStr at text) s = record {
-  on = λ before after h u w.
-      recorded_told (InsertStr at text) s before after (noted_any (InsertStr at text) _ s.done before after (changes_text at text before after (length text == 0) refl u w) h.0) refl;
-}
-noted_recorded (Replace at from to) s = record {
-  on = λ before after h u w.
-      recorded_told (Replace at from to) s before after (noted_any (Replace at from to) _ s.done before after (changes_replacement at from to before after (length from == 0) (length to == 0) refl refl u w) h.0) refl;
-}
+noted_recorded e s = record { on = λ before after h u w. recorded_told e s before after (noted_any e (change_of e) s.done before after (changed e before after u w) h.0) refl }
 
 -- noting what is told
 pub reported : (r : Report) (s t : Items) → t ≡ items_after_event (event_of r) s → RecordsEventIn s (event_of r) t
 reported (told.Char at c) s t e = subst (RecordsEventIn s (InsertChar at c)) (sym e) (noted_recorded (InsertChar at c) s)
-reported (told.Text at text) s t e = subst (RecordsEventIn s (InsertStr at text.now)) (sym e) (noted_recorded (InsertStr at text.now) s)
-reported (told.Deletion at text direction) s t e = subst (RecordsEventIn s (Delete at text.now direction)) (sym e) (noted_recorded (Delete at text.now direction) s)
-reported (told.Replacement at removed added) s t e = subst (RecordsEventIn s (Replace at removed.now added.now)) (sym e) (noted_recorded (Replace at removed.now added.now) s)
+reported r s t e = subst (RecordsEventIn s (event_of r)) (sym e) (noted_recorded (event_of r) s)

@@ -1,6 +1,5 @@
 -- Laws of the record.
-use Rattle.std.proofs.Common.{◌≡◌, ℕ, false, List, [], ◌∷◌, length, refl, ap, ◌∙◌}
-use Rattle.std.specs.Prelude.{IsUtf8}
+use Rattle.std.proofs.Common.{◌≡◌, ℕ, false, List, [], ◌∷◌, length, refl, ap, ◌∙◌, IsUtf8}
 use Rattle.line_record.specs.Held.{HeldItem, text_back, record_after_close, closes, has_mark}
 use Rattle.line_record.specs.Held.HeldItem.{Opened, Stepped}
 use Rattle.line_record.specs.Items.{Item, changes_of, before_item, after_item, items_with_texts, DoneStand}

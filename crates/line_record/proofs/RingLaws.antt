@@ -1,13 +1,12 @@
 -- A ring that is never turned holds the last runs of kills.
-use Rattle.std.proofs.Common.{◌≡◌, ℕ, zero, suc, ◌+◌, ◌<◌, ◌≤◌, ◌==◌, ◌⊎◌, inl, inr, Bool, true, false, List, [], ◌∷◌, ◌++◌, length, take, drop, reverse, Some, refl, sym, ap, subst, ◌∙◌, arith, append_assoc, add-one}
-use Rattle.std.specs.Prelude.{slice_get, slice_set, slice_index_or, if◌then◌else◌, nat_lt}
-use Rattle.std.proofs.lemmas.List.{append-nil, reverse-append, length-append, length-reverse}
+use Rattle.std.proofs.Common.{◌≡◌, ℕ, zero, suc, ◌+◌, ◌<◌, ◌≤◌, ◌==◌, ◌⊎◌, inl, inr, Bool, true, false, List, [], ◌∷◌, ◌++◌, length, take, drop, reverse, Some, refl, sym, ap, subst, ◌∙◌, arith, append_assoc, add-one, slice_get, slice_set, slice_index_or, if◌then◌else◌, nat_lt, true≢false, ne_eqb}
+use Rattle.std.proofs.lemmas.List.{append-nil, reverse-append, length-append, length-reverse, take_at, take_all, take-take, nil_from_length}
 use Rattle.std.proofs.lemmas.Option.{slice_get-get_or}
 use Rattle.std.proofs.Math.Seq.{take-nil, take-append_seam, drop-append_seam, get_or-append_seam, set-append_seam}
 use Rattle.std.proofs.lemmas.Bool.{eqb-true}
 use Rattle.std.proofs.lemmas.Bool.Decides.{nat_tests}
 use Rattle.line_buffer.specs.Event.{ChangeEvent}
-use Rattle.line_buffer.specs.Event.ChangeEvent.{StartKilling, StopKilling, Delete, InsertChar, InsertStr, Replace}
+use Rattle.line_buffer.specs.Event.ChangeEvent.{StartKilling, StopKilling, Delete}
 use Rattle.line_buffer.specs.declared.types.Mode.{Mode}
 use Rattle.line_record.specs.declared.kill_ring.Action.{Action}
 use Rattle.line_record.specs.declared.kill_ring.Action.TheVariants.{Other, Kill, Yank}
@@ -56,26 +55,10 @@ begins n x xs (y ∷ ys) e = record { later = ys; are = cc; more = cc }
 
 -- one fewer of the first
 all_but_last : (n : ℕ) (xs : List (List ℕ)) (y : List ℕ) (runs : List (List ℕ)) → xs ++ (y ∷ []) ≡ take (suc n) runs → length xs ≡ n → xs ≡ take n runs
-all_but_last zero [] y runs e l = refl
-all_but_last (suc n) [] y runs e l = cc
-all_but_last zero (x ∷ xs) y runs e l = cc
-all_but_last (suc n) (x ∷ xs) y [] e l = cc
-all_but_last (suc n) (x ∷ xs) y (z ∷ zs) e l =
-    let tails : xs ++ (y ∷ []) ≡ take (suc n) zs = cc in
-    let heads : x ≡ z = cc in
-    let lens : length xs ≡ n = cc in
-    ap (λ k. k ∷ xs) heads ∙ ap (λ ks. z ∷ ks) (all_but_last n xs y zs tails lens)
+all_but_last n xs y runs e l = sym (take_at xs (y ∷ []) n l) ∙ ap (take n) e ∙ take-take n (suc n) runs (omega arith)
 
 short_of : (n : ℕ) (xs runs : List (List ℕ)) → xs ≡ take (suc n) runs → length xs ≤ n → xs ≡ take n runs
-short_of zero [] runs e l = refl
-short_of (suc n) [] [] e l = refl
-short_of (suc n) [] (z ∷ zs) e l = cc
-short_of zero (x ∷ xs) runs e l = absurd (omega (arith, l))
-short_of (suc n) (x ∷ xs) [] e l = cc
-short_of (suc n) (x ∷ xs) (z ∷ zs) e l =
-    let tails : xs ≡ take (suc n) zs = cc in
-    let heads : x ≡ z = cc in
-    ap (λ k. k ∷ xs) heads ∙ ap (λ ks. z ∷ ks) (short_of n xs zs tails (omega (arith, l)))
+short_of n xs runs e l = sym (take_all n xs l) ∙ ap (take n) e ∙ take-take n (suc n) runs (omega arith)
 
 -- a kill that joins
 joined : (n : ℕ) (text : List ℕ) (mode : Mode) (runs slots : List (List ℕ)) (place : ℕ) → Filled (suc n) runs slots place
@@ -118,7 +101,7 @@ round_again : (n : ℕ) (text : List ℕ) (runs slots : List (List ℕ)) (place 
 round_again n text runs slots place f e =
     let count : length slots ≡ length f.front + suc (length f.rest) = ap length f.are ∙ length-append f.front (f.newest ∷ f.rest) in
     let none : length f.rest ≡ 0 = omega (arith, count, f.here, f.few, e) in
-    let no_rest : f.rest ≡ [] = empty f.rest none in
+    let no_rest : f.rest ≡ [] = nil_from_length f.rest none in
     let s = split f.front f.newest in
     let are : slots ≡ s.first ∷ s.others = f.are ∙ ap (λ xs. f.front ++ (f.newest ∷ xs)) no_rest ∙ s.are in
     let others : length s.others ≡ n = let k : length slots ≡ suc (length s.others) = ap length are in omega (arith, k, count, none, f.here, e) in
@@ -137,10 +120,6 @@ round_again n text runs slots place f e =
     } in
     let put : slots_with_text 0 text (s.first ∷ s.others) ≡ text ∷ s.others = sym (put_there 0 text (s.first ∷ s.others) (omega arith)) in
     subst (λ xs. Filled (suc n) (text ∷ runs) (slots_with_text 0 text xs) 0) (sym are) (subst (λ xs. Filled (suc n) (text ∷ runs) xs 0) (sym put) filled)
-  where
-    empty : (xs : List (List ℕ)) → length xs ≡ 0 → xs ≡ []
-    empty [] h = refl
-    empty (x ∷ xs) h = cc
 
 -- a kill that takes the slot after the current one
 next_slot : (n : ℕ) (text : List ℕ) (runs slots : List (List ℕ)) (place : ℕ) (f : Filled (suc n) runs slots place) → (place + 1 ≡ suc n → ⊥)
@@ -171,7 +150,7 @@ next_slot n text runs slots place f e (y ∷ ys) is =
     let before : List (List ℕ) = f.front ++ (f.newest ∷ []) in
     let are : slots ≡ before ++ (y ∷ ys) = f.are ∙ ap (λ xs. f.front ++ (f.newest ∷ xs)) (sym is) ∙ sym (append_assoc f.front (f.newest ∷ []) (y ∷ ys)) in
     let count : length before ≡ place + 1 = length-append f.front (f.newest ∷ []) ∙ ap (λ k. k + 1) (sym f.here) in
-    let whole : length slots ≡ suc n = elim f.full [ inl none ↦ absurd (not_both y ys (is ∙ none)) | inr all ↦ all ] in
+    let whole : length slots ≡ suc n = elim f.full [ inl none ↦ absurd (let no : y ∷ ys ≡ [] = is ∙ none in cc) | inr all ↦ all ] in
     let parts : length slots ≡ (place + 1) + suc (length ys) = ap length are ∙ length-append before (y ∷ ys) ∙ ap (λ k. k + suc (length ys)) count in
     let backward : (reverse before ++ reverse ys) ++ (y ∷ []) ≡ take (suc n) runs =
     append_assoc (reverse before) (reverse ys) (y ∷ []) ∙ ap (λ xs. reverse before ++ xs) (sym (reverse-append (y ∷ []) ys))
@@ -194,9 +173,6 @@ next_slot n text runs slots place f e (y ∷ ys) is =
       runs_are = ap (λ xs. text ∷ xs) (all_but_last n (reverse before ++ reverse ys) y runs backward size);
     } in
     subst (λ xs. Filled (suc n) (text ∷ runs) xs (place + 1)) (sym put) filled
-  where
-    not_both : (y : List ℕ) (ys : List (List ℕ)) → y ∷ ys ≡ [] → ⊥
-    not_both y ys h = cc
 
 -- a kill that joins none
 anew : (n : ℕ) (text : List ℕ) (runs slots : List (List ℕ)) (place : ℕ) → Filled (suc n) runs slots place
@@ -251,10 +227,7 @@ kill_anew n text mode k r h stopped =
     }
 
 goes_on : {running : Bool} → running ≡ true → running ≡ false → ⊥
-goes_on {running} e k = true_is_not (sym e ∙ k)
-  where
-    true_is_not : true ≡ false → ⊥
-    true_is_not h = cc
+goes_on {running} e k = true≢false (sym e ∙ k)
 
 kill_joined : (n : ℕ) (text : List ℕ) (mode : Mode) (k : Kills) (r : Ring) → Holds (suc n) k r → r.last ≡ Kill
     → Holds (suc n) (kill_taken text mode k) (ring_with_kill_after Kill text mode r)
@@ -276,11 +249,8 @@ kill_holds : (n : ℕ) (text : List ℕ) (mode : Mode) (k : Kills) (r : Ring) �
 unfolding is_kill
 kill_holds n text mode k r h = subst (Holds (suc n) (kill_taken text mode k)) (sym is) (by_last r.last refl)
   where
-    has_slots : (suc n == 0) ≡ false
-    has_slots = grind (arith, nat_tests)
-
     is : ring_with_kill text mode r ≡ ring_with_kill_after r.last text mode r
-    is = ap (λ b. if b then record r { last = Kill } else ring_with_kill_after r.last text mode r) (ap (λ s. s == 0) h.sized ∙ has_slots)
+    is = ap (λ b. if b then record r { last = Kill } else ring_with_kill_after r.last text mode r) (ap (λ s. s == 0) h.sized ∙ ne_eqb (suc n) 0 (λ e. omega (arith, e)))
 
     by_last : (a : Action) → r.last ≡ a → Holds (suc n) (kill_taken text mode k) (ring_with_kill_after a text mode r)
     by_last Other e = kill_anew n text mode k r h (sym h.running ∙ ap is_kill e)
@@ -304,9 +274,7 @@ heard_holds n StopKilling k r h = record { sized = h.sized; killing = refl; runn
 heard_holds n (Delete at text direction) k r h =
     subst (λ b. Holds (suc n) (kills_heard (Delete at text direction) k) (if b then ring_with_kill text (mode_of direction) r else r)) (sym h.killing)
     (delete_holds n k.killing text (mode_of direction) k r h)
-heard_holds n (InsertChar at c) k r h = h
-heard_holds n (InsertStr at text) k r h = h
-heard_holds n (Replace at removed added) k r h = h
+heard_holds n _ k r h = h
 
 lent_holds : (n : ℕ) (k : Kills) (r : Ring) → Holds (suc n) k r → Holds (suc n) (record k { running = false }) (ring_after_yank r)
 unfolding is_kill

@@ -1,6 +1,5 @@
 -- The kill ring, computed at some runs.
-use Rattle.std.proofs.Common.{◌≡◌, ℕ, List, [], ◌∷◌, Option, Some, None, refl}
-use Rattle.std.specs.Prelude.{codes, slice_get}
+use Rattle.std.proofs.Common.{◌≡◌, ℕ, List, [], ◌∷◌, Option, Some, None, refl, codes, slice_get}
 use Rattle.line_buffer.specs.declared.types.Mode.TheVariants.{Append, Prepend}
 use Rattle.line_record.specs.declared.kill_ring.Action.TheVariants.{Other}
 use Rattle.line_buffer.specs.Event.ChangeEvent.{StartKilling, StopKilling, Delete, InsertChar}
@@ -17,14 +16,12 @@ lent r = slice_get r.slots r.place
 abbrev two_kills : Ring
 two_kills = ring_after_yank (ring_with_kill (codes "c") Append (ended_run (ring_with_kill (codes "ab") Append (new_ring 2))))
 
-the_newest_is_yanked : lent two_kills ≡ Some (codes "c")
-the_newest_is_yanked = refl
-
-the_older_comes_next : yank_exchange two_kills ≡ Some (1, codes "ab")
-the_older_comes_next = refl
-
-the_ring_comes_round : yank_exchange (ring_after_turn two_kills) ≡ Some (2, codes "c")
-the_ring_comes_round = refl
+-- the newest is yanked, then comes the older, then the ring comes round
+yanked_in_turn :
+    (lent two_kills ≡ Some (codes "c"))
+    × (yank_exchange two_kills ≡ Some (1, codes "ab"))
+    × (yank_exchange (ring_after_turn two_kills) ≡ Some (2, codes "c"))
+yanked_in_turn = (refl, refl, refl)
 
 kills_in_a_row_join : lent (ring_with_kill (codes "c") Append (ring_with_kill (codes "a") Prepend (ring_with_kill (codes "b") Append (new_ring 3)))) ≡ Some (codes "abc")
 kills_in_a_row_join = refl
@@ -45,14 +42,10 @@ three_runs : List RingCall
 three_runs = Taken (codes "b") Append ∷ (Taken (codes "a") Prepend ∷ (Ended ∷ (Taken (codes "c") Append ∷ (Lent ∷ (Heard (Delete 0 (codes "x") Forward)
     ∷ (Heard StartKilling ∷ (Heard (Delete 0 (codes "e") Forward) ∷ (Heard (InsertChar 0 102) ∷ (Heard (Delete 0 (codes "d") Backward) ∷ (Heard StopKilling ∷ []))))))))))
 
-the_runs_are_three : (all_kills_after three_runs no_kills).runs ≡ codes "de" ∷ (codes "c" ∷ (codes "ab" ∷ []))
-unfolding three_runs all_kills_after
-the_runs_are_three = refl
-
-a_ring_of_two_holds_the_last_two : newest_first (ring_after_all three_runs (new_ring 2)) ≡ codes "de" ∷ (codes "c" ∷ [])
-unfolding three_runs ring_after_all
-a_ring_of_two_holds_the_last_two = refl
-
-a_larger_ring_holds_all : newest_first (ring_after_all three_runs (new_ring 5)) ≡ codes "de" ∷ (codes "c" ∷ (codes "ab" ∷ []))
-unfolding three_runs ring_after_all
-a_larger_ring_holds_all = refl
+-- the runs are three: a ring of two holds the last two, a larger one all
+runs_held :
+    ((all_kills_after three_runs no_kills).runs ≡ codes "de" ∷ (codes "c" ∷ (codes "ab" ∷ [])))
+    × (newest_first (ring_after_all three_runs (new_ring 2)) ≡ codes "de" ∷ (codes "c" ∷ []))
+    × (newest_first (ring_after_all three_runs (new_ring 5)) ≡ codes "de" ∷ (codes "c" ∷ (codes "ab" ∷ [])))
+unfolding three_runs all_kills_after ring_after_all
+runs_held = (refl, refl, refl)

@@ -1,8 +1,7 @@
 -- A record that is undone altogether gives the text that it began on.
-use Rattle.std.proofs.Common.{◌≡◌, ℕ, zero, suc, Bool, true, false, List, [], ◌∷◌, length, drop, Option, Some, None, refl, sym, ap, subst, ◌∙◌}
-use Rattle.std.specs.Prelude.{if◌then◌else◌}
+use Rattle.std.proofs.Common.{◌≡◌, ℕ, zero, suc, Bool, true, false, List, [], ◌∷◌, length, drop, Option, Some, None, refl, sym, ap, subst, ◌∙◌, if◌then◌else◌}
 use Rattle.line_buffer.specs.Event.{ChangeEvent}
-use Rattle.line_buffer.specs.Event.ChangeEvent.{StartKilling, StopKilling, Delete, InsertChar, InsertStr, Replace}
+use Rattle.line_buffer.specs.Event.ChangeEvent.{StartKilling, StopKilling}
 use Rattle.line_buffer.specs.Replay.{text_after_event}
 use Rattle.line_record.specs.Change.{Change}
 use Rattle.line_record.specs.Held.{HeldItem, Undone, text_of, change_of, join_of, steps_with_change, steps_with_join, steps_with_change_if, has_mark, closes, group_with_change, record_after_close, text_back, ahead_back, record_ahead}
@@ -62,10 +61,7 @@ ahead_told : (e : ChangeEvent) (ahead : List Undone) (text : List ℕ) → Ahead
 unfolding AheadFits
 ahead_told StartKilling ahead text h = h
 ahead_told StopKilling ahead text h = h
-ahead_told (Delete at removed direction) ahead text h = tt
-ahead_told (InsertChar at c) ahead text h = tt
-ahead_told (InsertStr at added) ahead text h = tt
-ahead_told (Replace at removed added) ahead text h = tt
+ahead_told _ ahead text h = tt
 
 -- the end of a group
 record StepFirst (held : List HeldItem) : Type 0 where

@@ -1,21 +1,13 @@
 -- The record of texts after several events, of the record alone or as a part of a listener.
-use Rattle.std.proofs.Common.{◌≡◌, ℕ, List, [], ◌∷◌, refl, sym, ap, subst, ◌∙◌, inl, inr}
-use Rattle.std.specs.Prelude.{IsUtf8}
+use Rattle.std.proofs.Common.{◌≡◌, ℕ, List, [], ◌∷◌, refl, sym, ap, subst, ◌∙◌, inl, inr, IsUtf8}
 use Rattle.line_buffer.specs.Event.{ChangeEvent}
-use Rattle.line_buffer.specs.Event.ChangeEvent.{StartKilling, StopKilling, Delete, InsertChar, InsertStr, Replace}
+use Rattle.line_buffer.specs.Event.ChangeEvent.{StartKilling, StopKilling}
 use Rattle.line_buffer.specs.Replay.{text_after_event, text_after_events, Swaps, Replays, ReplaysAll, TakesAll, Reports, StopsAmong, wants_or}
 use Rattle.line_record.specs.Held.{HeldItem, Undone, record_after_event}
 use Rattle.line_record.specs.Items.{Items, ItemsStand, record_on, ahead_on, ahead_after, RecordsEventIn, record_refuses}
 use Rattle.line_record.specs.RecordCourse.{record_after_events, ahead_all}
+use Rattle.line_buffer.proofs.ReplayedLemmas.{replayed_all-none, replayed_all-first}
 use Rattle.line_record.proofs.Exchange.{exchanged}
-
-pub replayed_all-nil : (text : List ℕ) → text_after_events [] text ≡ text
-unfolding text_after_events
-replayed_all-nil text = refl
-
-pub replayed_all-cons : (e : ChangeEvent) (es : List ChangeEvent) (text : List ℕ) → text_after_events (e ∷ es) text ≡ text_after_events es (text_after_event e text)
-unfolding text_after_events
-replayed_all-cons e es text = refl
 
 pub recorded_all-nil : (text : List ℕ) (held : List HeldItem) → record_after_events [] text held ≡ held
 unfolding record_after_events
@@ -37,10 +29,7 @@ ahead_all-cons e es ahead = refl
 pub replayed_is : (e : ChangeEvent) (before after : List ℕ) → Replays e before after → after ≡ text_after_event e before
 replayed_is StartKilling before after r = r
 replayed_is StopKilling before after r = r
-replayed_is (Delete at text direction) before after r = r.becomes
-replayed_is (InsertChar at c) before after r = r.becomes
-replayed_is (InsertStr at text) before after r = r.becomes
-replayed_is (Replace at from to) before after r = r.becomes
+replayed_is _ before after r = r.becomes
 
 swapped_utf8 : {at : ℕ} {from to before after : List ℕ} → IsUtf8 before → Swaps at from to before after → IsUtf8 after
 swapped_utf8 {at} {from} {to} {before} {after} u w =
@@ -49,10 +38,7 @@ swapped_utf8 {at} {from} {to} {before} {after} u w =
 pub replayed_utf8 : (e : ChangeEvent) (before after : List ℕ) → IsUtf8 before → Replays e before after → IsUtf8 after
 replayed_utf8 StartKilling before after u r = subst IsUtf8 (sym r) u
 replayed_utf8 StopKilling before after u r = subst IsUtf8 (sym r) u
-replayed_utf8 (Delete at text direction) before after u r = swapped_utf8 u r
-replayed_utf8 (InsertChar at c) before after u r = swapped_utf8 u r
-replayed_utf8 (InsertStr at text) before after u r = swapped_utf8 u r
-replayed_utf8 (Replace at from to) before after u r = swapped_utf8 u r
+replayed_utf8 _ before after u r = swapped_utf8 u r
 
 -- the record after events, and what can be redone
 pub record RecordedAll (events : List ChangeEvent) (s t : Items) (before after : List ℕ) : Type 0 where
@@ -70,7 +56,7 @@ module _ {S : Type 0} (takes : S → ChangeEvent → S → Type 0) (part : S →
     stand = subst (λ x. ItemsStand (part x) after) (sym told) (subst (ItemsStand (part s)) (sym replays) h);
     held = ap (λ x. record_on (part x) after) told ∙ ap (record_on (part s)) replays ∙ sym (recorded_all-nil before (record_on (part s) before));
     ahead = ap (λ x. ahead_on (part x) after) told ∙ ap (ahead_on (part s)) replays ∙ sym (ahead_all-nil (ahead_on (part s) before));
-    text = replays ∙ sym (replayed_all-nil before);
+    text = replays ∙ sym (replayed_all-none before);
     utf8 = subst IsUtf8 (sym replays) u;
   }
   all_recorded (e ∷ es) s t before after (v, told, more) (between, replays, later) h u =
@@ -82,7 +68,7 @@ module _ {S : Type 0} (takes : S → ChangeEvent → S → Type 0) (part : S →
         held = rest.held ∙ ap (record_after_events es between) first.held ∙ ap (λ x. record_after_events es x (record_after_event e before (record_on (part s) before))) is
             ∙ sym (recorded_all-cons e es before (record_on (part s) before));
         ahead = rest.ahead ∙ ap (ahead_all es) first.ahead ∙ sym (ahead_all-cons e es (ahead_on (part s) before));
-        text = rest.text ∙ ap (text_after_events es) is ∙ sym (replayed_all-cons e es before);
+        text = rest.text ∙ ap (text_after_events es) is ∙ sym (replayed_all-first e es before);
         utf8 = rest.utf8;
       }
 

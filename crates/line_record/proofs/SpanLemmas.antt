@@ -1,7 +1,6 @@
 -- Spans that adjoin: which of them stand, and what they stand for, where the list changes after them.
-use Rattle.std.proofs.Common.{◌≡◌, ℕ, zero, suc, ◌+◌, ◌-◌, ◌<◌, ◌≤◌, List, [], ◌∷◌, ◌++◌, length, take, drop, map, refl, sym, ap, ◌∙◌, arith, get_or}
-use Rattle.std.specs.Prelude.{slice_range}
-use Rattle.std.proofs.lemmas.List.{take-take, drop-take}
+use Rattle.std.proofs.Common.{◌≡◌, ℕ, zero, suc, ◌+◌, ◌-◌, ◌<◌, ◌≤◌, List, [], ◌∷◌, ◌++◌, length, take, drop, map, refl, sym, ap, ◌∙◌, arith, get_or, slice_range, subst}
+use Rattle.std.proofs.lemmas.List.{take-take, drop-take, take-map, length-take-le, map_push}
 use Rattle.line_record.specs.Logged.{Adjoin, place_of_span}
 
 pub take_lower : {A : Type 0} (i j : ℕ) (xs ys : List A) → i ≤ j → take j xs ≡ take j ys → take i xs ≡ take i ys
@@ -93,3 +92,49 @@ module _ {A S : Type 0} (first last : S → ℕ) (Fits : List A → S → Type 0
   views_kept make same xs ys (s ∷ spans) from to h e =
       ap (λ b. b ∷ map (make ys) spans) (same s xs ys (omega (arith, h.0, h.1)) (take_lower (last s) to xs ys (adjoin_le xs spans (last s) to h.3) e) h.2)
       ∙ ap (λ bs. make xs s ∷ bs) (views_kept make same xs ys spans (last s) to h.3 e)
+
+-- where one of them begins, by what the code reads
+pub place_is : {A S : Type 0} (first : S → ℕ) (all : List A) (seen spans : List S) (n place count : ℕ) → place ≡ place_of_span first seen n count → seen ≡ spans → count ≡ length all
+    → place ≡ place_of_span first spans n (length all)
+place_is first all seen spans n place count is same long = is ∙ ap (λ ss. place_of_span first ss n count) same ∙ ap (place_of_span first spans n) long
+
+-- spans of a list, and what they stand for in it
+pub record SpansAre {A S B : Type 0} (first last : S → ℕ) (Fits : List A → S → Type 0) (make : List A → S → B) (all : List A) (spans : List S) (to : ℕ) (views : List B) : Type 0 where
+  pub are : Adjoin first last Fits all 0 spans to
+  pub items : map (make all) spans ≡ views
+
+module _ {A S B : Type 0} (first last : S → ℕ) (Fits : List A → S → Type 0) (make : List A → S → B)
+    (fits_kept : (s : S) (xs ys : List A) → first s ≤ last s → take (last s) xs ≡ take (last s) ys → Fits xs s → Fits ys s)
+    (make_kept : (s : S) (xs ys : List A) → first s ≤ last s → take (last s) xs ≡ take (last s) ys → Fits xs s → make ys s ≡ make xs s)
+    (all after : List A) (spans : List S) (n place : ℕ) (h : Adjoin first last Fits all 0 spans (length all)) (is : place ≡ place_of_span first spans n (length all)) where
+  pub place_inside : place ≤ length all
+  place_inside = omega (arith, is, place_le first last Fits n all spans 0 (length all) h)
+
+  -- the first n, in a list that begins as theirs does
+  spans_kept : take place all ≡ take place after → SpansAre first last Fits make after (take n spans) place (take n (map (make all) spans))
+  spans_kept same =
+      let cut : Adjoin first last Fits all 0 (take n spans) place = subst (Adjoin first last Fits all 0 (take n spans)) (sym is) (adjoin_cut first last Fits n all spans 0 (length all) h) in
+      record {
+        are = adjoin_kept first last Fits fits_kept all after (take n spans) 0 place cut same;
+        items = views_kept first last Fits make make_kept all after (take n spans) 0 place cut same ∙ sym (take-map (make all) n spans);
+      }
+
+  -- cut off
+  pub spans_cut : (left : List S) → after ≡ take place all → left ≡ take n spans → SpansAre first last Fits make after left (length after) (take n (map (make all) spans))
+  spans_cut left cut kept =
+      let count : length after ≡ place = ap length cut ∙ length-take-le place all place_inside in
+      let k = spans_kept (sym (ap (take place) cut ∙ take-take place place all (omega arith))) in
+      subst (λ ss. SpansAre first last Fits make after ss (length after) (take n (map (make all) spans))) (sym kept)
+      (subst (λ m. SpansAre first last Fits make after (take n spans) m (take n (map (make all) spans))) (sym count) k)
+
+  -- one more
+  pub span_pushed : (s : S) (new : List S) (view : B) → first s ≡ place → take place all ≡ take place after → first s ≤ last s → Fits after s → last s ≡ length after → make after s ≡ view → new ≡ take n spans ++ (s ∷ [])
+      → SpansAre first last Fits make after new (length after) (take n (map (make all) spans) ++ (view ∷ []))
+  span_pushed s new view at same order fits end meant pushed =
+      let k = spans_kept same in
+      record {
+        are = subst (λ ss. Adjoin first last Fits after 0 ss (length after)) (sym pushed)
+            (subst (Adjoin first last Fits after 0 (take n spans ++ (s ∷ []))) end (adjoin_push first last Fits after (take n spans) 0 place s k.are at (omega (arith, at, order)) fits));
+        items = ap (map (make after)) pushed ∙ map_push (make after) (take n spans) s ∙ ap (λ xs. xs ++ (make after s ∷ [])) k.items
+            ∙ ap (λ x. take n (map (make all) spans) ++ (x ∷ [])) meant;
+      }

@@ -1,6 +1,5 @@
 -- The record stands on the line's text after each edit, also after one that failed.
-use Rattle.std.proofs.Common.{◌≡◌, List, ℕ, sym, ap, subst, inl, inr}
-use Rattle.std.specs.Prelude.{Result, Ok, Err, IsUtf8}
+use Rattle.std.proofs.Common.{◌≡◌, List, ℕ, sym, ap, subst, inl, inr, Result, Ok, Err, IsUtf8}
 use Rattle.line_buffer.specs.Edit.{Edit, EditsLine, CutsLine, ChangesLine}
 use Rattle.line_buffer.specs.Event.{ChangeEvent}
 use Rattle.line_buffer.specs.Line.{Line}

@@ -3,7 +3,7 @@ use Rattle.std.proofs.Common.{◌≡◌, ℕ, suc, ◌+◌, ◌-◌, ◌<◌, �
 use Rattle.std.proofs.Math.Seq.{take-add}
 use Rattle.std.specs.Prelude.{slice_range, is_some, slice_get, option_map, ⊤, unwrap_or, slice_set, min}
 use Rattle.std.proofs.lemmas.Bool.Decides.{nat_tests}
-use Rattle.std.proofs.lemmas.List.{take-take, take_min, take_at, drop_at, take-map, drop-map, get_or-map, get_or-take, get_or-drop, length-map, length-append, length-take, length-drop, length-take-le, map_push, reverse-append, take_more, take_more_set, drop-drop}
+use Rattle.std.proofs.lemmas.List.{take-take, take_min, take_at, drop_at, take-map, drop-map, get_or-map, get_or-take, get_or-drop, length-map, length-append, length-take, length-drop, length-take-le, reverse-append, take_more, take_more_set, drop-drop}
 use Rattle.line_record.specs.declared.steps.Step.{Step}
 use Rattle.line_record.specs.Change.{Change}
 use Rattle.line_buffer.specs.Event.{ChangeEvent}
@@ -16,7 +16,7 @@ use Rattle.line_record.specs.LogSteps.{item_in, items_in, AreSteps, item_from, i
 use Rattle.line_record.proofs.EndLemmas.{changes_of-item_from, group_pushed}
 use Rattle.line_record.proofs.LogLemmas.{mapped_twice, joined_at_is}
 use Rattle.line_record.proofs.StoredLemmas.{before_last, inserted_last}
-use Rattle.line_record.proofs.SpanLemmas.{take_lower, slice_same, adjoin_le, adjoin_cut, adjoin_drop, adjoin_at, place_le, adjoin_push, adjoin_kept, views_kept}
+use Rattle.line_record.proofs.SpanLemmas.{take_lower, slice_same, adjoin_le, adjoin_cut, adjoin_drop, adjoin_at, SpansAre, place_inside, spans_cut, span_pushed}
 
 abbrev first_of : Step → ℕ
 first_of s = s.first
@@ -30,63 +30,25 @@ Any edits s = ⊤
 item_kept : (s : Step) (xs ys : List Change) → s.first ≤ s.last → take s.last xs ≡ take s.last ys → Any xs s → item_in ys s ≡ item_in xs s
 item_kept s xs ys le e h = ap (item_from s.closed) (sym (slice_same s.first s.last xs ys le e))
 
--- the first n steps, over any changes that begin as theirs do
-pub record KeptSteps (edits : List Change) (steps : List Step) (n : ℕ) (after : List Change) : Type 0 where
-  pub laid : Adjoin first_of last_of Any after 0 (take n steps) (place_of_span first_of steps n (length edits))
-  pub items : items_in after (take n steps) ≡ take n (items_in edits steps)
+any_kept : (s : Step) (xs ys : List Change) → s.first ≤ s.last → take s.last xs ≡ take s.last ys → Any xs s → Any ys s
+any_kept s xs ys le e a = a
 
-pub steps_kept : (edits after : List Change) (steps : List Step) (n place : ℕ) → AreSteps edits steps → place ≡ place_of_span first_of steps n (length edits) → take place edits ≡ take place after
-    → KeptSteps edits steps n after
-steps_kept edits after steps n place h is e =
-    let p = place_of_span first_of steps n (length edits) in
-    let cut : Adjoin first_of last_of Any edits 0 (take n steps) p = adjoin_cut first_of last_of Any n edits steps 0 (length edits) h in
-    let same : take p edits ≡ take p after = subst (λ k. take k edits ≡ take k after) is e in
-    record {
-      laid = adjoin_kept first_of last_of Any (λ s xs ys le k a. a) edits after (take n steps) 0 p cut same;
-      items = views_kept first_of last_of Any item_in item_kept edits after (take n steps) 0 p cut same ∙ sym (take-map (item_in edits) n steps);
-    }
+-- steps over changes, and the items that they are
+abbrev pub StepsAre : List Change → List Step → List Item → Type 0
+StepsAre edits steps items = SpansAre first_of last_of Any item_in edits steps (length edits) items
 
-pub step_place_inside : (edits : List Change) (steps : List Step) (n : ℕ) → AreSteps edits steps → place_of_span first_of steps n (length edits) ≤ length edits
-step_place_inside edits steps n h = place_le first_of last_of Any n edits steps 0 (length edits) h
+module _ (edits after : List Change) (steps : List Step) (n place : ℕ) (h : AreSteps edits steps) (is : place ≡ place_of_span first_of steps n (length edits)) where
+  pub step_place_inside : place ≤ length edits
+  step_place_inside = place_inside first_of last_of Any item_in any_kept item_kept edits after steps n place h is
 
--- the place by what the code reads
-pub step_place_is : (edits : List Change) (seen steps : List Step) (n place count : ℕ) → place ≡ place_of_span first_of seen n count → seen ≡ steps → count ≡ length edits
-    → place ≡ place_of_span first_of steps n (length edits)
-step_place_is edits seen steps n place count is same long =
-    is ∙ ap (λ ss. place_of_span first_of ss n count) same ∙ ap (place_of_span first_of steps n) long
+  -- cut off
+  pub steps_cut : (left : List Step) → after ≡ take place edits → left ≡ take n steps → StepsAre after left (take n (items_in edits steps))
+  steps_cut = spans_cut first_of last_of Any item_in any_kept item_kept edits after steps n place h is
 
--- cut off
-pub record CutSteps (edits : List Change) (steps : List Step) (n : ℕ) (after : List Change) (left : List Step) : Type 0 where
-  pub are : AreSteps after left
-  pub items : items_in after left ≡ take n (items_in edits steps)
-
-pub steps_cut : (edits after : List Change) (steps left : List Step) (n place : ℕ) → AreSteps edits steps → place ≡ place_of_span first_of steps n (length edits) → after ≡ take place edits → left ≡ take n steps
-    → CutSteps edits steps n after left
-steps_cut edits after steps left n place h is cut kept =
-    let inside : place ≤ length edits = omega (arith, is, step_place_inside edits steps n h) in
-    let count : length after ≡ place = ap length cut ∙ length-take-le place edits inside in
-    let same : take place edits ≡ take place after = sym (ap (take place) cut ∙ take-take place place edits (omega arith)) in
-    let k = steps_kept edits after steps n place h is same in
-    record {
-      are = subst (λ ss. AreSteps after ss) (sym kept) (subst (λ m. Adjoin first_of last_of Any after 0 (take n steps) m) (sym is ∙ sym count) k.laid);
-      items = ap (items_in after) kept ∙ k.items;
-    }
-
--- one more
-pub record PushedStep (edits : List Change) (steps : List Step) (n : ℕ) (item : Item) (after : List Change) (new : List Step) : Type 0 where
-  pub are : AreSteps after new
-  pub items : items_in after new ≡ take n (items_in edits steps) ++ (item ∷ [])
-
-pub step_pushed : (edits after : List Change) (steps new : List Step) (n : ℕ) (s : Step) (item : Item) → AreSteps edits steps → s.first ≡ place_of_span first_of steps n (length edits)
-    → take s.first edits ≡ take s.first after → s.first ≤ s.last → s.last ≡ length after → item_in after s ≡ item → new ≡ take n steps ++ (s ∷ []) → PushedStep edits steps n item after new
-step_pushed edits after steps new n s item h is same order end meant pushed =
-    let k = steps_kept edits after steps n s.first h is same in
-    record {
-      are = subst (AreSteps after) (sym pushed) (subst (λ m. Adjoin first_of last_of Any after 0 (take n steps ++ (s ∷ [])) m) end
-          (adjoin_push first_of last_of Any after (take n steps) 0 (place_of_span first_of steps n (length edits)) s k.laid is (omega (arith, is, order)) tt));
-      items = ap (items_in after) pushed ∙ map_push (item_in after) (take n steps) s ∙ ap (λ xs. xs ++ (item_in after s ∷ [])) k.items
-          ∙ ap (λ x. take n (items_in edits steps) ++ (x ∷ [])) meant;
-    }
+  -- one more
+  pub step_pushed : (s : Step) (new : List Step) (item : Item) → s.first ≡ place → take place edits ≡ take place after → s.first ≤ s.last → s.last ≡ length after → item_in after s ≡ item → new ≡ take n steps ++ (s ∷ [])
+      → StepsAre after new (take n (items_in edits steps) ++ (item ∷ []))
+  step_pushed s new item at same order end = span_pushed first_of last_of Any item_in any_kept item_kept edits after steps n place h is s new item at same order tt end
 
 no_slice : {A : Type 0} (xs : List A) (i : ℕ) → slice_range xs i i ≡ []
 no_slice xs i =
@@ -95,11 +57,10 @@ no_slice xs i =
 
 -- an open mark
 pub mark_pushed : (edits after : List Change) (steps new : List Step) (n place : ℕ) → AreSteps edits steps → place ≡ place_of_span first_of steps n (length edits) → after ≡ take place edits
-    → new ≡ take n steps ++ ((record { closed = false; first = place; last = place }) ∷ []) → PushedStep edits steps n Open after new
-mark_pushed edits after steps new n place h is cut pushed =
-    let inside : place ≤ length edits = omega (arith, is, step_place_inside edits steps n h) in
-    step_pushed edits after steps new n (record { closed = false; first = place; last = place }) Open h is (sym (ap (take place) cut ∙ take-take place place edits (omega arith))) (omega arith)
-    (sym (ap length cut ∙ length-take-le place edits inside)) (ap (item_from false) (no_slice after place)) pushed
+    → new ≡ take n steps ++ ((record { closed = false; first = place; last = place }) ∷ []) → StepsAre after new (take n (items_in edits steps) ++ (Open ∷ []))
+mark_pushed edits after steps new n place h is cut =
+    step_pushed edits after steps n place h is (record { closed = false; first = place; last = place }) new Open refl (sym (ap (take place) cut ∙ take-take place place edits (omega arith))) (omega arith)
+    (sym (ap length cut ∙ length-take-le place edits (step_place_inside edits after steps n place h is))) (ap (item_from false) (no_slice after place))
 
 one_slice : {A : Type 0} (xs : List A) (front : List A) (x : A) (i j : ℕ) → xs ≡ front ++ (x ∷ []) → length front ≡ i → j ≡ suc i → slice_range xs i j ≡ x ∷ []
 one_slice xs front x i j is count next =
@@ -108,14 +69,13 @@ one_slice xs front x i j is count next =
 
 -- a lone change
 pub lone_pushed : (edits after : List Change) (steps new : List Step) (n place last : ℕ) (e : Change) → AreSteps edits steps → place ≡ place_of_span first_of steps n (length edits) → after ≡ take place edits ++ (e ∷ [])
-    → last ≡ length after → new ≡ take n steps ++ ((record { closed = false; first = place; last = last }) ∷ []) → PushedStep edits steps n (Lone e) after new
-lone_pushed edits after steps new n place last e h is put end pushed =
-    let inside : place ≤ length edits = omega (arith, is, step_place_inside edits steps n h) in
-    let count : length (take place edits) ≡ place = length-take-le place edits inside in
+    → last ≡ length after → new ≡ take n steps ++ ((record { closed = false; first = place; last = last }) ∷ []) → StepsAre after new (take n (items_in edits steps) ++ (Lone e ∷ []))
+lone_pushed edits after steps new n place last e h is put end =
+    let count : length (take place edits) ≡ place = length-take-le place edits (step_place_inside edits after steps n place h is) in
     let long : last ≡ suc place = omega (arith, end, ap length put, length-append (take place edits) (e ∷ []), count) in
-    step_pushed edits after steps new n (record { closed = false; first = place; last = last }) (Lone e) h is
+    step_pushed edits after steps n place h is (record { closed = false; first = place; last = last }) new (Lone e) refl
     (sym (ap (take place) put ∙ take_at (take place edits) (e ∷ []) place count)) (omega (arith, long)) end
-    (ap (item_from false) (one_slice after (take place edits) e place last put count long)) pushed
+    (ap (item_from false) (one_slice after (take place edits) e place last put count long))
 
 -- the step of an index
 pub record StepAt (edits : List Change) (steps : List Step) (items : List Item) (n : ℕ) (s : Step) : Type 0 where
@@ -169,12 +129,11 @@ suc_one : (n : ℕ) → (suc (suc n) == 1) ≡ false
 suc_one n = grind (arith, nat_tests)
 
 is_open-item_from : (closed : Bool) (cs : List Change) → is_open (item_from closed cs) ≡ (length cs == 0)
-is_open-item_from true [] = refl
-is_open-item_from false [] = refl
 is_open-item_from true (c ∷ []) = suc_zero 0
 is_open-item_from false (c ∷ []) = suc_zero 0
 is_open-item_from true (c ∷ (d ∷ cs)) = suc_zero (suc (length cs))
 is_open-item_from false (c ∷ (d ∷ cs)) = suc_zero (suc (length cs))
+is_open-item_from _ [] = refl
 
 same_zero : (i j : ℕ) → i ≤ j → (i == j) ≡ (j - i == 0)
 same_zero i j le = grind (arith, nat_tests)
@@ -204,8 +163,7 @@ not_lone e true [] h = refl
 not_lone e false [] h = refl
 not_lone e true (c ∷ []) h = refl
 not_lone e false (c ∷ []) h = cc
-not_lone e true (c ∷ (d ∷ cs)) h = refl
-not_lone e false (c ∷ (d ∷ cs)) h = refl
+not_lone e _ (c ∷ (d ∷ cs)) h = refl
 
 is_lone : (closed : Bool) (cs : List Change) (d : Change) → (not closed && (length cs == 1)) ≡ true → item_from closed cs ≡ Lone (get_or cs 0 d)
 is_lone true cs d h = cc
@@ -282,7 +240,7 @@ joined_on e edits after steps left items n s are view h is inside lone answer va
     let put : after ≡ take s.first edits ++ (j.0 ∷ []) = value ∙ ap (λ o. unwrap_or o edits) j.1 in
     let count : length (take s.first edits) ≡ s.first = length-take-le s.first edits (omega (arith, h.inside, h.order)) in
     let pushed : left ≡ take n steps ++ (s ∷ []) = cut ∙ take_more steps n s h.within ∙ ap (λ t. take n steps ++ (t ∷ [])) (sym is) in
-    let p = step_pushed edits after steps left n s (Lone j.0) are h.place (sym (ap (take s.first) put ∙ take_at (take s.first edits) (j.0 ∷ []) s.first count)) h.order
+    let p = step_pushed edits after steps n s.first are h.place s left (Lone j.0) refl (sym (ap (take s.first) put ∙ take_at (take s.first edits) (j.0 ∷ []) s.first count)) h.order
     (long ∙ sym (ap length put ∙ length-append (take s.first edits) (j.0 ∷ []) ∙ ap (λ k. k + 1) count ∙ add-one s.first))
     (ap (item_from s.closed) (one_slice after (take s.first edits) j.0 s.first s.last put count long) ∙ lone_from s.closed (s.last - s.first) j.0 lone) pushed in
     record {
@@ -347,7 +305,7 @@ group_pushed_on edits after steps new items n index a b are view ha h less insid
     let s : Step = record { closed = true; first = a.first; last = b.last } in
     let same : take b.last edits ≡ take b.last after = sym (ap (take b.last) cut ∙ take-take b.last b.last edits (omega arith)) in
     let cs = slice_range edits a.first b.last in
-    let p = step_pushed edits after steps new index s (item_from true cs) are ha.place (take_lower a.first b.last edits after h.order same) h.order
+    let p = step_pushed edits after steps index a.first are ha.place s new (item_from true cs) refl (take_lower a.first b.last edits after h.order same) h.order
     (sym (ap length cut ∙ length-take-le b.last edits inside)) (ap (item_from true) (sym (slice_same a.first b.last edits after h.order same))) pushed in (
       p.are,
       ap reverse (p.items ∙ ap (λ xs. take index xs ++ (item_from true cs ∷ [])) view) ∙ reverse-append (take index items) (item_from true cs ∷ [])
@@ -359,7 +317,7 @@ pub group_gone : (edits after : List Change) (steps left : List Step) (items : L
     → ClosedFrom edits steps items n index a b → a.first ≡ b.last → after ≡ take b.last edits → left ≡ take index steps
     → AreSteps after left × (reverse (items_in after left) ≡ group_of (changes_of_all (drop index (take n items))) (reverse (take index items)))
 group_gone edits after steps left items n index a b are view ha h same cut kept =
-    let p = steps_cut edits after steps left index a.first are ha.place (cut ∙ ap (λ k. take k edits) (sym same)) kept in
+    let p = steps_cut edits after steps index a.first are ha.place left (cut ∙ ap (λ k. take k edits) (sym same)) kept in
     (p.are, ap reverse (p.items ∙ ap (take index) view) ∙ sym (ap (λ g. group_of g (reverse (take index items))) (group_none edits _ a.first b.last h.group same)))
 
 pub lone_inside : (edits : List Change) (steps : List Step) (items : List Item) (n : ℕ) (s : Step) → StepAt edits steps items n s → (not s.closed && (s.last - s.first == 1)) ≡ true → s.first < length edits

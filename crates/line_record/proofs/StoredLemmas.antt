@@ -1,12 +1,12 @@
 -- The items that stored steps stand for.
-use Rattle.std.proofs.Common.{◌≡◌, ℕ, zero, suc, ◌-◌, ◌<◌, Bool, true, false, List, [], ◌∷◌, ◌++◌, length, take, drop, map, reverse, refl, sym, ap, subst, ◌∙◌, arith, get_or}
-use Rattle.std.proofs.Math.Seq.{take-suc, take-length, drop-append_seam}
-use Rattle.std.proofs.lemmas.List.{take-append-drop, length-map, map-append, map_push, length-reverse, reverse-append, length-drop}
-use Rattle.line_record.specs.Change.{Change, newest_of}
+use Rattle.std.proofs.Common.{◌≡◌, ℕ, zero, suc, ◌-◌, ◌<◌, Bool, true, false, List, [], ◌∷◌, ◌++◌, length, take, drop, refl, sym, ap, subst, ◌∙◌, arith, get_or}
+use Rattle.std.proofs.Math.Seq.{take-suc, take-length}
+use Rattle.line_record.specs.Change.{Change}
 use Rattle.line_record.specs.Held.{text_of, text_back, text_kept, first_held, text_inserted_by}
 use Rattle.line_record.specs.Items.{Item, before_item, item_with_text, items_with_texts, DoneStand, Items, ItemsStand, record_on, first_items}
-use Rattle.line_record.specs.Items.Item.{Open, Lone, Group}
+use Rattle.line_record.specs.Items.Item.{Open}
 use Rattle.line_record.specs.LogSteps.{item_from, item_inserted}
+use Rattle.line_record.proofs.EndLemmas.{newest_of-append}
 
 pub before_last : {A : Type 0} (xs : List A) (d : A) → 0 < length xs → xs ≡ take (length xs - 1) xs ++ (get_or xs (length xs - 1) d ∷ [])
 before_last xs d h =
@@ -14,30 +14,9 @@ before_last xs d h =
     let inside : length xs - 1 < length xs = omega arith in
     sym (take-length xs) ∙ ap (λ k. take k xs) (sym n) ∙ take-suc xs (length xs - 1) d inside
 
-pub reverse_push : {A B : Type 0} (f : A → B) (xs : List A) (x : A) → reverse (map f (xs ++ (x ∷ []))) ≡ f x ∷ reverse (map f xs)
-reverse_push f xs x = ap reverse (map_push f xs x) ∙ reverse-append (map f xs) (f x ∷ [])
-
--- the nearest of several items, seen from the last of what stands for them
-pub nearest : {A B : Type 0} (f : A → B) (xs : List A) (d : A) → 0 < length xs → reverse (map f xs) ≡ f (get_or xs (length xs - 1) d) ∷ reverse (map f (take (length xs - 1) xs))
-nearest f xs d h = ap (λ ys. reverse (map f ys)) (before_last xs d h) ∙ reverse_push f (take (length xs - 1) xs) (get_or xs (length xs - 1) d)
-
-pub length-reverse_map : {A B : Type 0} (f : A → B) (xs : List A) → length (reverse (map f xs)) ≡ length xs
-length-reverse_map f xs = length-reverse (map f xs) ∙ length-map xs f
-
-pub first_kept : {A B : Type 0} (f : A → B) (xs : List A) (n : ℕ) → reverse (map f (take n xs)) ≡ drop (length (reverse (map f xs)) - n) (reverse (map f xs))
-first_kept f xs n =
-    let newer = reverse (map f (drop n xs)) in
-    let older = reverse (map f (take n xs)) in
-    let split : reverse (map f xs) ≡ newer ++ older =
-    ap (λ ys. reverse (map f ys)) (sym (take-append-drop n xs)) ∙ ap reverse (map-append f (take n xs) (drop n xs)) ∙ reverse-append (map f (take n xs)) (map f (drop n xs)) in
-    let count : length (reverse (map f xs)) - n ≡ length newer =
-    ap (λ k. k - n) (length-reverse_map f xs) ∙ sym (length-reverse_map f (drop n xs) ∙ length-drop n xs) in
-    sym (ap (λ k. drop k (reverse (map f xs))) count ∙ ap (drop (length newer)) split ∙ drop-append_seam newer older)
-
 pub text_of-holding : (x : Item) (text : List ℕ) → text_of (item_with_text x text) ≡ text
 text_of-holding Open text = refl
-text_of-holding (Lone c) text = refl
-text_of-holding (Group c cs) text = refl
+text_of-holding _ text = refl
 
 pub length-done_held : (items : List Item) (text : List ℕ) → length (items_with_texts items text) ≡ length items
 length-done_held [] text = refl
@@ -56,18 +35,14 @@ DoneStand-drop (suc k) [] text h = h
 DoneStand-drop (suc k) (x ∷ items) text h =
     subst (λ t. DoneStand (drop k items) (text_back k (items_with_texts items (before_item x text)) t)) (sym (text_of-holding x (before_item x text))) (DoneStand-drop k items (before_item x text) h.1)
 
-newest_of-push : (c d : Change) (cs : List Change) → newest_of c (cs ++ (d ∷ [])) ≡ d
-newest_of-push c d [] = refl
-newest_of-push c d (e ∷ cs) = newest_of-push e d cs
-
 -- the newest change says what an item put in
 pub inserted_last : (closed : Bool) (cs : List Change) (d : Change) → item_inserted (item_from closed (cs ++ (d ∷ []))) ≡ text_inserted_by d
 inserted_last true [] d = refl
 inserted_last false [] d = refl
 inserted_last true (c ∷ []) d = refl
 inserted_last false (c ∷ []) d = refl
-inserted_last true (c ∷ (e ∷ cs)) d = ap text_inserted_by (newest_of-push e d cs)
-inserted_last false (c ∷ (e ∷ cs)) d = ap text_inserted_by (newest_of-push e d cs)
+inserted_last true (c ∷ (e ∷ cs)) d = ap text_inserted_by (newest_of-append e d cs [])
+inserted_last false (c ∷ (e ∷ cs)) d = ap text_inserted_by (newest_of-append e d cs [])
 
 pub truncated_held : (n : ℕ) (s : Items) (text : List ℕ) (t : Items) → t ≡ first_items n s → record_on t (text_kept n (record_on s text) text) ≡ first_held n (record_on s text)
 truncated_held n s text t e =

@@ -1,6 +1,6 @@
 -- The record's value: the changes done and undone, each side nearest first, and the texts that they
 -- stand for on a line's text. Also the effect of undo and redo on the record and its line.
-use Rattle.std.specs.Prelude.{◌≡◌, ◌<◌, ◌≤◌, ℕ, Bool, true, false, List, [], ◌∷◌, ◌++◌, drop, length, ◌-◌, Option, Some, None, is_some, IsUtf8, zero, suc, take, reverse, Result, IfOk, OnOk, OnErr}
+use Rattle.std.specs.Prelude.{◌≡◌, ◌<◌, ◌≤◌, ℕ, Bool, true, false, List, [], ◌∷◌, ◌++◌, drop, length, ◌-◌, Option, Some, None, is_some, IsUtf8, take, reverse, flat_map, Result, IfOk, OnOk, OnErr}
 use Rattle.line_buffer.specs.Event.{ChangeEvent}
 use Rattle.line_buffer.specs.Event.ChangeEvent.{StartKilling, StopKilling}
 use Rattle.line_buffer.specs.Line.{Line}
@@ -97,8 +97,7 @@ items_with_mark s = record { done = Open ∷ s.done; undone = [] }
 
 -- the changes of several items, the oldest item first
 abbrev pub changes_of_all : List Item → List Change
-changes_of_all [] = []
-changes_of_all (x ∷ items) = changes_of x ++ changes_of_all items
+changes_of_all items = flat_map changes_of items
 
 -- changes as a closed group after older items
 abbrev pub group_of : List Change → List Item → List Item
@@ -229,9 +228,7 @@ pub record MakesAnew {A E : Type 0} (changes : List Change) (before after : Line
 
 -- the changes of the last n items, in the order in which they were made
 abbrev pub last_changes : ℕ → List Item → List Change
-last_changes zero items = []
-last_changes (suc n) [] = []
-last_changes (suc n) (x ∷ items) = last_changes n items ++ changes_of x
+last_changes n items = changes_of_all (reverse (take n items))
 
 -- n items are undone, and the answer is whether a change is among them
 pub record UndoesItems {E : Type 0} (n : ℕ) (old new : Items) (before after : Line)

@@ -1,5 +1,4 @@
-use Rattle.std.proofs.Common.{◌≤◌, ◌+◌, ◌≡◌, sym, ap, ◌∙◌, subst, take, drop, length, chars}
-use Rattle.std.specs.Prelude.{IsUtf8, IsCharBoundary, slice_range}
+use Rattle.std.proofs.Common.{◌≤◌, ◌+◌, ◌≡◌, sym, ap, ◌∙◌, subst, take, drop, length, chars, IsUtf8, IsCharBoundary, slice_range}
 use Rattle.std.specs.List.{list_all}
 use Rattle.std.proofs.lemmas.Str.{IsCharBoundary-start}
 use Rattle.line_buffer.specs.Parting.{first, is_flag_letter}

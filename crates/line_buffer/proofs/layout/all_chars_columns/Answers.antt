@@ -1,7 +1,6 @@
-use Rattle.std.proofs.Common.{◌+◌, min, chars, rules, ◌∙◌}
+use Rattle.std.proofs.Common.{◌+◌, min, chars, rules, ◌∙◌, tests}
 use Rattle.std.proofs.lemmas.Iterator.{YieldsList-from_chars}
 use Rattle.std.proofs.lemmas.Iterator.Consumers.{fold_from_yields_List}
-use borrow.Author.Tests.{tests}
 use Rattle.line_buffer.specs.Width.{char_columns_of}
 use Rattle.line_buffer.proofs.WidthLemmas.{stopped_sum}
 use Rattle.line_buffer.proofs.layout.all_chars_columns.Goals as goal

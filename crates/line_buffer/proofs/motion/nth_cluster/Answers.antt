@@ -1,5 +1,4 @@
-use Rattle.std.proofs.Common.{Some, rules, ap, ◌∙◌}
-use Rattle.std.specs.Prelude.{take, None}
+use Rattle.std.proofs.Common.{Some, rules, ap, ◌∙◌, take, None}
 use Rattle.std.specs.List.{last_or}
 use Rattle.std.proofs.lemmas.Iterator.{YieldsList-from_take}
 use Rattle.std.proofs.lemmas.Iterator.Consumers.{YieldsList-at}

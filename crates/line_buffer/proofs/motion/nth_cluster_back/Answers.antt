@@ -1,5 +1,4 @@
-use Rattle.std.proofs.Common.{ap, ◌∙◌}
-use Rattle.std.specs.Prelude.{take, reverse, None}
+use Rattle.std.proofs.Common.{ap, ◌∙◌, take, reverse, None}
 use Rattle.std.specs.List.{last_or}
 use Rattle.std.proofs.lemmas.Iterator.{YieldsList-from_take}
 use Rattle.std.proofs.lemmas.Iterator.Consumers.{YieldsList-at}

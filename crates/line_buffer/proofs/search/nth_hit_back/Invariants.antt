@@ -1,5 +1,4 @@
-use Rattle.std.proofs.Common.{◌≡◌, take, reverse}
-use Rattle.std.specs.Prelude.{IsUtf8}
+use Rattle.std.proofs.Common.{◌≡◌, take, reverse, IsUtf8}
 use Rattle.std.specs.List.{last_or}
 use Rattle.std.specs.Iterator.Adapters.{rev_source}
 use Rattle.std.specs.Str.Iter.{char_indices_rest, char_indices_offset}

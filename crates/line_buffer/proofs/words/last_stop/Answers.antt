@@ -4,7 +4,7 @@ use denote.Enum.Bare.{sameb}
 use Rattle.line_buffer.specs.contracts.types.At as At
 use Rattle.line_buffer.specs.contracts.types.Word as Word
 use Rattle.line_buffer.specs.declared.types.At.TheVariants.{Start, BeforeEnd, AfterEnd}
-use Rattle.line_buffer.specs.declared.types.Word.TheVariants.{Big, Emacs, Vi}
+use Rattle.line_buffer.specs.declared.types.Word.TheVariants.{Emacs}
 use Rattle.line_buffer.specs.declared.types.At as AtType
 use Rattle.line_buffer.specs.declared.types.Word as WordType
 use Rattle.line_buffer.specs.Clusters.{clusters}
@@ -13,13 +13,10 @@ use Rattle.line_buffer.proofs.StopLemmas.{later_last-read}
 use Rattle.line_buffer.proofs.words.last_stop.Goals as goal
 
 no_end : (at : AtType.At) (word : WordType.Word) (text : List ℕ) → false ≡ sameb At.the_type at AfterEnd → false ≡ sameb Word.the_type word Emacs → last_stop at word text ≡ later_last (clusters text)
-no_end Start Big text a w = refl
-no_end Start Vi text a w = refl
-no_end BeforeEnd Big text a w = refl
-no_end BeforeEnd Vi text a w = refl
 no_end Start Emacs text a w = absurd (cc)
 no_end BeforeEnd Emacs text a w = absurd (cc)
 no_end AfterEnd word text a w = absurd (cc)
+no_end _ _ text a w = refl
 
 pub returns-in-Some : goal.returns-in-Some
 returns-in-Some c =

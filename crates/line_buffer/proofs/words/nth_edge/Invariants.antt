@@ -1,5 +1,4 @@
-use Rattle.std.proofs.Common.{◌≡◌, ◌<◌, ◌-◌, ◌∷◌, drop, length}
-use Rattle.std.specs.Prelude.{slice_get, IsCharBoundary}
+use Rattle.std.proofs.Common.{◌≡◌, ◌<◌, ◌-◌, ◌∷◌, drop, length, slice_get, IsCharBoundary}
 use Rattle.line_buffer.specs.Words.{clusters_at, edges_of, kinds}
 use Rattle.line_buffer.proofs.words.nth_edge.Given as goal
 

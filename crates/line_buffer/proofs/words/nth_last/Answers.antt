@@ -1,10 +1,8 @@
-use Rattle.std.proofs.Common.{◌-◌, drop, ap, sym, ◌∙◌}
-use Rattle.std.specs.Prelude.{slice_get}
+use Rattle.std.proofs.Common.{◌-◌, drop, ap, sym, ◌∙◌, slice_get}
 use Rattle.line_buffer.specs.Words.{edges_of, kinds}
 use Rattle.line_buffer.specs.declared.types.At.TheVariants.{BeforeEnd}
 use Rattle.line_buffer.proofs.NextRunLemmas.{behind_first, no_first_cluster}
 use Rattle.line_buffer.proofs.StopLemmas.{clusters-empty}
-use Rattle.line_buffer.proofs.WordLemmas.{edges_of-nil}
 use Rattle.line_buffer.proofs.words.nth_last.Goals as goal
 
 pub nth_edge-requires : goal.nth_edge-requires
@@ -16,8 +14,7 @@ nth_edge-requires c = record {
 pub returns-in_err-first : goal.returns-in_err-first
 returns-in_err-first c =
     c.from_residual.ensures
-    ∙ sym (ap (λ xs. slice_get (edges_of BeforeEnd (kinds c.args.word (drop 1 xs))) (c.args.n - 1)) (clusters-empty c.args.text.now (no_first_cluster c.args.text.now c.utf8.text c.in_err-first.ensures.value))
-    ∙ ap (λ xs. slice_get xs (c.args.n - 1)) (edges_of-nil BeforeEnd))
+    ∙ sym (ap (λ xs. slice_get (edges_of BeforeEnd (kinds c.args.word (drop 1 xs))) (c.args.n - 1)) (clusters-empty c.args.text.now (no_first_cluster c.args.text.now c.utf8.text c.in_err-first.ensures.value)))
 
 pub returns : goal.returns
 returns c =

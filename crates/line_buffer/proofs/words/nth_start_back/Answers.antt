@@ -1,12 +1,11 @@
-use Rattle.std.proofs.Common.{◌<◌, ◌-◌, ◌∷◌, ◌++◌, [], reverse, ap, sym, ◌∙◌, arith, subst}
-use Rattle.std.specs.Prelude.{slice_get}
+use Rattle.std.proofs.Common.{◌<◌, ◌-◌, ◌∷◌, ◌++◌, [], reverse, ap, sym, ◌∙◌, arith, subst, slice_get}
 use Rattle.std.proofs.lemmas.Str.{IsCharBoundary-end}
 use Rattle.line_buffer.specs.Clusters.{clusters}
 use Rattle.line_buffer.specs.Words.{EndsInRun, edges_of, kinds}
 use Rattle.line_buffer.specs.declared.types.At.TheVariants.{Start}
 use Rattle.line_buffer.proofs.PartLemmas.{boundary_before, slice_range-front}
 use Rattle.line_buffer.proofs.StopLemmas.{clusters-empty}
-use Rattle.line_buffer.proofs.WordLemmas.{turn_missed, turn_found, turn_passed, none_in_one_back}
+use Rattle.line_buffer.proofs.WordLemmas.{turn_missed, turn_found, turn_passed}
 use Rattle.line_buffer.proofs.WordRunLemmas.{run_split, blank_end}
 use Rattle.line_buffer.proofs.words.nth_start_back.Goals as goal
 
@@ -43,7 +42,6 @@ loop-start-preserved-else-missing-eq0 c =
 
 pub returns : goal.returns
 returns c =
-    none_in_one_back _ Start (c.loop-start.end, c.loop-start.right) (c.loop-start.missing - 1)
-    (c.loop-start.invariant.found
+    sym (c.loop-start.invariant.found
     ∙ ap (λ xs. slice_get (reverse (edges_of Start (kinds c.args.word xs ++ (c.loop-start.end, c.loop-start.right) ∷ []))) (c.loop-start.missing - 1))
     (ap clusters (sym (c.range.ensures.value ∙ slice_range-front c.args.text.now c.loop-start.end)) ∙ clusters-empty c.range.result.now c.in_default.ensures))

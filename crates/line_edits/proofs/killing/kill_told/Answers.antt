@@ -1,4 +1,4 @@
-use Rattle.std.proofs.Common.{◌≡◌, refl, inr}
+use Rattle.std.proofs.Common.{◌≡◌, inr}
 use Rattle.line_record.specs.Ring.{ring_step, ring_refuses}
 use Rattle.line_record.proofs.JoinedLaws.{joined_held, joined_stand, joined_stand_refused, joined_names_refused}
 use Rattle.line_record.specs.Items.{RecordsEventIn, record_refuses}

@@ -1,5 +1,4 @@
-use Rattle.std.proofs.Common.{refl, ◌∙◌}
-use Rattle.std.specs.Prelude.{encode_utf8}
+use Rattle.std.proofs.Common.{refl, ◌∙◌, encode_utf8}
 use Rattle.line_buffer.specs.Replay.{replacement}
 use Rattle.line_record.specs.Items.{record_on}
 use Rattle.line_edits.proofs.StepLemmas.{unchanged_rewrites}

@@ -1,5 +1,4 @@
-use Rattle.std.proofs.Common.{◌≡◌, take, drop, length}
-use Rattle.std.specs.Prelude.{All}
+use Rattle.std.proofs.Common.{◌≡◌, take, drop, length, All}
 use Rattle.line_record.specs.Items.{lines_back}
 use Rattle.line_record.specs.Logged.{edits_in, Spelt}
 use Rattle.line_record.proofs.entry.take_back.Given as goal

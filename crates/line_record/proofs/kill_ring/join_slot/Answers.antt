@@ -1,8 +1,7 @@
-use Rattle.std.proofs.Common.{◌<◌, map, [], length, string_bytes, ap, sym, ◌∙◌, rules}
+use Rattle.std.proofs.Common.{◌<◌, map, [], length, string_bytes, ap, sym, ◌∙◌, rules, slice_set}
 use Rattle.std.proofs.Math.Seq.{map-set_same}
 use Rattle.std.proofs.lemmas.List.{map-set, get_or-map}
 use Rattle.std.proofs.lemmas.Result.{on_ok_weaker, on_err_weaker}
-use Rattle.std.specs.Prelude.{slice_set}
 use Rattle.line_record.specs.Ring.{joined_text}
 use Rattle.line_record.proofs.kill_ring.join_slot.Goals as goal
 

@@ -1,5 +1,4 @@
-use Rattle.std.proofs.Common.{◌-◌}
-use Rattle.std.specs.Prelude.{slice_range}
+use Rattle.std.proofs.Common.{◌-◌, slice_range}
 use Rattle.line_buffer.specs.Indent.{rows_of, row_events}
 use Rattle.line_buffer.proofs.RowStepLemmas.{RowsTold}
 use Rattle.line_buffer.proofs.gap_buffer.GapBuffer.change_rows.Given as goal

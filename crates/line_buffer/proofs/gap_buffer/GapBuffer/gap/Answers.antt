@@ -1,5 +1,4 @@
-use Rattle.std.proofs.Common.{string_bytes, refl, subst}
-use Rattle.std.specs.Prelude.{IsUtf8, IsCharBoundary}
+use Rattle.std.proofs.Common.{string_bytes, refl, subst, IsUtf8, IsCharBoundary}
 use Rattle.line_buffer.proofs.CutLemmas.{at_seam}
 use Rattle.line_buffer.proofs.gap_buffer.GapBuffer.gap.Goals as goal
 

@@ -1,5 +1,4 @@
-use Rattle.std.proofs.Common.{refl}
-use Rattle.std.specs.Prelude.{slice_range}
+use Rattle.std.proofs.Common.{refl, slice_range}
 use Rattle.line_buffer.proofs.LeftLemmas.{edits_refused, stopped_for_memory}
 use Rattle.line_buffer.proofs.RowStepLemmas.{row_events-some, row_event_tells}
 use Rattle.line_buffer.proofs.line_buffer.LineBuffer.change_rows.Goals as goal

@@ -1,5 +1,4 @@
-use Rattle.std.proofs.Common.{◌≡◌, ℕ, ◌+◌, ◌≤◌, List, take, length, Option, Some, None, subst, ap, ◌∙◌}
-use Rattle.std.specs.Prelude.{IfSome, IsCharBoundary, encode_utf8}
+use Rattle.std.proofs.Common.{◌≡◌, ℕ, ◌+◌, ◌≤◌, List, take, length, Option, Some, None, subst, ap, ◌∙◌, IfSome, IsCharBoundary, encode_utf8}
 use Rattle.line_buffer.specs.Clusters.{IsPart}
 use Rattle.line_buffer.specs.Line.{Line}
 use Rattle.line_buffer.proofs.PartLemmas.{part_before, slice_range-front}

@@ -1,5 +1,4 @@
-use Rattle.std.proofs.Common.{◌≡◌, ℕ, ◌+◌, ◌≤◌, List, subst, drop, length, arith}
-use Rattle.std.specs.Prelude.{encode_utf8}
+use Rattle.std.proofs.Common.{◌≡◌, ℕ, ◌+◌, ◌≤◌, List, subst, drop, length, arith, encode_utf8}
 use Rattle.line_buffer.specs.Clusters.{IsPart}
 use Rattle.line_buffer.specs.Line.{Line}
 use Rattle.line_buffer.proofs.PartLemmas.{part_behind}

@@ -1,5 +1,4 @@
-use Rattle.std.proofs.Common.{rules, sym, subst}
-use Rattle.std.specs.Prelude.{IsCharBoundary}
+use Rattle.std.proofs.Common.{rules, sym, subst, IsCharBoundary}
 use Rattle.std.proofs.lemmas.Str.{IsUtf8-encode}
 use Rattle.line_buffer.proofs.ReplayLemmas.{swaps_insertion}
 use Rattle.line_buffer.proofs.line_buffer.LineBuffer.insert_char.Goals as goal

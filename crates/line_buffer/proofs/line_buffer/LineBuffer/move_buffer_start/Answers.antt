@@ -1,5 +1,4 @@
-use Rattle.std.proofs.Common.{subst, ap}
-use Rattle.std.specs.Prelude.{IsCharBoundary}
+use Rattle.std.proofs.Common.{subst, ap, IsCharBoundary}
 use Rattle.std.proofs.lemmas.Str.{IsCharBoundary-start, IsUtf8-string_bytes}
 use Rattle.line_buffer.proofs.line_buffer.LineBuffer.move_buffer_start.Goals as goal
 

@@ -1,7 +1,6 @@
 use Rattle.std.proofs.lemmas.List.Edits.{length-between}
 use Rattle.std.specs.List.{replace_range}
-use Rattle.std.proofs.Common.{length, sym, ap, subst, ◌∙◌, refl, arith}
-use Rattle.std.specs.Prelude.{IsCharBoundary, slice_range}
+use Rattle.std.proofs.Common.{length, sym, ap, subst, ◌∙◌, refl, arith, IsCharBoundary, slice_range}
 use Rattle.line_buffer.specs.Line.{with_replacement}
 use Rattle.line_buffer.specs.Replay.{replacement}
 use Rattle.line_buffer.proofs.CutLemmas.{before_replaced}

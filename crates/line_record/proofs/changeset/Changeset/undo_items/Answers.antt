@@ -4,19 +4,18 @@ use Rattle.line_record.proofs.changeset.Changeset.undo_items.Goals as goal
 
 pub loop-preserved : goal.loop-preserved
 loop-preserved g c =
-    undo_turn c.args.n c.loop.counter c.args.self.now c.loop.self _ (g.L.EditedLine.value c.args.line.now) (g.L.EditedLine.value c.loop.line) _ c.loop.undone c.in-Some.is_step c.loop.invariant
-    c.loop-test.true (sym c.in-Some.is ∙ c.in_ok-is_step.ensures.answer) c.in_ok-is_step.ensures.items c.in_ok-is_step.ensures.back.line
+    undo_turn c.args.n c.loop.counter c.args.self.now (g.L.EditedLine.value c.args.line.now) (g.L.EditedLine.value c.loop.line) _ c.loop.undone c.loop.self.done c.loop.self.undone _ c.in-Some.is_step
+    c.loop.invariant c.loop-test.true (sym c.in-Some.is ∙ c.in_ok-is_step.ensures.answer) c.in_ok-is_step.ensures.items c.in_ok-is_step.ensures.back.line
 
 pub returns-in-None : goal.returns-in-None
 returns-in-None g c =
-    nothing_left c.args.n c.loop.counter c.args.self.now c.loop.self c.undo_item.new.self (g.L.EditedLine.value c.args.line.now) (g.L.EditedLine.value c.loop.line)
-    (g.L.EditedLine.value c.undo_item.new.line) c.loop.undone c.loop.invariant (sym c.in-None.is ∙ c.in_ok-is_step.ensures.answer) c.in_ok-is_step.ensures.items c.in_ok-is_step.ensures.back.line
+    nothing_left c.args.n c.loop.counter c.args.self.now (g.L.EditedLine.value c.args.line.now) (g.L.EditedLine.value c.loop.line) _ c.loop.undone c.loop.self.done c.loop.self.undone _
+    c.loop.invariant (sym c.in-None.is ∙ c.in_ok-is_step.ensures.answer) c.in_ok-is_step.ensures.items c.in_ok-is_step.ensures.back.line
 
 pub returns : goal.returns
-returns g c =
-    ran_out c.args.n c.loop.counter c.args.self.now c.loop.self (g.L.EditedLine.value c.args.line.now) (g.L.EditedLine.value c.loop.line) c.loop.undone c.loop.invariant c.loop-test.false
+returns g c = ran_out c.loop.invariant c.loop-test.false
 
 pub returns-in_err-is_step : goal.returns-in_err-is_step
 returns-in_err-is_step g c =
-    undoes_in_part c.args.n c.loop.counter c.args.self.now c.loop.self c.undo_item.new.self (g.L.EditedLine.value c.args.line.now) (g.L.EditedLine.value c.loop.line)
-    (g.L.EditedLine.value c.undo_item.new.line) c.loop.undone _ c.from_residual.result c.from_residual.ensures.1 c.loop.invariant c.loop-test.true c.in_err-is_step.ensures.back.part
+    undoes_in_part c.args.n c.loop.counter c.args.self.now (g.L.EditedLine.value c.args.line.now) (g.L.EditedLine.value c.loop.line) _ c.loop.undone
+    c.loop.self _ _ c.from_residual.result c.from_residual.ensures.1 c.loop.invariant c.loop-test.true c.in_err-is_step.ensures.back.part

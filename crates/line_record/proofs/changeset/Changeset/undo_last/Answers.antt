@@ -1,4 +1,4 @@
-use Rattle.std.proofs.Common.{◌-◌, ◌<◌, length, subst, sym, ap, ◌∙◌, arith}
+use Rattle.std.proofs.Common.{◌-◌, ◌<◌, length, subst, ap, ◌∙◌, arith}
 use Rattle.line_record.specs.Items.{last_changes}
 use Rattle.line_record.proofs.UndoLemmas.{last_changes_of}
 use Rattle.line_record.proofs.changeset.Changeset.undo_last.Goals as goal

@@ -1,5 +1,4 @@
-use Rattle.std.proofs.Common.{rules, sym, subst, ◌≡◌, ◌+◌, ◌∙◌, ap, ◌++◌, take, length, List, ℕ}
-use Rattle.std.specs.Prelude.{IsUtf8, IsCharBoundary}
+use Rattle.std.proofs.Common.{rules, sym, subst, ◌≡◌, ◌+◌, ◌∙◌, ap, ◌++◌, take, length, List, ℕ, IsUtf8, IsCharBoundary}
 use Rattle.line_buffer.specs.Line.{Line}
 use Rattle.line_record.specs.Change.{StandsAt}
 use Rattle.line_record.specs.Gap.{text_around_gap}

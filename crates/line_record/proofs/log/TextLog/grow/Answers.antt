@@ -1,10 +1,9 @@
-use Rattle.std.proofs.Common.{◌≡◌, ◌+◌, ◌++◌, ◌∷◌, [], length, take, drop, string_bytes, ap, sym, ◌∙◌, subst, rules, arith, get_or, refl}
-use Rattle.std.specs.Prelude.{IsCharBoundary}
+use Rattle.std.proofs.Common.{◌≡◌, ◌+◌, ◌++◌, ◌∷◌, [], length, take, drop, string_bytes, ap, sym, ◌∙◌, subst, rules, arith, get_or, refl, IsCharBoundary}
 use Rattle.std.specs.String.{string_len}
 use Rattle.std.proofs.lemmas.List.{length-take-le}
 use Rattle.std.proofs.lemmas.Str.{IsUtf8-string_bytes}
 use Rattle.line_record.specs.Logged.{edit_in, edits_in, change_with_text}
-use Rattle.line_record.proofs.LogLemmas.{entry_seen, cuts_at, place_in_cut, log_grown, Put}
+use Rattle.line_record.proofs.LogLemmas.{entry_seen, cuts_at, place_in_cut, log_grown, LogIs}
 use Rattle.line_record.proofs.log.TextLog.grow.Goals as goal
 
 pub truncate-requires : goal.truncate-requires
@@ -31,7 +30,8 @@ overflow_add-last c =
     let cut : length (string_bytes c.truncate.new.self) ≡ x.end = ap length (c.truncate.ensures.bytes ∙ ap (take x.end) c.reserve.ensures.bytes) ∙ length-take-le x.end text here.spelt.inside in
     omega (arith, c.len-end.type_inv, c.len-end.ensures, c.in_ok-push_str.ensures.len, c.in_ok-put_in.ensures.len, count, cut, here.spelt.added)
 
-put : (c : goal.In_ok-push) → Put (string_bytes c.self.inside.text) c.self.inside.entries.items c.args.index (change_with_text c.args.at c.args.before c.args.removed.now c.args.added.now (edit_in (string_bytes c.self.inside.text) c.index.result.now)) (string_bytes c.push_str.new.self) c.push.new.self.items
+put : (c : goal.In_ok-push) → LogIs (string_bytes c.push_str.new.self) c.push.new.self.items (take c.args.index (edits_in (string_bytes c.self.inside.text) c.self.inside.entries.items)
+    ++ (change_with_text c.args.at c.args.before c.args.removed.now c.args.added.now (edit_in (string_bytes c.self.inside.text) c.index.result.now) ∷ []))
 put c =
     let text = string_bytes c.self.inside.text in
     let x = c.index.result.now in
@@ -45,12 +45,12 @@ put c =
     c.utf8.removed c.utf8.added (c.in_ok-push.ensures.items ∙ ap (λ es. es ++ (record { kind = x.kind; at = c.args.at; start = x.start; middle = x.middle + length c.args.removed.now; end = c.len-end.result } ∷ [])) c.truncate-2.ensures.items)
 
 pub invariant_of-self-2 : goal.invariant_of-self-2
-invariant_of-self-2 c = (put c).log
+invariant_of-self-2 c = (put c).are
 
 pub returns-clause-ok : goal.returns-clause-ok
 returns-clause-ok c = λ d.
     let text = string_bytes c.self.inside.text in
     let x = c.index.result.now in
     let here = entry_seen text c.self.inside.entries.items c.args.self.now c.args.index x c.self.invariant c.self.view_is c.requires c.index.ensures in
-    (put c).edits ∙ ap (λ y. take c.args.index (edits_in text c.self.inside.entries.items) ++ (change_with_text c.args.at c.args.before c.args.removed.now c.args.added.now y ∷ [])) (sym (here.edit d))
+    (put c).items ∙ ap (λ y. take c.args.index (edits_in text c.self.inside.entries.items) ++ (change_with_text c.args.at c.args.before c.args.removed.now c.args.added.now y ∷ [])) (sym (here.edit d))
     ∙ ap (λ es. take c.args.index es ++ (change_with_text c.args.at c.args.before c.args.removed.now c.args.added.now (get_or es c.args.index d) ∷ [])) c.self.view_is

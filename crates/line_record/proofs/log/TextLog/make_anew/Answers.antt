@@ -1,5 +1,4 @@
-use Rattle.std.proofs.Common.{ℕ, List, string_bytes, sym, subst}
-use Rattle.std.specs.Prelude.{All, slice_range}
+use Rattle.std.proofs.Common.{ℕ, List, string_bytes, sym, subst, All, slice_range}
 use Rattle.line_record.specs.declared.entry.LoggedChange.{LoggedChange}
 use Rattle.line_record.specs.Change.{Change, AllFitIn}
 use Rattle.line_record.specs.Items.{MakesAnew}

@@ -1,16 +1,17 @@
-use Rattle.std.proofs.Common.{take, ap, ◌∙◌, sym, ◌≡◌, ◌++◌, ◌∷◌, [], false, Some, ℕ, List}
-use Rattle.std.specs.Prelude.{option_map}
+use Rattle.std.proofs.Common.{take, ap, ◌∙◌, sym, ◌≡◌, ◌++◌, ◌∷◌, [], false, Some, ℕ, List, option_map}
 use Rattle.line_record.specs.Items.Item.{Lone}
 use Rattle.line_record.specs.Change.{place_of, old_text_of, new_text_of}
 use Rattle.line_record.specs.Logged.{edit_from, change_told}
-use Rattle.line_record.specs.LogSteps.{event_of}
+use Rattle.line_record.specs.LogSteps.{event_of, items_in}
 use Rattle.line_record.specs.declared.steps.Step.{Step}
-use Rattle.line_record.proofs.StepsLemmas.{lone_pushed, step_place_is, PushedStep}
+use Rattle.line_record.proofs.StepsLemmas.{lone_pushed, StepsAre}
+use Rattle.line_record.proofs.SpanLemmas.{place_is}
 use Rattle.line_record.proofs.steps.Steps.add.Goals as goal
 
-pushed : (c : goal.In_ok-push) → PushedStep c.self.inside.log c.self.inside.steps.items c.args.n (Lone (edit_from c.kind.result c.at.result c.removed.result.now c.added-added.result.now)) c.record.new.self c.push.new.self.items
+pushed : (c : goal.In_ok-push) → StepsAre c.record.new.self c.push.new.self.items
+    (take c.args.n (items_in c.self.inside.log c.self.inside.steps.items) ++ (Lone (edit_from c.kind.result c.at.result c.removed.result.now c.added-added.result.now) ∷ []))
 pushed c =
-    let is = step_place_is c.self.inside.log _ c.self.inside.steps.items c.args.n _ _ c.place-first.ensures (c.deref.ensures.value ∙ c.reserve.ensures.items) c.len.ensures in
+    let is = place_is (λ (s : Step). s.first) c.self.inside.log _ c.self.inside.steps.items c.args.n _ _ c.place-first.ensures (c.deref.ensures.value ∙ c.reserve.ensures.items) c.len.ensures in
     let s : Step = record { closed = false; first = c.place-first.result; last = c.len-2.result } in
     lone_pushed c.self.inside.log c.record.new.self c.self.inside.steps.items c.push.new.self.items c.args.n _ c.len-2.result _ c.self.invariant is c.in_ok-record.ensures.ok c.len-2.ensures
     (c.in_ok-push.ensures.items ∙ ap (λ ss. ss ++ (s ∷ [])) (c.truncate.ensures.items ∙ ap (take c.args.n) c.reserve.ensures.items))

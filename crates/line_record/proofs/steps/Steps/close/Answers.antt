@@ -1,5 +1,4 @@
-use Rattle.std.proofs.Common.{◌≡◌, ◌-◌, sym, ap, take, drop, reverse, ◌∙◌}
-use Rattle.std.specs.Prelude.{is_some, slice_get}
+use Rattle.std.proofs.Common.{◌≡◌, ◌-◌, sym, ap, take, drop, reverse, ◌∙◌, is_some, slice_get}
 use Rattle.line_record.specs.Items.{changes_of_all, group_of}
 use Rattle.line_record.specs.LogSteps.{AreSteps, items_in}
 use Rattle.line_record.proofs.StepsLemmas.{step_at, closed_from, group_none, group_some, group_gone, group_pushed_on, first_inside, last_inside, last_next, less, set_kept}

@@ -1,5 +1,4 @@
-use Rattle.std.proofs.Common.{sym, ap, subst, ◌∙◌, refl}
-use Rattle.std.specs.Prelude.{is_some, Option, List}
+use Rattle.std.proofs.Common.{sym, ap, subst, ◌∙◌, refl, is_some, Option, List}
 use Rattle.line_record.specs.Change.{Change}
 use Rattle.line_record.specs.Items.{Item}
 use Rattle.line_record.specs.LogSteps.{JoinedIn, items_in, event_of}
