@@ -3,7 +3,7 @@
 the kit; docs/PROMISES.md names each law and each public call of the libraries, and docs/ERRORS.md each call that answers a
 `Result`. How the documents are written: no sentence is long, no word stands that went, docs/DECISIONS.md says of each choice
 what was rejected and why, docs/API.md is what the sources give. And what no document can say for a proof: that nothing but the
-log's own walks sets what the log has.
+log's own walk sets what the log has.
 
     tests/documents/promises.py            checks
     tests/documents/promises.py --write    writes docs/API.md anew, and the numbers of the lines that are linked, and then checks
@@ -270,7 +270,7 @@ def check_parts(checks):
 
 def check_logs(checks):
     """What the devices gave and took, which no code keeps: of all structs `Log` of line_config alone has data that only proofs
-    have, its own walks set them, no other walk stands but those of WALKS, and of the libraries only NOTING names it."""
+    have, its own walk sets them, no other walk stands but those of WALKS, and of the libraries only NOTING names it."""
     told = [name for name in LIBRARIES if name == "line_config" or "line_config" in CRATES[name]]
     walks = {file for name in CRATES for file in files_under(f"crates/{name}/proofs", ".antt") if file.endswith("/Proof.antt")}
     for file in sorted(walks | WALKS):
@@ -292,10 +292,7 @@ def check_kit(checks):
 
 LOG = "crates/line_config/src/log.rt"
 NOTING = {LOG, *(f"crates/line_config/src/{name}.rt" for name in ("lib", "recorded"))}
-WALKS = {
-    f"crates/line_config/proofs/{of}/Proof.antt"
-    for of in ("configurer/ConfigConfigurer/config_mut", "log/Log/new", "log/Log/note", "log/Log/note_flush", "log/Log/since")
-}
+WALKS = {f"crates/line_config/proofs/{of}/Proof.antt" for of in ("configurer/ConfigConfigurer/config_mut", "log/Log/noted")}
 
 
 def main(arguments):

@@ -1,7 +1,6 @@
 -- What is said beforehand can be said of every run, whatever its reads gave.
 use Rattle.std.proofs.Common.{◌≡◌, ℕ, List, [], ◌∷◌, Some, None, refl, arith}
 use Rattle.line_config.specs.Foretold.{rest_after_given, EachRunAgrees}
-use Rattle.line_config.specs.declared.device.Last.{Last}
 use Rattle.line_config.specs.declared.device.Last.TheVariants.{End, Failed}
 
 left_of_all : (all : List ℕ) → rest_after_given all all ≡ Some []

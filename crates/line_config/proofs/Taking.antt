@@ -51,10 +51,6 @@ some_of_all held a b xs taken = record { taken = xs; rest = []; split = sym (app
 pub some_then : {D : Type 0} (held : D → List ℕ) (a b c : D) (xs ys : List ℕ) → Takes held a b xs → TakesSome held b c ys → TakesSome held a c (xs ++ ys)
 some_then held a b c xs ys taken some = begins_behind (held a) xs ys (held b) (held c) taken some
 
-pub taken_of : {D : Type 0} (held : D → List ℕ) (a b : D) (bytes : List ℕ) → TakesSome held a b bytes
-    → (taken : List ℕ) × (rest : List ℕ) × (bytes ≡ taken ++ rest) × Takes held a b taken
-taken_of held a b bytes some = (some.taken, some.rest, some.split, some.held)
-
 pub on_err : {T E P : Type 0} (r : Result T E) → P → OnErr r P
 on_err (Ok x) p = tt
 on_err (Err e) p = p

@@ -1,11 +1,11 @@
 -- Calls that are repeated, and what the last of them shows.
-use Rattle.std.proofs.Common.{◌≡◌, ℕ, zero, suc, ◌+◌, ◌-◌, ◌^◌, ◌<◌, ◌≤◌, List, [], ◌∷◌, ◌++◌, take, Result, Ok, Err, refl, sym, ap, ◌∙◌, append_assoc, append-nil, add-one, arith, subst}
+use Rattle.std.proofs.Common.{◌≡◌, ℕ, zero, suc, ◌+◌, ◌-◌, ◌^◌, List, [], ◌∷◌, ◌++◌, Result, Ok, Err, refl, sym, ap, ◌∙◌, append_assoc, append-nil, add-one}
 use Rattle.std.specs.Prelude.{⊤, OnOk, OnErr}
 use Rattle.std.specs.IoError.{error_kind}
 use Rattle.std.specs.declared.io.Error.{Error}
 use Rattle.std.specs.declared.io.ErrorKind.{ErrorKind}
 use Rattle.std.specs.declared.io.ErrorKind.TheVariants.{Interrupted}
-use Rattle.line_config.specs.DeviceCalls.{AnswersFlush, AnswersWrite, DeviceCall, Moves, Flushes, EndsWithCall, IsReadFailure, IsWriteFailure, IsFlush, Since, Tries, again, flush_interrupted, flushes, move_interrupted, bytes_moved, moves}
+use Rattle.line_config.specs.DeviceCalls.{AnswersFlush, AnswersWrite, DeviceCall, Moves, Flushes, EndsWithCall, IsWriteFailure, IsFlush, Since, Tries, again, flush_interrupted, flushes, move_interrupted, bytes_moved, moves}
 
 pub again_none : (call : DeviceCall) (before : List DeviceCall) → before ≡ again 0 call before
 unfolding again
@@ -15,17 +15,6 @@ pub again_more : (n : ℕ) (call c : DeviceCall) (before calls now : List Device
     → now ≡ again (n + 1) call before
 unfolding again
 again_more n call c before calls now so_far noted same = rw (add-one n, noted, so_far, same) refl
-
--- a call that isn't repeated ends the tries
-pub tries_to : (interrupted c : DeviceCall) (IsLast : DeviceCall → Type 0) (n : ℕ) (old calls now : List DeviceCall) → calls ≡ again n interrupted old
-    → now ≡ c ∷ calls → IsLast c → (c ≡ interrupted → ⊥) → Tries interrupted old now IsLast
-tries_to interrupted c IsLast n old calls now so_far noted last other = record {
-  tries = n;
-  call = c;
-  noted = noted ∙ ap (λ cs. c ∷ cs) so_far;
-  last = last;
-  given_up = λ same. absurd (other same);
-}
 
 again_less : (n m : ℕ) (call : DeviceCall) (before : List DeviceCall) → n ≡ m + 1 → again n call before ≡ call ∷ again m call before
 unfolding again
@@ -70,19 +59,6 @@ since_then {a} {b} {c} first second = record {
   others = second.others ++ first.others;
   noted = second.noted ∙ ap (λ cs. second.others ++ cs) first.noted ∙ sym (append_assoc second.others first.others a);
 }
-
--- if this holds of the last call, so does what follows from it
-pub tries_as : {interrupted : DeviceCall} {a b : List DeviceCall} (P Q : DeviceCall → Type 0) → Tries interrupted a b P → ((call : DeviceCall) → P call → Q call)
-    → Tries interrupted a b Q
-tries_as P Q t so = record { tries = t.tries; call = t.call; noted = t.noted; last = so t.call t.last; given_up = t.given_up }
-
-pub since_tries : (interrupted : DeviceCall) (a b c : List DeviceCall) (IsLast : DeviceCall → Type 0) → Since a b → Tries interrupted b c IsLast → Since a c
-since_tries interrupted a b c IsLast first t =
-    let parts = again_parts t.tries interrupted b in
-    record {
-      others = t.call ∷ (parts.0 ++ first.others);
-      noted = t.noted ∙ ap (λ cs. t.call ∷ cs) (parts.1 ∙ ap (λ cs. parts.0 ++ cs) first.noted ∙ sym (append_assoc parts.0 first.others a));
-    }
 
 pub ends_tries : (interrupted : DeviceCall) (a b c : List DeviceCall) (IsLast Is : DeviceCall → Type 0) → Since a b → Tries interrupted b c IsLast
     → ((call : DeviceCall) → IsLast call → Is call) → EndsWithCall Is a c

@@ -4,7 +4,7 @@ use Rattle.std.specs.Prelude.{◌≡◌, ◌⊎◌, ◌∷◌, ℕ, ◌+◌, ◌
 use Rattle.std.specs.Io.KnownBytes.{Consumes, IsAtEnd}
 use Rattle.line_config.specs.Buffer.{bytes_in, piece_in, room_in}
 use Rattle.line_config.specs.Feed.{Feed}
-use Rattle.line_config.specs.DeviceCalls.{DeviceCall, EndsWithCall, IsReadFailure, Moves, Tries, move_interrupted}
+use Rattle.line_config.specs.DeviceCalls.{DeviceCall, Moves, Tries, move_interrupted}
 use Rattle.line_config.specs.Foretold.{is_failed}
 use Rattle.line_config.specs.Recorded.{calls_of, took, inner_of}
 use Rattle.line_config.specs.declared.adapters.ReadSource.{ReadSource}
@@ -24,10 +24,6 @@ reader_of s = inner_of s.reader
 -- what was read and not given yet
 abbrev pub bytes_not_given : {R K : Type 0} → ReadSource R K → List ℕ
 bytes_not_given s = bytes_in s.unread
-
--- what its last read gave
-abbrev pub piece_of : {R K : Type 0} → ReadSource R K → List ℕ
-piece_of s = piece_in s.unread
 
 -- what its reads gave
 abbrev pub gave : {R K : Type 0} → ReadSource R K → List ℕ
@@ -102,7 +98,7 @@ pub record AsksReader {R K : Type 0} (remaining : R → Option (List ℕ)) (byte
   pub reader : Consumes (remaining (reader_of old)) (remaining (reader_of new)) more
   pub lazy : 0 < length (bytes_not_given old) → (more ≡ []) ×
       (reader_with_log new ≡ reader_with_log old)
-  pub once : 0 < length more → more ≡ piece_of new
+  pub once : 0 < length more → more ≡ piece_in new.unread
   pub end : end_met old ≡ None → end_met new ≡ Some End → IsAtEnd (remaining (reader_of new))
   pub stays : (last : Last) → end_met old ≡ Some last
       → (end_met new ≡ Some last) × (reader_with_log new ≡ reader_with_log old)

@@ -1,7 +1,6 @@
 -- A flush is repeated if it was interrupted, and only then.
-use Rattle.std.proofs.Common.{◌≡◌, ◌++◌, ◌^◌, ◌-◌, ◌∷◌, ap, ◌∙◌, refl, arith, sym}
-use Rattle.line_config.specs.DeviceCalls.{flushes, flush_interrupted}
-use Rattle.line_config.specs.Recorded.{calls_of, inner_of, took}
+use Rattle.std.proofs.Common.{◌≡◌, ◌^◌, ◌-◌, ◌∙◌, refl, arith}
+use Rattle.line_config.specs.DeviceCalls.{flush_interrupted}
 use Rattle.line_config.proofs.NotesLemmas.{notes_none, notes_same, notes_then}
 use Rattle.line_config.proofs.TryLemmas.{again_none, again_more, interrupted_flush, tries_out}
 use Rattle.line_config.proofs.retry.flush_retrying.Goals as goal

@@ -1,6 +1,6 @@
 -- What is said of the reader is kept by a read that gave bytes, or met the end or a failure. A source
 -- that fails by itself reads nothing.
-use Rattle.std.proofs.Common.{◌≡◌, ◌++◌, ◌-◌, ◌+◌, ◌^◌, ◌≤◌, ◌∙◌, ℕ, [], None, Some, length, refl, sym, ap, append-nil, lit<, arith}
+use Rattle.std.proofs.Common.{◌≡◌, ◌-◌, ◌+◌, ◌^◌, ◌≤◌, ◌∙◌, ℕ, [], None, Some, length, refl, sym, ap, append-nil, lit<, arith}
 use Rattle.std.specs.Io.KnownBytes.{Consumes}
 use Rattle.std.proofs.lemmas.List.{length-take, length-drop}
 use Rattle.std.proofs.lemmas.Grind.{common_steps}

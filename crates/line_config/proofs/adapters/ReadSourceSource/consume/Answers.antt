@@ -1,5 +1,5 @@
 -- Bytes that were read before are given.
-use Rattle.line_config.specs.Adapters.{gave, end_met, reader_of, bytes_not_given}
+use Rattle.line_config.specs.Adapters.{gave, reader_of, bytes_not_given}
 use Rattle.line_config.proofs.FeedLemmas.{gives_front}
 use Rattle.line_config.proofs.adapters.ReadSourceSource.consume.Goals as goal
 

@@ -1,5 +1,4 @@
 -- The flush comes last.
-use Rattle.line_config.specs.DeviceCalls.{IsFlush, IsWriteFailure}
 use Rattle.line_config.proofs.TryLemmas.{flush_ends, flush_fails}
 use Rattle.line_config.proofs.adapters.WriteSink.send.Goals as goal
 

@@ -16,7 +16,6 @@ use denote.Steps.{nothing}
 use denote.Triple.Walked.{Stays, walk_of, says, stay_dropped, Goes-spent_ref, ends_at}
 use Rattle.line_config.proofs.Lent.{follows_same}
 use Rattle.line_config.specs.contracts.config.Config.{the_row as R}
-use Rattle.line_config.proofs.Lent.{follows_same}
 use Rattle.line_config.specs.contracts.configurer.ConfigConfigurer.config_mut as f
 use Rattle.line_config.proofs.configurer.ConfigConfigurer.config_mut.Statement.{statement}
 use Rattle.line_config.proofs.configurer.ConfigConfigurer.config_mut.Code as code

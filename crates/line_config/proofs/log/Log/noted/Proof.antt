@@ -1,4 +1,4 @@
--- `since` makes a value of the bytes that its caller picks, and lets the reference go.
+-- `noted` makes a value of what its caller picks, and lets the reference go.
 use Rattle.std.proofs.Common.{List, [], ◌∷◌, ◌++◌, refl}
 use seplogic.Ra.Ura.{Ura}
 use mir.Syntax.{Fn, Args, a_type}
@@ -30,10 +30,10 @@ use denote.Triple.Table.{entered}
 use denote.Triple.Walked.{says, Stays, stay_dropped, walk_of, ends_at, walk_Meets, Goes-dropped}
 use Rattle.line_config.specs.declared.log.Log.{Log}
 use Rattle.line_config.specs.contracts.log.Log as T
-use Rattle.line_config.specs.contracts.log.Log.since as it
-use Rattle.line_config.specs.contracts.log.Log.since.Key.{name as #it}
-use Rattle.line_config.proofs.log.Log.since.Statement as stated
-use Rattle.line_config.proofs.log.Log.since.Code as code
+use Rattle.line_config.specs.contracts.log.Log.noted as it
+use Rattle.line_config.specs.contracts.log.Log.noted.Key.{name as #it}
+use Rattle.line_config.proofs.log.Log.noted.Statement as stated
+use Rattle.line_config.proofs.log.Log.noted.Code as code
 
 abbrev v : Val
 v = vstruct (vcons (vstruct vnil) vnil)
@@ -62,7 +62,7 @@ module _ (D : RattleType) where
       Post = (walk_of 𝓛 ended stayed held).post z
 
       abbrev made : Log
-      made = record { marker = record {}; bytes = z.1; calls = [] }
+      made = record { marker = record {}; bytes = z.1.0; calls = z.1.1 }
 
       walks : ent 𝓤 ((walk_of 𝓛 ended stayed held).pre z) (WpFn 𝓤 H C Λ function ((walk_of 𝓛 ended stayed held).args z) Post)
       walks =
@@ -85,9 +85,9 @@ module _ (D : RattleType) where
         walk_Meets 𝓛 ended stayed (Goes-dropped 𝓛 2 (RefOf (0 ∷ []) tt (plain (λ _. param 0 D)) (λ _. tt)) yes (λ κs x f. refl), tt) held
         (WpFn 𝓤 H 𝓣.C 𝓣.Λ function) (WpFn-mono 𝓤 H 𝓛.laws 𝓣 function) (walks 𝓣.C 𝓣.Λ)
 
-pub since_spec : {M : Type 1} → stated.statement M
+pub noted_spec : {M : Type 1} → stated.statement M
 unfolding tables_of
-since_spec 𝓤 𝓛 𝓜 𝓡 wired D LD =
+noted_spec 𝓤 𝓛 𝓜 𝓡 wired D LD =
     let 𝓣 : Tables 𝓤 𝓛.H = tables_of 𝓤 𝓛.H 𝓜 (tables 𝓤 𝓛.H 𝓜 𝓡 𝓡.env) in
     entered 𝓤 𝓛.H (triple_of 𝓛 (ended D).signature (closing 𝓛 (ended D) (held D 𝓛 𝓜.mem 𝓡.returns))) 𝓣.C 𝓣.Λ (#it (args D)) (function D)
     (code.unfolded 𝓤 𝓛.H 𝓜 𝓡 wired (D, tt)) (meets D 𝓛 𝓜.mem 𝓡.returns 𝓣)
