@@ -16,7 +16,7 @@ styles_to n spans = take n (span_styles spans ++ replicate n plain)
 
 -- ---- how far two drawings surely agree
 
--- as many spans of a line are compared, at the most
+-- at most so many spans of a line are compared
 abbrev pub most_spans : ℕ
 most_spans = 64
 

@@ -6,7 +6,7 @@ ghost use Rattle.line_editor.specs.SharedStyles.{first_spans, is_used, plain_res
 use line_help::{Highlighter, Mark, Part, Span, Style};
 use std::marker::Model;
 
-/// As many spans of a line are compared, at the most.
+/// At most so many spans of a line are compared.
 const MOST_SPANS: usize = 64;
 
 /// The first spans of a line. A line with fewer has plain ones after them, as many as are missing.
