@@ -3,13 +3,10 @@ use Rattle.std.proofs.Common.{◌≡◌, ℕ, ◌==◌, ◌<◌, ◌≤◌, nat_
 use Rattle.std.specs.Prelude.{chars, encode_utf8_all}
 use Rattle.std.specs.Str.{is_utf8, IsUtf8}
 use Rattle.std.proofs.Math.Seq.{take-append_seam}
-use Rattle.std.proofs.lemmas.Bool.{and_parts, eqb-true, eqb-false, leb-true, le-leb}
+use Rattle.std.proofs.lemmas.Bool.{and_parts, eqb-true, eqb-false, leb-true, le-leb, and_from}
 use Rattle.std.proofs.lemmas.List.{take-append-drop, take-take, drop-append-le, length-drop, length-take-le}
 use Rattle.std.proofs.lemmas.Str.{IsUtf8-from_is_utf8, is_utf8-from_IsUtf8, IsUtf8-take, IsUtf8-append, IsCharBoundary-at_seam, chars-append, encodes-chars}
 use Rattle.line_editor.specs.Characters.{starts_apart, begins_apart, begins_apart_at}
-
-both_true : (a b : Bool) → a ≡ true → b ≡ true → (a && b) ≡ true
-both_true a b h k = λ i. h i && k i
 
 -- only the first character counts
 starts_as : (front cs xs ys : List ℕ) → 0 < length cs → starts_apart front (cs ++ xs) ≡ starts_apart front (cs ++ ys)
@@ -90,9 +87,9 @@ module _ (kept from : ℕ) (text other : List ℕ) (low : kept ≤ from) (same :
   by_place true is = ap (begins_apart_at text) (eqb-true kept from is) ∙ first
   by_place false is =
       let less : kept < from = omega (arith, low, eqb-false kept from is) in
-      both_true (nat_le kept (length text)) (begins_apart (take kept text) (drop kept text)) (le-leb kept (length text) (omega (arith, low, inside)))
-      (both_true (is_utf8 (drop kept text)) (is_utf8 (take kept text) && starts_apart (take kept text) (chars (drop kept text))) utf8
-      (both_true (is_utf8 (take kept text)) (starts_apart (take kept text) (chars (drop kept text))) front_utf8 (starts less)))
+      and_from (nat_le kept (length text)) (begins_apart (take kept text) (drop kept text)) (le-leb kept (length text) (omega (arith, low, inside)))
+      (and_from (is_utf8 (drop kept text)) (is_utf8 (take kept text) && starts_apart (take kept text) (chars (drop kept text))) utf8
+      (and_from (is_utf8 (take kept text)) (starts_apart (take kept text) (chars (drop kept text))) front_utf8 (starts less)))
 
   -- no cluster lies over an earlier place of this text either
   pub apart_before : begins_apart_at text kept ≡ true

@@ -1,5 +1,5 @@
 -- What the helper's candidates make of a state.
-use Rattle.std.specs.Prelude.{get_or, Option, Some, Result, Ok, Err, IsErrAnd, IsFalse, IfOk, OnOk}
+use Rattle.std.specs.Prelude.{get_or, Some, Result, Ok, Err, IsErrAnd, IsFalse, IfOk, OnOk}
 use Rattle.std.proofs.Common.{◌≡◌, ℕ, ◌+◌, ◌<◌, List, [], ◌∷◌, ◌++◌, map, take, length, refl, sym, ap, ◌∙◌, subst}
 use Rattle.std.proofs.lemmas.List.{append_assoc, map_more, flat_map_more}
 use Rattle.line_config.specs.declared.errors.ReadlineError.{ReadlineError}

@@ -1,5 +1,6 @@
 -- The characters that stand apart: the narrow ones come before the others. And the last of a text.
 use Rattle.std.proofs.Common.{◌≡◌, ℕ, ◌<◌, ◌≤◌, ◌==◌, Bool, true, false, ◌&&◌, ◌||◌, if◌then◌else◌, List, [], ◌∷◌, ◌++◌, take, drop, length, Option, Some, None, refl, sym, ap, subst, ◌∙◌, arith, length-append, append-nil, slice_get}
+use Rattle.std.proofs.Math.Bool.{or-false}
 use Rattle.std.specs.Prelude.{IsTrue, ◌↔◌, IsUtf8, IsCharBoundary, chars, encode_utf8, encode_utf8_all, nat_le, nat_lt}
 use Rattle.std.specs.Char.{IsScalar}
 use Rattle.std.specs.Int.{is_in_range}
@@ -40,11 +41,7 @@ narrow_side c h = sym ((λ i. is_narrow c || ((out_below 0x3001 0x3029 c (omega 
     || (out_below 0x1F300 0x1F3FA c (omega (arith, h)) i
     || (out_below 0x1F400 0x1F64F c (omega (arith, h)) i
     || (out_below 0x1F680 0x1F6FF c (omega (arith, h)) i
-    || out_below 0x1F900 0x1F9FF c (omega (arith, h)) i))))) ∙ or_none (is_narrow c))
-  where
-    or_none : (b : Bool) → (b || false) ≡ b
-    or_none true = refl
-    or_none false = refl
+    || out_below 0x1F900 0x1F9FF c (omega (arith, h)) i))))) ∙ or-false (is_narrow c))
 
 pub other_side : (c : ℕ) → 0x3000 ≤ c → (is_wide c || is_pictograph c) ≡ is_apart c
 other_side c h = sym (λ i. ((printable_range c ∙ out_above 0x20 0x7E c (omega (arith, h))) i

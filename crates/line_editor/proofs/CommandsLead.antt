@@ -1,7 +1,7 @@
 -- Each command leads from its value to the next.
 use Rattle.std.proofs.Common.{◌≡◌, ℕ, ◌+◌, ◌-◌, ◌==◌, ◌≤◌, ◌||◌, arith, not, max, Bool, true, false, List, [], ◌∷◌, ◌++◌, length, Option, Some, None, is_some, slice_get, refl, sym, ap, ◌∙◌, subst, if◌then◌else◌}
 use Rattle.std.specs.Prelude.{⊤}
-use Rattle.std.proofs.lemmas.Bool.{eqb-true}
+use Rattle.std.proofs.lemmas.Bool.{eqb-true, cond-false, not-false}
 use Rattle.line_buffer.specs.Clusters.{place_forward}
 use Rattle.line_buffer.specs.Columns.{line_up, line_down}
 use Rattle.line_buffer.specs.Insertions.{no_insertion, insertion_of, can_take_before, yank as yanked_in}
@@ -27,7 +27,7 @@ use Rattle.line_help.specs.declared.history.search.SearchDirection.TheVariants.{
 use Rattle.line_help.specs.declared.helpers.validate.ValidationResult.{ValidationResult}
 use Rattle.line_help.specs.declared.helpers.validate.ValidationResult.TheVariants.{Incomplete, Invalid, Valid}
 use Rattle.line_keys.specs.Refreshing.Ask.{Line as LineAsked, Message, Prompted, DoingInsert, DoneInserting}
-use Rattle.line_keys.specs.declared.command.Cmd.TheVariants.{Abort, AcceptLine, BeginningOfHistory, CapitalizeWord, ClearScreen, Complete, CompleteBackward, CompleteHint, Dedent, DowncaseWord, EndOfFile, EndOfHistory, ForwardSearchHistory, HistorySearchBackward, HistorySearchForward, Indent, Insert, Interrupt, Kill, Move, NextHistory, Noop, Repaint, Overwrite, PreviousHistory, QuotedInsert, ReplaceChar, Replace, ReverseSearchHistory, SearchAgain, SelfInsert, Suspend, TransposeChars, TransposeWords, Undo, Unknown, UpcaseWord, ViYankTo, Yank, YankPop, LineUpOrPreviousHistory, LineDownOrNextHistory, Newline, AcceptOrInsertLine}
+use Rattle.line_keys.specs.declared.command.Cmd.TheVariants.{AcceptLine, BeginningOfHistory, CapitalizeWord, ClearScreen, Complete, CompleteHint, Dedent, DowncaseWord, EndOfFile, EndOfHistory, HistorySearchBackward, HistorySearchForward, Indent, Insert, Interrupt, Kill, Move, NextHistory, Repaint, Overwrite, PreviousHistory, ReplaceChar, Replace, SelfInsert, TransposeChars, TransposeWords, Undo, UpcaseWord, ViYankTo, Yank, YankPop, LineUpOrPreviousHistory, LineDownOrNextHistory, Newline, AcceptOrInsertLine}
 use Rattle.line_keys.specs.declared.command.CmdKind.{CmdKind}
 use Rattle.line_keys.specs.declared.command.CmdKind.TheVariants.{ForcedRefresh, Other}
 use Rattle.line_record.specs.Held.{has_step, closes}
@@ -52,14 +52,6 @@ use Rattle.line_editor.proofs.KnownLemmas.{Begins, yank_begins, pop_begins, over
 use Rattle.line_editor.proofs.LeadLemmas.{turns_both, info_both, both_lead, either, help_turns, Alike, alike_sight, or_none, asking_leads, edit_leads, back_leads, take_leads, redraw_leads, redrawn_leads, refresh_leads, refresh_since_leads, redraw_since_leads, refresh_since_if_leads, told_leads, rest_leads, beep_leads, clear_leads, refresh_if_leads, step_leads, motion_leads, none_if, insertion_leads, kill_leads, replace_leads}
 use Rattle.line_editor.proofs.RewrittenLeads.{chars_lead}
 
-not_none : (b : Bool) → not b ≡ false → b ≡ true
-not_none true h = refl
-not_none false h = cc
-
-if_none : {A : Type 0} (b : Bool) (x y : A) → b ≡ false → (if b then x else y) ≡ y
-if_none true x y h = cc
-if_none false x y h = refl
-
 found_none : (o : Option ℕ) (l : Line) → is_some o ≡ false → with_cursor_at o l ≡ l
 found_none None l h = refl
 found_none (Some place) l h = cc
@@ -78,7 +70,7 @@ not_anchored Before l h = refl
 yank_rests : (vi : Bool) (text : List ℕ) (n : ℕ) (v : Value) → is_some (yanked_in text n v.line).answer ≡ false → Alike v (value_after_yank vi text n v)
 yank_rests vi text n v h =
     let w = value_with_edit (by (yank_steps text n)) v in
-    let is : value_after_yank vi text n v ≡ w = if_none (is_some (yanked_in text n v.line).answer) (at_line (behind_yank vi w.line) w) w h in
+    let is : value_after_yank vi text n v ≡ w = cond-false (is_some (yanked_in text n v.line).answer) (at_line (behind_yank vi w.line) w) w h in
     subst (Alike v) (sym is) (no_yank text n v.line (length text == 0) h, refl, refl)
 
 -- the cursor may go back behind it
@@ -122,7 +114,7 @@ pop_leads (Some lent) s v = either s v (can_take_before lent.0 v.line) _ _ (λ e
 words_rest : (n : ℕ) (l : Line) → transposes_words n l ≡ false → (transpose_words_line n l).place ≡ l.place → transpose_words_line n l ≡ l
 unfolding after_words before_words
 words_rest n l h k =
-    let stays : transpose_words_line n l ≡ after_words 1 (first_word n l) = if_none (transposes_words n l) (swap_line (words_around n l) l) (after_words 1 (first_word n l)) h in
+    let stays : transpose_words_line n l ≡ after_words 1 (first_word n l) = cond-false (transposes_words n l) (swap_line (words_around n l) l) (after_words 1 (first_word n l)) h in
     stays ∙ ap (λ place. record l { place = place }) (sym (ap (λ (x : Line). x.place) stays) ∙ k)
 
 words_lead : (n : ℕ) (s : Setting) (v : Value) → Leads s v (transpose_words_effect n s v)
@@ -130,7 +122,7 @@ words_lead n s v =
     let w = value_with_edit (by (transpose_words_group n)) v in
     refresh_if_leads (transpose_words_group n) s v (transposes_words n v.line || not (w.line.place == v.line.place)) (λ e.
     let parts = or_none (transposes_words n v.line) _ e in
-    words_rest n v.line parts.0 (eqb-true w.line.place v.line.place (not_none _ parts.1)))
+    words_rest n v.line parts.0 (eqb-true w.line.place v.line.place (not-false _ parts.1)))
 
 recase_rests : (action : WordAction) (o : Option (ℕ × ℕ)) (l : Line) → is_some o ≡ false → recase_line action o l ≡ l
 recase_rests action None l h = refl
@@ -276,19 +268,16 @@ copy_leads movement s v = either s v (is_some (copied_range movement v.line)) _ 
 -- ---- the laws
 
 pub commands_lead : CommandsLead
-commands_lead m Abort s v = rest_leads s v v (refl, refl, refl)
 commands_lead m AcceptLine s v = accept_leads s v
 commands_lead m BeginningOfHistory s v = end_leads true s v
 commands_lead m CapitalizeWord s v = word_leads Capitalize s v
 commands_lead m ClearScreen s v = clear_leads s v
 commands_lead m Complete s v = complete_leads (completion_reply s v) s v
-commands_lead m CompleteBackward s v = rest_leads s v v (refl, refl, refl)
 commands_lead m CompleteHint s v = hint_leads v.hint s v
 commands_lead m (Dedent movement) s v = redraw_leads (indent_steps movement s.config.indent_size true) s v v
 commands_lead m DowncaseWord s v = word_leads Lowercase s v
 commands_lead m EndOfFile s v = bare_leads s v
 commands_lead m EndOfHistory s v = end_leads false s v
-commands_lead m ForwardSearchHistory s v = rest_leads s v v (refl, refl, refl)
 commands_lead m HistorySearchBackward s v = search_leads Reverse s v
 commands_lead m HistorySearchForward s v = search_leads Forward s v
 commands_lead m (Indent movement) s v = redraw_leads (indent_steps movement s.config.indent_size false) s v v
@@ -297,24 +286,18 @@ commands_lead m Interrupt s v = λ info. record { fits = (tt, tt); leads = refl 
 commands_lead m (Kill movement) s v = kill_leads movement s v
 commands_lead m (Move movement) s v = motion_leads movement s v
 commands_lead m NextHistory s v = step_back_leads false s v
-commands_lead m Noop s v = rest_leads s v v (refl, refl, refl)
 commands_lead m Repaint s v = refresh_leads s v v
 commands_lead m (Overwrite c) s v = refresh_since_if_leads (overwrite_steps c) s v (is_some (place_forward 1 v.line)) (over_rests c (place_forward 1 v.line) (line_and_record_of v))
     (over_begins c (place_forward 1 v.line) v.line.place (line_and_record_of v) (omega arith))
 commands_lead m PreviousHistory s v = step_back_leads true s v
-commands_lead m QuotedInsert s v = rest_leads s v v (refl, refl, refl)
 commands_lead m (ReplaceChar n c) s v = refresh_since_if_leads (replace_group_if_any c n) s v (is_some (place_forward n v.line))
-    (λ e. ap (λ (steps : WriteSteps Bool). (effect_of_edit steps (line_and_record_of v)).line) (if_none (is_some (place_forward n v.line)) (with_answer true (replace_group c n v.line)) (no_steps false) e))
+    (λ e. ap (λ (steps : WriteSteps Bool). (effect_of_edit steps (line_and_record_of v)).line) (cond-false (is_some (place_forward n v.line)) (with_answer true (replace_group c n v.line)) (no_steps false) e))
     (replaced_begins c n v.line.place (line_and_record_of v) (omega arith))
 commands_lead m (Replace movement text) s v = replace_leads movement text s v
-commands_lead m ReverseSearchHistory s v = rest_leads s v v (refl, refl, refl)
-commands_lead m (SearchAgain way) s v = rest_leads s v v (refl, refl, refl)
 commands_lead m (SelfInsert n c) s v = insertion_leads c n s v
-commands_lead m Suspend s v = rest_leads s v v (refl, refl, refl)
 commands_lead m TransposeChars s v = chars_lead s v
 commands_lead m (TransposeWords n) s v = words_lead n s v
 commands_lead m (Undo n) s v = undo_leads n s v
-commands_lead m Unknown s v = rest_leads s v v (refl, refl, refl)
 commands_lead m UpcaseWord s v = word_leads Uppercase s v
 commands_lead m (ViYankTo movement) s v = copy_leads movement s v
 commands_lead m (Yank n anchor) s v = lent_leads (in_vi_command m) anchor n (slice_get m.ring.slots m.ring.place) s v
@@ -323,6 +306,7 @@ commands_lead m (LineUpOrPreviousHistory n) s v = up_leads n s v
 commands_lead m (LineDownOrNextHistory n) s v = down_leads n s v
 commands_lead m Newline s v = newline_leads s v
 commands_lead m (AcceptOrInsertLine middle) s v = accept_or_insert_leads middle s v
+commands_lead m cmd s v = rest_leads s v v (refl, refl, refl)
 
 pub submitting_leads : SubmittingLeads
 submitting_leads s v info =

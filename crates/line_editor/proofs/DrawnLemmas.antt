@@ -1,5 +1,6 @@
 -- One redraw in place of another that asks the same.
 use Rattle.std.proofs.Common.{◌≡◌, ◌≢◌, ℕ, ◌≤◌, ◌==◌, ◌&&◌, nat_lt, Bool, List, take, drop, true, false, [], refl, sym, ap, subst, ◌∙◌, if◌then◌else◌, slice_range, length}
+use Rattle.std.proofs.Math.Bool.{and-false}
 use Rattle.std.specs.Prelude.{encode_utf8, not, Option, None, Some, is_some, option_map, Result, Ok, Err, OnOk, IsErrAnd, IsTrue}
 use Rattle.std.specs.List.{FoldsTo}
 use Rattle.std.proofs.lemmas.Bool.{and_parts, le-ltb}
@@ -73,16 +74,12 @@ room_for r l c columns is =
     let end = r.measure (encode_utf8 c) origin in
     room_by (not l.has_info) (end.row == 0) end.col l.end.col ∙ ap (λ o. room (not l.has_info) o l.end.col) (sym is)
 
-and_false : (b : Bool) → (b && false) ≡ false
-and_false true = refl
-and_false false = refl
-
 pub no_columns : (r : Ruler) (l : Layout) (c : ℕ) (columns : Option ℕ) → columns ≡ columns_are r c → columns ≡ None → may_erase r l c ≡ false
 no_columns r l c columns are is = room_for r l c columns are ∙ ap (λ o. room (not l.has_info) o l.end.col) is
 
 pub too_few_columns : (r : Ruler) (l : Layout) (c width : ℕ) (columns : Option ℕ) → columns ≡ columns_are r c → columns ≡ Some width → l.end.col ≤ width → may_erase r l c ≡ false
 too_few_columns r l c width columns are is low =
-    room_for r l c columns are ∙ ap (λ o. room (not l.has_info) o l.end.col) is ∙ ap (λ b. not l.has_info && b) (le-ltb width l.end.col low) ∙ and_false (not l.has_info)
+    room_for r l c columns are ∙ ap (λ o. room (not l.has_info) o l.end.col) is ∙ ap (λ b. not l.has_info && b) (le-ltb width l.end.col low) ∙ and-false (not l.has_info)
 
 pub told_after : (r : Ruler) (l : Layout) (c : ℕ) → l.has_info ≡ true → may_erase r l c ≡ false
 told_after r l c told = let end = r.measure (encode_utf8 c) origin in ap (λ b. not b && ((end.row == 0) && nat_lt end.col l.end.col)) told

@@ -1,6 +1,6 @@
 -- What a state makes of asking its helper.
 use Rattle.std.proofs.Common.{◌≡◌, ◌⊎◌, inl, inr, ℕ, Bool, true, false, true≢false, List, [], refl, sym, ap, subst, ◌∙◌, if◌then◌else◌, ◌&&◌}
-use Rattle.std.specs.Prelude.{Option, Some, None, is_some, option_map, Result, Ok, Err, IsErrAnd, IsTrue, IsFalse}
+use Rattle.std.specs.Prelude.{Option, Some, None, is_some, option_map, Result, Ok, Err, IsErrAnd, IsTrue}
 use Rattle.std.specs.List.{FoldsTo}
 use Rattle.line_buffer.specs.Line.{Line}
 use Rattle.line_config.specs.declared.errors.ReadlineError.{ReadlineError}
@@ -26,12 +26,12 @@ use Rattle.line_editor.specs.declared.way.Way.{Way}
 use Rattle.line_editor.specs.declared.way.Way.TheVariants.{Alone, Back, Whole}
 use Rattle.line_editor.specs.Redraws.Redraw.{Rewritten}
 use Rattle.line_editor.specs.Rewriting.{has_letters, show_rewritten_effect, refresh_over_effect}
-use Rattle.line_editor.specs.States.{hooks_of, value_of, setting_of, fails_by, IsHelpFault, error_of, reason_of, surface_of, Stays, Does}
-use Rattle.line_editor.specs.Values.{Value, Setting, Hooks, Effect, draw_effect, then_do, hint_reply, verdict_reply, help_steps, IsFailing, with_hint, with_mark, value_with_edit}
+use Rattle.line_editor.specs.States.{hooks_of, value_of, setting_of, IsHelpFault, error_of, reason_of, surface_of, Stays, Does}
+use Rattle.line_editor.specs.Values.{Value, Setting, Hooks, Effect, draw_effect, then_do, hint_reply, verdict_reply, help_steps, IsFailing, with_mark, value_with_edit}
 use Rattle.line_editor.specs.Values.EditStep.{Takes}
 use Rattle.line_editor.specs.declared.renderer as renderers
 use Rattle.line_editor.specs.declared.state.State.{State}
-use Rattle.line_editor.proofs.StopsLemmas.{help_made, help_layout, stops_asking, stops_after}
+use Rattle.line_editor.proofs.StopsLemmas.{stops_asking, stops_after}
 use Rattle.line_editor.proofs.DoesLemmas.{is_err, does_as, does_both, does_both_by, does_cut_by, does_refused, setting_stays, stays_same, stays_both}
 
 -- ---- a hook that fails at what it is shown fails at something
@@ -92,19 +92,6 @@ fault_told reply HookMemory why = why
 module _ {Out H Hi K T : Type 0} {renderer : renderers.Renderer.Ghosts Out} {completer : completions.Completer.Ghosts H K} {candidate : completions.Candidate.Ghosts K}
     {hinter : hints.Hinter.Ghosts H T} {hint : hints.Hint.Ghosts T} {highlighter : highlights.Highlighter.Ghosts H} {validator : verdicts.Validator.Ghosts H} {history : histories.History.Ghosts Hi} where
   -- ---- a hint
-
-  pub hint_made : {A : Type 0} (s t : State Out H Hi K T renderer completer candidate hinter hint highlighter validator history) (x : A)
-      → value_of t ≡ with_hint (setting_of s) (value_of s) → IsFalse (fails_by (hint_reply (setting_of s) (value_of s))) → t.out ≡ s.out → t.layout ≡ s.layout → Stays s t → Does hint_asked s t (Ok x)
-  hint_made s t x value works out layout stays =
-      let reply = hint_reply (setting_of s) (value_of s) in
-      record {
-        value = value;
-        calls = help_made renderer.canvas (renderer.canvas.ruler s.out) s.layout (value_of s) reply s.out t.out works out;
-        layout = layout ∙ sym (help_layout (renderer.canvas.ruler s.out) s.layout (value_of s) reply);
-        stays = stays;
-        reason = tt;
-        stops = tt;
-      }
 
   pub hint_refused : {A : Type 0} (s : State Out H Hi K T renderer completer candidate hinter hint highlighter validator history) (e : ReadlineError) (result : Result A ReadlineError)
       → IsErrAnd result (λ x. x ≡ e) → IsHelpFault (hint_reply (setting_of s) (value_of s)) e → Does hint_asked s s result
@@ -179,20 +166,6 @@ module _ {Out H Hi K T : Type 0} {renderer : renderers.Renderer.Ghosts Out} {com
         (ap (λ p. draw_effect_behind p true (setting_of m) (value_of m)) own ∙ ap (λ b. rewritten from upto b (setting_of m) (value_of m)) (sym is)) k)
 
   -- ---- a verdict
-
-  pub judging_made : {A : Type 0} (s t : State Out H Hi K T renderer completer candidate hinter hint highlighter validator history) (x : A)
-      → value_of t ≡ value_with_edit group_opened (value_of s) → IsFalse (fails_by (verdict_reply (setting_of s) (value_of s))) → t.out ≡ s.out → t.layout ≡ s.layout → Stays s t → Does group_and_verdict_effect s t (Ok x)
-  judging_made s t x value works out layout stays =
-      let reply = verdict_reply (setting_of s) (value_of s) in
-      let opened : Value = value_with_edit group_opened (value_of s) in
-      record {
-        value = value;
-        calls = help_made renderer.canvas (renderer.canvas.ruler s.out) s.layout opened reply s.out t.out works out;
-        layout = layout ∙ sym (help_layout (renderer.canvas.ruler s.out) s.layout opened reply);
-        stays = stays;
-        reason = tt;
-        stops = tt;
-      }
 
   pub judging_refused : {A : Type 0} (s t : State Out H Hi K T renderer completer candidate hinter hint highlighter validator history) (e : ReadlineError) (result : Result A ReadlineError)
       → IsErrAnd result (λ x. x ≡ e) → IsHelpFault (verdict_reply (setting_of s) (value_of s)) e → value_of t ≡ value_with_edit group_opened (value_of s) → surface_of t ≡ surface_of s → Stays s t → Does group_and_verdict_effect s t result

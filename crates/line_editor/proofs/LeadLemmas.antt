@@ -2,7 +2,7 @@
 use Rattle.std.proofs.Common.{◌≡◌, ℕ, ◌+◌, ◌-◌, ◌==◌, ◌||◌, ◌&&◌, not, ◌<◌, ◌≤◌, nat_le, nat_lt, Bool, true, false, List, [], ◌∷◌, ◌++◌, take, drop, length, length-append, take_all, Option, Some, None, IfSome, is_some, encode_utf8, refl, sym, ap, ◌∙◌, subst, append_assoc, append-nil, arith, if◌then◌else◌}
 use Rattle.std.specs.Prelude.{⊤, chars}
 use Rattle.std.specs.List.{list_all, last_or, insert_slice, replace_range}
-use Rattle.std.proofs.lemmas.Bool.{and_parts, eqb-true, leb-true, ltb-true}
+use Rattle.std.proofs.lemmas.Bool.{and_parts, eqb-true, leb-true, ltb-true, not-true}
 use Rattle.std.proofs.lemmas.List.{drop_all, take-append-drop, length-drop, length-take, length-take-le, take-take, drop-drop}
 use Rattle.std.proofs.lemmas.Str.{encode_ascii}
 use Rattle.unicode_segmentation.proofs.TextLemmas.{encode_utf8_nonempty}
@@ -21,7 +21,7 @@ use Rattle.line_buffer.specs.Words.{prev_word, next_word}
 use Rattle.line_buffer.specs.declared.range.TextSpan.{TextSpan}
 use Rattle.line_buffer.specs.declared.types.At.TheVariants.{Start}
 use Rattle.line_buffer.specs.declared.types.Movement.{Movement}
-use Rattle.line_buffer.specs.declared.types.Movement.TheVariants.{WholeLine, BeginningOfLine, EndOfLine, BackwardWord, ForwardWord, ViCharSearch, ViFirstPrint, BackwardChar, ForwardChar, LineUp, LineDown, WholeBuffer, BeginningOfBuffer, EndOfBuffer}
+use Rattle.line_buffer.specs.declared.types.Movement.TheVariants.{BeginningOfLine, EndOfLine, BackwardWord, ForwardWord, ViCharSearch, ViFirstPrint, BackwardChar, ForwardChar, LineUp, LineDown, BeginningOfBuffer, EndOfBuffer}
 use Rattle.line_buffer.specs.declared.types.Word.TheVariants.{Big}
 use Rattle.line_edits.specs.Edits.{by, char_steps, text_steps, kill_steps}
 use Rattle.line_edits.specs.WriteSteps.{with_answer, WriteSteps}
@@ -122,8 +122,8 @@ pub bare_styles : (s : Setting) (v w : Value) (info : Option (List ℕ)) → is_
 bare_styles s v w info a b =
     let first = and_parts (not (is_some v.hint)) (not v.marked) a in
     let later = and_parts (not (is_some w.hint)) (not w.marked) b in
-    let before = not_true v.marked first.1 in
-    let after = not_true w.marked later.1 in
+    let before = not-true v.marked first.1 in
+    let after = not-true w.marked later.1 in
     record {
       unstyled = ap (λ x. (drawn_spans (marks_seen x (not (is_some v.hint)) s.marks) true s.prompt v.line.text v.line.place (info_text info)).line) before
           ∙ unmarked_line s.marks (not (is_some v.hint)) s.prompt v.line.text v.line.place (info_text info);
@@ -131,13 +131,9 @@ bare_styles s v w info a b =
           ∙ unmarked_line s.marks (not (is_some w.hint)) s.prompt w.line.text w.line.place [];
       same_prompt = same_prompt s.marks w.marked (not (is_some w.hint)) v.marked (not (is_some v.hint)) s.prompt w.line.text v.line.text w.line.place v.line.place [] (info_text info);
       same = λ none.
-          sym (still_spans s v w [] before after (not_true (is_some w.hint) later.0 ∙ sym (not_true (is_some v.hint) first.0)))
+          sym (still_spans s v w [] before after (not-true (is_some w.hint) later.0 ∙ sym (not-true (is_some v.hint) first.0)))
           ∙ ap (λ o. drawn_spans (shown_marks v s.marks) true s.prompt v.line.text v.line.place (info_text o)) (sym none);
     }
-  where
-    not_true : (b : Bool) → not b ≡ true → b ≡ false
-    not_true true h = cc
-    not_true false h = refl
 
 pub or_none : (a b : Bool) → (a || b) ≡ false → (a ≡ false) × (b ≡ false)
 or_none true b h = cc
@@ -348,7 +344,6 @@ first_print_leads s v = either s v (begins_with_space v.line.text) (then_do move
     next v = found_leads (next_word Start Big 1 v.line) s v
 
 pub motion_leads : (m : Movement) (s : Setting) (v : Value) → Leads s v (move_by m s v)
-motion_leads WholeLine s v = rest_leads s v v (refl, refl, refl)
 motion_leads BeginningOfLine s v = place_leads MoveCursor (row_start v.line.text v.line.place) s v
 motion_leads EndOfLine s v = place_leads MoveCursor (row_end v.line.text v.line.place) s v
 motion_leads (BackwardWord n word) s v = found_leads (prev_word word n v.line) s v
@@ -359,9 +354,9 @@ motion_leads (BackwardChar n) s v = found_leads (place_backward n v.line) s v
 motion_leads (ForwardChar n) s v = found_leads (place_forward n v.line) s v
 motion_leads (LineUp n) s v = found_leads (line_up s.mode s.tabs s.column n v.line) s v
 motion_leads (LineDown n) s v = found_leads (line_down s.mode s.tabs s.column n v.line) s v
-motion_leads WholeBuffer s v = rest_leads s v v (refl, refl, refl)
 motion_leads BeginningOfBuffer s v = step_leads MoveCursor (not (v.line.place == 0)) (record v.line { place = 0 }) s v refl
 motion_leads EndOfBuffer s v = step_leads MoveCursor (not (v.line.place == length v.line.text)) (record v.line { place = length v.line.text }) s v refl
+motion_leads m s v = rest_leads s v v (refl, refl, refl)
 
 -- ---- a typed character
 
@@ -379,37 +374,24 @@ put_at_end text place added e =
 abbrev chosen : Bool → Bool → Bool → Bool → ℕ → Bool → Way
 chosen bare alone first second c back = if bare then (if alone then Alone else if first then AtEnd else if second then Inside else if back then Back c else Whole) else Whole
 
-alone_if : (bare alone first second : Bool) (c : ℕ) (back : Bool) → chosen bare alone first second c back ≡ Alone → (bare ≡ true) × (alone ≡ true)
-alone_if false alone first second c back h = cc
-alone_if true true first second c back h = (refl, refl)
-alone_if true false true second c back h = cc
-alone_if true false false true c back h = cc
-alone_if true false false false c true h = cc
-alone_if true false false false c false h = cc
+-- what it says of the tests
+abbrev Says : Bool → Bool → Bool → Bool → ℕ → Bool → Way → Type 0
+Says bare alone first second c back Alone = (bare ≡ true) × (alone ≡ true)
+Says bare alone first second c back AtEnd = (bare ≡ true) × (first ≡ true)
+Says bare alone first second c back Inside = (bare ≡ true) × (second ≡ true)
+Says bare alone first second c back (Back d) = (bare ≡ true) × (back ≡ true) × (c ≡ d)
+Says bare alone first second c back Whole = Unit {0}
 
-at_end_if : (bare alone first second : Bool) (c : ℕ) (back : Bool) → chosen bare alone first second c back ≡ AtEnd → (bare ≡ true) × (first ≡ true)
-at_end_if false alone first second c back h = cc
-at_end_if true true first second c back h = cc
-at_end_if true false true second c back h = (refl, refl)
-at_end_if true false false true c back h = cc
-at_end_if true false false false c true h = cc
-at_end_if true false false false c false h = cc
+chosen_says : (bare alone first second : Bool) (c : ℕ) (back : Bool) → Says bare alone first second c back (chosen bare alone first second c back)
+chosen_says false alone first second c back = tt
+chosen_says true true first second c back = (refl, refl)
+chosen_says true false true second c back = (refl, refl)
+chosen_says true false false true c back = (refl, refl)
+chosen_says true false false false c true = (refl, refl, refl)
+chosen_says true false false false c false = tt
 
-in_row_if : (bare alone first second : Bool) (c : ℕ) (back : Bool) → chosen bare alone first second c back ≡ Inside → (bare ≡ true) × (second ≡ true)
-in_row_if false alone first second c back h = cc
-in_row_if true true first second c back h = cc
-in_row_if true false true second c back h = cc
-in_row_if true false false true c back h = (refl, refl)
-in_row_if true false false false c true h = cc
-in_row_if true false false false c false h = cc
-
-back_if : (bare alone first second : Bool) (c : ℕ) (back : Bool) (d : ℕ) → chosen bare alone first second c back ≡ Back d → (bare ≡ true) × (back ≡ true) × (c ≡ d)
-back_if false alone first second c back d h = cc
-back_if true true first second c back d h = cc
-back_if true false true second c back d h = cc
-back_if true false false true c back d h = cc
-back_if true false false false c true d h = (refl, refl, cc)
-back_if true false false false c false d h = cc
+way_says : (bare alone first second : Bool) (c : ℕ) (back : Bool) (way : Way) → chosen bare alone first second c back ≡ way → Says bare alone first second c back way
+way_says bare alone first second c back way is = subst (Says bare alone first second c back) is (chosen_says bare alone first second c back)
 
 module _ (s : Setting) (c n : ℕ) (v w : Value) (put : (n == 1) ≡ true → w.line ≡ with_text_at_cursor (encode_utf8 c) v.line)
     (stays : v.line.place ≤ length v.line.text → Begins v.line.place v.line.text w.line.text) where
@@ -512,13 +494,13 @@ module _ (s : Setting) (c n : ℕ) (v w : Value) (put : (n == 1) ≡ true → w.
 
   put_by : (way : Way) → way_if_bare (insertion_way s c n v) w ≡ way → Leads s v (record { value = w; steps = Draws w s.marks (put_redraw way c (since s v.line.place v) s w) ∷ [] })
   put_by AtEnd is =
-      let parts = at_end_if (is_bare w) (may_be_appended s.config.partial_redraw c n v) (may_be_typed (is_some s.tabs) c n v) (may_be_put_in s.config.partial_redraw c n v) 0 false is in
+      let parts = way_says (is_bare w) (may_be_appended s.config.partial_redraw c n v) (may_be_typed (is_some s.tabs) c n v) (may_be_put_in s.config.partial_redraw c n v) 0 false AtEnd is in
       typed_leads parts.0 parts.1
   put_by Alone is =
-      let parts = alone_if (is_bare w) (may_be_appended s.config.partial_redraw c n v) (may_be_typed (is_some s.tabs) c n v) (may_be_put_in s.config.partial_redraw c n v) 0 false is in
+      let parts = way_says (is_bare w) (may_be_appended s.config.partial_redraw c n v) (may_be_typed (is_some s.tabs) c n v) (may_be_put_in s.config.partial_redraw c n v) 0 false Alone is in
       appended_leads parts.0 parts.1
   put_by Inside is =
-      let parts = in_row_if (is_bare w) (may_be_appended s.config.partial_redraw c n v) (may_be_typed (is_some s.tabs) c n v) (may_be_put_in s.config.partial_redraw c n v) 0 false is in
+      let parts = way_says (is_bare w) (may_be_appended s.config.partial_redraw c n v) (may_be_typed (is_some s.tabs) c n v) (may_be_put_in s.config.partial_redraw c n v) 0 false Inside is in
       put_in_leads parts.0 parts.1
   put_by (Back d) is = since_leads v.line.place s v w stays
   put_by Whole is = since_leads v.line.place s v w stays
@@ -691,10 +673,10 @@ module _ (s : Setting) (v w : Value) (from upto : ℕ) (text : w.line.text ≡ r
       → chosen (is_bare w) false (may_be_taken (drop (length w.line.text) v.line.text) v && at_plain_end w.line.text w.line.place) (may_be_taken_out s.config.partial_redraw (text_gone v.line w.line) v && is_cut_inside v.line w.line) c back ≡ way
       → (back ≡ true → (last_of_bare s.config.partial_redraw v ≡ Some c) × (is_erased c count w.line ≡ true)) → (is_plain v.line.text ≡ true → Low v.line.text from upto)
       → Leads s v (record { value = w; steps = Draws w s.marks (taken_redraw way count (since s w.line.place v) s w) ∷ [] })
-  taken_of AtEnd c back is last low = let parts = at_end_if (is_bare w) false _ _ c back is in taken_leads parts.0 parts.1 low
-  taken_of Inside c back is last low = let parts = in_row_if (is_bare w) false _ _ c back is in taken_out_leads parts.0 parts.1
+  taken_of AtEnd c back is last low = let parts = way_says (is_bare w) false _ _ c back AtEnd is in taken_leads parts.0 parts.1 low
+  taken_of Inside c back is last low = let parts = way_says (is_bare w) false _ _ c back Inside is in taken_out_leads parts.0 parts.1
   taken_of (Back d) c back is last low =
-      let parts = back_if (is_bare w) false _ _ c back d is in
+      let parts = way_says (is_bare w) false _ _ c back (Back d) is in
       let k = last parts.1 in
       erased_leads d parts.0 (k.0 ∙ ap Some parts.2) (ap (λ x. is_erased x count w.line) (sym parts.2) ∙ k.1)
   taken_of Alone c back is last low = left_leads

@@ -1,6 +1,7 @@
 pub mod AcceptLemmas
 pub mod ApartLemmas
 pub mod CharacterRanges
+pub mod CommandKeeps
 pub mod CommandsLead
 pub mod CompleteLemmas
 pub mod DoesLemmas
@@ -12,6 +13,7 @@ pub mod HelpedLemmas
 pub mod HintLemmas
 pub mod KillLemmas
 pub mod KnownLemmas
+pub mod MeetKeeps
 pub mod MeetLeads
 pub mod MeetLemmas
 pub mod LeadLemmas

@@ -24,13 +24,13 @@ use Rattle.line_editor.specs.History.{with_saved_line}
 use Rattle.line_editor.specs.Searching.{search_prompt, modal_with_query, modal_after_erase, search_for, modal_after_look, onward, hit_undo_effect, put_hit_effect, search_drawn, modal_with_char, looks, looks_typed, looks_again, modal_with_empty_query, empty_query_effect, place_effect, modal_at_search_start, begin_search, search_start_if, hit_again, search_again_meeting, act_of}
 use Rattle.line_editor.specs.Sights.{Sight, sight_with, sight_of, sight_all, FitsAll, info_after}
 use Rattle.line_editor.specs.Values.{Value, Setting, EditStep, then_do, hint_reply, help_steps, shown_hint, shown_marks, completion_reply, update_reply, edit_effect, close_groups}
-use Rattle.line_editor.specs.Values.EditStep.{Draws, Helped, Edits, TakesBack, Takes}
+use Rattle.line_editor.specs.Values.EditStep.{Draws, Edits, TakesBack, Takes}
 use Rattle.line_editor.specs.declared.modal_state.Act.{Act}
 use Rattle.line_editor.specs.declared.modal_state.Act.TheVariants.{Types, Erases, Goes, Leaves, Ends}
 use Rattle.line_editor.specs.declared.modal_state.Standing.{Standing}
 use Rattle.line_editor.specs.declared.modal_state.Standing.TheVariants.{Off, Rests, Prefixes, Searches, Tabbed, Lists, Cycles}
 use Rattle.line_editor.specs.declared.modal_state.Wish.{Wish}
-use Rattle.line_editor.specs.declared.modal_state.Wish.TheVariants.{Search, Up, Down, Tab, TabBack, Leave, Again, Other}
+use Rattle.line_editor.specs.declared.modal_state.Wish.TheVariants.{Search, Up, Down, Tab, TabBack, Leave, Again}
 use Rattle.line_editor.proofs.CommandsLead.{asks_lead}
 use Rattle.line_editor.proofs.LeadLemmas.{fits_both, sight_both, info_both, help_info}
 
@@ -44,22 +44,12 @@ hint_stands s v given prompt info =
 -- ---- what is to be seen if none stands
 
 pub seen_resting : (at : Standing) (x : Modal) (s : Setting) (v : Value) (info : Option (List ℕ)) → shows_own at ≡ true → sight_in_mode at x s v info ≡ sight_of s v info
-seen_resting Off x s v info h = refl
-seen_resting Rests x s v info h = refl
-seen_resting Prefixes x s v info h = refl
 seen_resting Searches x s v info h = cc
-seen_resting Tabbed x s v info h = refl
-seen_resting Lists x s v info h = refl
-seen_resting Cycles x s v info h = refl
+seen_resting at x s v info h = refl
 
 pub seen_info : (at : Standing) (x : Modal) (s : Setting) (v : Value) (info : Option (List ℕ)) → (sight_in_mode at x s v info).info ≡ info
-seen_info Off x s v info = refl
-seen_info Rests x s v info = refl
-seen_info Prefixes x s v info = refl
 seen_info Searches x s v info = refl
-seen_info Tabbed x s v info = refl
-seen_info Lists x s v info = refl
-seen_info Cycles x s v info = refl
+seen_info at x s v info = refl
 
 first_own : (on : Bool) → shows_own (first_standing on) ≡ true
 first_own true = refl
@@ -79,10 +69,7 @@ record Drawn (own : List ℕ) (info : Option (List ℕ)) (x : Sight) (steps : Li
 after_step : (step : EditStep) (own : List ℕ) (info : Option (List ℕ)) (x : Sight) (steps : List EditStep) (y : Sight) (shown : Option (List ℕ)) → redraws_of (step ∷ []) ≡ []
     → Drawn own info x steps y shown → Drawn own info x (step ∷ steps) y shown
 after_step (Draws v marks redraw) own info x steps y shown none h = cc
-after_step (Helped v fails takes) own info x steps y shown none h = record { fits = (tt, h.fits); leads = h.leads; info_is = h.info_is }
-after_step (Edits v edit) own info x steps y shown none h = record { fits = (tt, h.fits); leads = h.leads; info_is = h.info_is }
-after_step (TakesBack v count) own info x steps y shown none h = record { fits = (tt, h.fits); leads = h.leads; info_is = h.info_is }
-after_step (Takes v) own info x steps y shown none h = record { fits = (tt, h.fits); leads = h.leads; info_is = h.info_is }
+after_step step own info x steps y shown none h = record { fits = (tt, h.fits); leads = h.leads; info_is = h.info_is }
 
 behind_drawn : (prompt : List ℕ) (s : Setting) (v : Value) (info : Option (List ℕ)) (x : Sight) → (let e = refresh_effect_behind prompt s v in
     Drawn s.prompt info x e.steps (sight_with (shown_marks e.value s.marks) false prompt e.value.line.text e.value.line.place (shown_hint e.value)) (shown_hint e.value))
@@ -332,32 +319,18 @@ again_found_met (Some hit) q s v info x own from =
 resting_met : (wish : Wish) (q : Modal) (cmd : Cmd) (s : Setting) (v : Value) (info : Option (List ℕ)) (x : Sight) → shows_own q.standing ≡ true → x ≡ sight_of s v info → Met s info x (meeting_at_rest wish q cmd s v)
 resting_met (Search dir) q cmd s v info x own from = begun_met (length s.entries == 0) dir q cmd s v info x own from
 resting_met Up q cmd s v info x own from = rises_met (is_own s v && is_prefix v.line) q cmd s v info x own from
-resting_met Down q cmd s v info x own from = passes_met q cmd s v info x own from
 resting_met Tab q cmd s v info x own from = tab_met (completion_reply s v) q.lists_at_once q cmd s v info x own from
-resting_met TabBack q cmd s v info x own from = passes_met q cmd s v info x own from
-resting_met Leave q cmd s v info x own from = passes_met q cmd s v info x own from
 resting_met (Again way) q cmd s v info x own from = again_found_met (hit_again way q s v) q s v info x own from
-resting_met Other q cmd s v info x own from = passes_met q cmd s v info x own from
+resting_met wish q cmd s v info x own from = passes_met q cmd s v info x own from
 
 prefixes_met : (wish : Wish) (q : Modal) (cmd : Cmd) (s : Setting) (v : Value) (info : Option (List ℕ)) (x : Sight) → shows_own q.standing ≡ true → x ≡ sight_of s v info → Met s info x (meeting_in_prefixes wish q cmd s v)
 prefixes_met Up q cmd s v info x own from = risen_met (earlier s v) q s v info x own from
 prefixes_met Down q cmd s v info x own from = fallen_met (later s v) q s v info x own from
-prefixes_met (Search dir) q cmd s v info x own from = resting_met (Search dir) (modal_at_rest q) cmd s v info x refl from
-prefixes_met Tab q cmd s v info x own from = resting_met Tab (modal_at_rest q) cmd s v info x refl from
-prefixes_met TabBack q cmd s v info x own from = resting_met TabBack (modal_at_rest q) cmd s v info x refl from
-prefixes_met Leave q cmd s v info x own from = resting_met Leave (modal_at_rest q) cmd s v info x refl from
-prefixes_met (Again way) q cmd s v info x own from = resting_met (Again way) (modal_at_rest q) cmd s v info x refl from
-prefixes_met Other q cmd s v info x own from = resting_met Other (modal_at_rest q) cmd s v info x refl from
+prefixes_met wish q cmd s v info x own from = resting_met wish (modal_at_rest q) cmd s v info x refl from
 
 tabbed_met : (wish : Wish) (q : Modal) (cmd : Cmd) (s : Setting) (v : Value) (info : Option (List ℕ)) (x : Sight) → shows_own q.standing ≡ true → x ≡ sight_of s v info → Met s info x (meeting_after_tab wish q cmd s v)
 tabbed_met Tab q cmd s v info x own from = tab_met (completion_reply s v) true q cmd s v info x own from
-tabbed_met (Search dir) q cmd s v info x own from = resting_met (Search dir) (modal_at_rest q) cmd s v info x refl from
-tabbed_met Up q cmd s v info x own from = resting_met Up (modal_at_rest q) cmd s v info x refl from
-tabbed_met Down q cmd s v info x own from = resting_met Down (modal_at_rest q) cmd s v info x refl from
-tabbed_met TabBack q cmd s v info x own from = resting_met TabBack (modal_at_rest q) cmd s v info x refl from
-tabbed_met Leave q cmd s v info x own from = resting_met Leave (modal_at_rest q) cmd s v info x refl from
-tabbed_met (Again way) q cmd s v info x own from = resting_met (Again way) (modal_at_rest q) cmd s v info x refl from
-tabbed_met Other q cmd s v info x own from = resting_met Other (modal_at_rest q) cmd s v info x refl from
+tabbed_met wish q cmd s v info x own from = resting_met wish (modal_at_rest q) cmd s v info x refl from
 
 -- the line is drawn without the list, and then the command is met
 anew_met : (wish : Wish) (q : Modal) (cmd : Cmd) (s : Setting) (v : Value) (info : Option (List ℕ)) (x : Sight) → Met s info x (meeting_anew wish q cmd s v)
@@ -369,23 +342,13 @@ anew_met wish q cmd s v info x =
 
 lists_met : (wish : Wish) (q : Modal) (cmd : Cmd) (s : Setting) (v : Value) (info : Option (List ℕ)) (x : Sight) → shows_own q.standing ≡ true → x ≡ sight_of s v info → Met s info x (meeting_in_list wish q cmd s v)
 lists_met Tab q cmd s v info x own from = tab_met (completion_reply s v) true q cmd s v info x own from
-lists_met (Search dir) q cmd s v info x own from = anew_met (Search dir) q cmd s v info x
-lists_met Up q cmd s v info x own from = anew_met Up q cmd s v info x
-lists_met Down q cmd s v info x own from = anew_met Down q cmd s v info x
-lists_met TabBack q cmd s v info x own from = anew_met TabBack q cmd s v info x
-lists_met Leave q cmd s v info x own from = anew_met Leave q cmd s v info x
-lists_met (Again way) q cmd s v info x own from = anew_met (Again way) q cmd s v info x
-lists_met Other q cmd s v info x own from = anew_met Other q cmd s v info x
+lists_met wish q cmd s v info x own from = anew_met wish q cmd s v info x
 
 cycles_met : (wish : Wish) (q : Modal) (cmd : Cmd) (s : Setting) (v : Value) (info : Option (List ℕ)) (x : Sight) → shows_own q.standing ≡ true → x ≡ sight_of s v info → Met s info x (meeting_in_cycle wish q cmd s v)
 cycles_met Tab q cmd s v info x own from = cycle_met (completion_reply s v) Forward q cmd s v info x own from
 cycles_met TabBack q cmd s v info x own from = cycle_met (completion_reply s v) Reverse q cmd s v info x own from
 cycles_met Leave q cmd s v info x own from = own_met s info x (meeting_in_cycle Leave q cmd s v) _ (left_drawn q.put q.place s v info x) refl
-cycles_met (Search dir) q cmd s v info x own from = resting_met (Search dir) (modal_at_rest q) cmd s v info x refl from
-cycles_met Up q cmd s v info x own from = resting_met Up (modal_at_rest q) cmd s v info x refl from
-cycles_met Down q cmd s v info x own from = resting_met Down (modal_at_rest q) cmd s v info x refl from
-cycles_met (Again way) q cmd s v info x own from = resting_met (Again way) (modal_at_rest q) cmd s v info x refl from
-cycles_met Other q cmd s v info x own from = resting_met Other (modal_at_rest q) cmd s v info x refl from
+cycles_met wish q cmd s v info x own from = resting_met wish (modal_at_rest q) cmd s v info x refl from
 
 acted_met : (act : Act) (q : Modal) (cmd : Cmd) (s : Setting) (v : Value) (info : Option (List ℕ)) (x : Sight) → q.standing ≡ Searches → Met s info x (meeting_in_search act q cmd s v)
 acted_met (Types c) q cmd s v info x is =

@@ -21,7 +21,6 @@ use Rattle.line_editor.specs.ModalCommands.{meeting_in, meeting, meeting_effect,
 use Rattle.line_editor.specs.States.{value_of, setting_of, surface_of, Stays, Does}
 use Rattle.line_editor.specs.Turn.{MeetsBy}
 use Rattle.line_editor.specs.Values.{Value, Setting, Transition, memory_effect, then_do}
-use Rattle.line_editor.specs.declared.modal_state.Act.{Act}
 use Rattle.line_editor.specs.declared.modal_state.Act.TheVariants.{Erases}
 use Rattle.line_editor.specs.declared.modal_state.Next.TheVariants.{Nothing}
 use Rattle.line_editor.specs.declared.modal_state.Standing.TheVariants.{Searches}

@@ -1,5 +1,5 @@
 -- If nothing stands, a command that begins nothing is done as it comes.
-use Rattle.std.proofs.Common.{◌≡◌, ℕ, Bool, true, false, List, ◌∷◌, ◌++◌, refl, ap}
+use Rattle.std.proofs.Common.{◌≡◌, Bool, true, false, List, ◌∷◌, ◌++◌, refl, ap}
 use Rattle.script.specs.Played.{play_with_first_ask}
 use Rattle.script.specs.Scripts.{Ends, Asks}
 use Rattle.line_keys.specs.KeyFeeds.{item_at}
@@ -10,21 +10,18 @@ use Rattle.line_editor.specs.ModalCommands.{OffPasses, meeting_at_rest, meeting_
 use Rattle.line_editor.specs.Modal.{Modal, Meeting, pass_meeting, is_at_rest, first_standing, wish_of}
 use Rattle.line_editor.specs.Values.{Value, Setting}
 use Rattle.line_editor.specs.declared.modal_state.Standing.{Standing}
-use Rattle.line_editor.specs.declared.modal_state.Standing.TheVariants.{Off, Rests, Prefixes, Searches, Tabbed, Lists, Cycles}
+use Rattle.line_editor.specs.declared.modal_state.Standing.TheVariants.{Off, Rests}
 use Rattle.line_editor.specs.declared.modal_state.Wish.{Wish}
-use Rattle.line_editor.specs.declared.modal_state.Wish.TheVariants.{Search, Up, Down, Tab, TabBack, Leave, Again, Other}
+use Rattle.line_editor.specs.declared.modal_state.Wish.TheVariants.{Search, Up, Tab, Again}
 use Rattle.line_editor.proofs.ToldLemmas.{PlayedOf, played_each}
 
 -- whether a command may begin something if nothing stands
 abbrev pub begins : Wish → Bool
 begins (Search dir) = true
 begins Up = true
-begins Down = false
 begins Tab = true
-begins TabBack = false
-begins Leave = false
 begins (Again way) = true
-begins Other = false
+begins wish = false
 
 abbrev pub begins_modal : Cmd → Bool
 begins_modal cmd = begins (wish_of cmd)
@@ -32,21 +29,14 @@ begins_modal cmd = begins (wish_of cmd)
 past_by : (wish : Wish) (q : Modal) (cmd : Cmd) (s : Setting) (v : Value) → begins wish ≡ false → meeting_at_rest wish q cmd s v ≡ pass_meeting q cmd v
 past_by (Search dir) q cmd s v none = cc
 past_by Up q cmd s v none = cc
-past_by Down q cmd s v none = refl
 past_by Tab q cmd s v none = cc
-past_by TabBack q cmd s v none = refl
-past_by Leave q cmd s v none = refl
 past_by (Again way) q cmd s v none = cc
-past_by Other q cmd s v none = refl
+past_by wish q cmd s v none = refl
 
 goes_past : (at : Standing) (q : Modal) (cmd : Cmd) (s : Setting) (v : Value) → is_at_rest at ≡ true → begins_modal cmd ≡ false → meeting_in at q cmd s v ≡ pass_meeting q cmd v
 goes_past Off q cmd s v rests none = refl
 goes_past Rests q cmd s v rests none = past_by (wish_of cmd) q cmd s v none
-goes_past Prefixes q cmd s v rests none = cc
-goes_past Searches q cmd s v rests none = cc
-goes_past Tabbed q cmd s v rests none = cc
-goes_past Lists q cmd s v rests none = cc
-goes_past Cycles q cmd s v rests none = cc
+goes_past at q cmd s v rests none = cc
 
 pub off_passes : OffPasses
 off_passes q cmd s v is = ap (λ at. meeting_in at q cmd s v) is

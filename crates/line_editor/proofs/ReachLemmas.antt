@@ -25,10 +25,8 @@ on_reaches (Some g) c d place first text after earlier held r = r
 on_reaches None c d place first text after earlier held r = r
 
 step_reaches : (e : ChangeEvent) (c : Change) (first text after : List ℕ) (held : List HeldItem) → Reaches first held text → Reaches first (steps_with_change e c text held) after
-step_reaches e c first text after [] r = r
-step_reaches e c first text after (Opened earlier ∷ held) r = r
-step_reaches e c first text after (Stepped earlier place d false ∷ held) r = r
 step_reaches e c first text after (Stepped earlier place d true ∷ held) r = on_reaches (join_of e d) c d place first text after earlier held r
+step_reaches e c first text after held r = r
 
 told_reaches : (e : ChangeEvent) (o : Option Change) (first text : List ℕ) (held : List HeldItem) → change_of e ≡ o → Reaches first held text → Reaches first (steps_with_change_if e o text held) (text_after_event e text)
 told_reaches e (Some c) first text held is r = step_reaches e c first text (text_after_event e text) held r

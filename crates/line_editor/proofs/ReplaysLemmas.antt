@@ -1,8 +1,8 @@
 -- What words in other letters, and words exchanged, tell leads to the text that they leave.
-use Rattle.std.proofs.Common.{◌≡◌, ℕ, ◌+◌, ◌≤◌, ◌==◌, ◌&&◌, not, nat_le, Bool, true, false, List, [], ◌∷◌, length, Option, None, Some, refl, ap, ◌∙◌, arith, cond, if◌then◌else◌}
+use Rattle.std.proofs.Common.{◌≡◌, ℕ, ◌+◌, ◌≤◌, ◌==◌, not, nat_le, Bool, true, false, List, [], ◌∷◌, length, Option, None, Some, refl, ap, ◌∙◌, arith, cond, if◌then◌else◌}
 use Rattle.std.specs.Prelude.{IsUtf8, IsCharBoundary, IfSome, All, find, option_map, slice_range}
 use Rattle.std.specs.List.{replace_range}
-use Rattle.std.proofs.lemmas.Bool.{leb-true}
+use Rattle.std.proofs.lemmas.Bool.{leb-true, and_parts}
 use Rattle.line_buffer.proofs.CutLemmas.{length-replace_range}
 use Rattle.std.proofs.lemmas.List.Elements.{All-head, All-tail}
 use Rattle.std.proofs.lemmas.Str.{IsUtf8-drop, IsCharBoundary-from_rest}
@@ -63,10 +63,6 @@ swap_replays p l lies apart =
     ∙ ap (text_after_event (replacement p.first.0 p.first.1 second between)) (replayed_replacement l.text p.second.0 p.second.1 first lies.second lies.inside)
     ∙ replayed_replacement between p.first.0 p.first.1 second lies.first (omega (arith, long, lies.second, lies.inside, apart))
 
-both_right : (a b : Bool) → (a && b) ≡ true → b ≡ true
-both_right true b h = h
-both_right false b h = cc
-
 pub transpose_words_replays : (n : ℕ) (l : Line) → IsUtf8 l.text → IsCharBoundary l.text l.place → text_after_events (transpose_words_events n l) l.text ≡ (transpose_words_line n l).text
 unfolding after_words before_words
 transpose_words_replays n l u b = by_test (transposes_words n l) refl
@@ -74,7 +70,7 @@ transpose_words_replays n l u b = by_test (transposes_words n l) refl
     by_test : (t : Bool) → transposes_words n l ≡ t → text_after_events (if t then swap_events (words_around n l) l.text else []) l.text ≡ (if t then swap_line (words_around n l) l else after_words 1 (first_word n l)).text
     by_test true e =
         let p : WordPair = words_around n l in
-        swap_replays p l (words_lie n l u b) (leb-true p.first.1 p.second.0 (both_right (not (p.first.0 == p.second.0)) (nat_le p.first.1 p.second.0) e))
+        swap_replays p l (words_lie n l u b) (leb-true p.first.1 p.second.0 (and_parts (not (p.first.0 == p.second.0)) (nat_le p.first.1 p.second.0) e).1)
     by_test false e = replayed_all-none l.text
 
 -- ---- a word in other letters

@@ -2,7 +2,7 @@
 use Rattle.std.proofs.Common.{◌≡◌, ℕ, ◌+◌, ◌-◌, nat_le, Bool, true, false, ◌&&◌, List, [], ◌∷◌, ◌++◌, take, drop, length, refl, sym, ap, ◌∙◌, append_assoc, arith, if◌then◌else◌}
 use Rattle.std.specs.Prelude.{slice_range}
 use Rattle.std.specs.List.{list_all, replace_range}
-use Rattle.std.proofs.lemmas.Bool.{and_parts, leb-true}
+use Rattle.std.proofs.lemmas.Bool.{and_parts, leb-true, cond-false}
 use Rattle.std.proofs.lemmas.List.{take-append-drop, length-take-le}
 use Rattle.std.proofs.lemmas.List.Folds.{drop_split}
 use Rattle.unicode_segmentation.proofs.TextLemmas.{length-slice_range}
@@ -21,10 +21,6 @@ use Rattle.line_editor.specs.Values.{Value, Setting, no_effect, hint_reply, valu
 use Rattle.line_editor.specs.Values.EditStep.{Draws}
 use Rattle.line_editor.proofs.LeadLemmas.{either, bare_styles, edit_leads, help_leads, rest_leads, whole_leads}
 use Rattle.line_editor.proofs.TransposedLemmas.{exchanged}
-
-if_none : {A : Type 0} (b : Bool) (x y : A) → b ≡ false → (if b then x else y) ≡ y
-if_none true x y h = cc
-if_none false x y h = refl
 
 -- letters in a part of the text, replaced by as many
 module _ (s : Setting) (v w : Value) (from upto : ℕ) (letters : List ℕ) (text : w.line.text ≡ replace_range v.line.text from upto letters) (size : upto ≡ from + length letters)
@@ -101,4 +97,4 @@ chars_lead s v =
     edit_leads (with_answer tt (transpose_chars_group v.line)) s v v (refresh_over_if over (end - 2) end (transposes_chars v.line) s w)
     (either s v (transposes_chars v.line) (refresh_over_effect over (end - 2) end s w) (no_effect s w)
     (λ e. help_leads w (hint_reply s w) s v (show_rewritten_effect over (end - 2) end s (ask_anew_effect s w).value) (shown_leads s v (ask_anew_effect s w).value refl e))
-    (λ e. rest_leads s v w (if_none (transposes_chars v.line) _ v.line e, refl, refl)))
+    (λ e. rest_leads s v w (cond-false (transposes_chars v.line) _ v.line e, refl, refl)))

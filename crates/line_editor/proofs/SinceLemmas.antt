@@ -1,11 +1,12 @@
 -- The drawings from a place on, by what was noted before a change.
 use Rattle.std.proofs.Common.{◌≡◌, ℕ, ◌&&◌, Bool, true, false, not, is_some, List, [], Option, Some, None, refl, sym, ap, ◌∙◌, if◌then◌else◌}
-use Rattle.std.proofs.lemmas.Option.{same_Some}
+use Rattle.std.proofs.lemmas.Option.{cond_some}
 use Rattle.line_help.specs.declared.helpers.style.Style.{Style}
 use Rattle.line_editor.specs.Drawing.{Since, redraw_of, line_spans, kept_upto, may_begin_at, draw_effect_since, draw_effect_behind}
 use Rattle.line_editor.specs.Redraws.{Redraw}
 use Rattle.line_editor.specs.Redraws.Redraw.{DrawnFrom}
 use Rattle.line_editor.specs.RenderCalls.{Marks}
+use Rattle.line_editor.specs.SharedStyles.{noted_styles, told_styles}
 use Rattle.line_editor.specs.Sights.{drawn_spans}
 use Rattle.line_editor.specs.Values.{Value, Setting, draw_effect, marks_seen, shown_hint}
 
@@ -19,15 +20,14 @@ no_line_spans s v is =
     ap (λ x. (drawn_spans (marks_seen x (not (is_some v.hint)) s.marks) true s.prompt v.line.text v.line.place []).line) is
     ∙ unmarked_line s.marks (not (is_some v.hint)) s.prompt v.line.text v.line.place []
 
+pub unmarked_noted : (from : ℕ) (s : Setting) (v : Value) → v.marked ≡ false → noted_styles from None ≡ told_styles from (line_spans s v)
+unmarked_noted from s v is = ap (told_styles from) (sym (no_line_spans s v is))
+
 pub since_noted : (b c : Bool) (from : ℕ) (styles told : List Style) (found : Since) → b ≡ true → c ≡ true → found ≡ record { from = from; styles = styles } → styles ≡ told
     → Some found ≡ (if b && c then Some (record { from = from; styles = told }) else None)
 since_noted true true from styles told found h k made is = ap (λ (x : Since). Some x) made ∙ ap (λ xs. Some (record { from = from; styles = xs })) is
 since_noted true false from styles told found h k made is = cc
 since_noted false c from styles told found h k made is = cc
-
-place_is : (b : Bool) (kept from : ℕ) → Some from ≡ (if b then Some kept else None) → (b ≡ true) × (from ≡ kept)
-place_is true kept from h = (refl, same_Some from kept h)
-place_is false kept from h = cc
 
 no_place : (b : Bool) (kept : ℕ) → None ≡ (if b then Some kept else None) → b ≡ false
 no_place true kept h = cc
@@ -49,8 +49,8 @@ module _ (since : Option Since) (s : Setting) (v : Value) where
 
     pub drawn_noted : (from : ℕ) → Some from ≡ (if may_begin_at kept before v then Some kept else None) → draw_effect (drawn_at from) s v ≡ draw_effect_since since s v
     drawn_noted from place =
-        let found = place_is (may_begin_at kept before v) kept from place in
-        ap (λ k. draw_effect (drawn_at k) s v) found.1
+        let found = cond_some (may_begin_at kept before v) kept from (sym place) in
+        ap (λ k. draw_effect (drawn_at k) s v) (sym found.1)
         ∙ ap (λ b. draw_effect (by_test b) s v) (sym found.0)
         ∙ ap (λ o. draw_effect_since o s v) (sym is)
 

@@ -15,7 +15,7 @@ use Rattle.line_editor.specs.Redraws.{RedrawCalls}
 use Rattle.line_editor.specs.States.{reason_of}
 use Rattle.line_editor.specs.EditSteps.{calls_of_steps, Surface, CutHelp, CutStep, CutEditSteps}
 use Rattle.line_editor.specs.Values.{Value, Setting, EditStep}
-use Rattle.line_editor.specs.Values.EditStep.{Draws, Helped, Edits, TakesBack, Takes}
+use Rattle.line_editor.specs.Values.EditStep.{Draws, Helped}
 use Rattle.line_editor.proofs.StopsLemmas.{asked_both, folds_both}
 
 -- by the answer to a request, and by its error
@@ -183,9 +183,7 @@ module _ {R : Type 0} (canvas : Canvas R) (r : Ruler) where
   step_cause : (step : EditStep) (e : ReadlineError) (left : Value) (x y : Surface R) → CutStep canvas r x step e left y → reason_of true ⊤ e
   step_cause (Draws v marks redraw) e left x y h = caused_by e Display h.0 refl
   step_cause (Helped v fails takes) e left x y h = unhelped_cause fails takes e h.0
-  step_cause (Edits v edit) e left x y h = caused_by e Memory h.0 tt
-  step_cause (TakesBack v count) e left x y h = caused_by e Memory h.0 tt
-  step_cause (Takes v) e left x y h = caused_by e Memory h.0 tt
+  step_cause step e left x y h = caused_by e Memory h.0 tt
 
   steps_cause : (steps : List EditStep) (e : ReadlineError) (v : Value) (x y : Surface R) → CutEditSteps canvas r steps x e v y → reason_of true ⊤ e
   unfolding CutEditSteps

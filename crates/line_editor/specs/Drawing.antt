@@ -1,5 +1,5 @@
 -- The drawings of a value.
-use Rattle.std.specs.Prelude.{ℕ, ◌&&◌, ◌||◌, Bool, true, false, if◌then◌else◌, List, [], length, Option, None, Some, option_copied}
+use Rattle.std.specs.Prelude.{◌≡◌, ℕ, ◌&&◌, ◌||◌, Bool, true, false, if◌then◌else◌, List, [], Option, None, Some, option_copied}
 use Rattle.std.specs.Borrow.{Bor}
 use Rattle.line_help.specs.declared.helpers.style.Span.{Span}
 use Rattle.line_help.specs.declared.helpers.style.Style.{Style}
@@ -8,7 +8,7 @@ use Rattle.line_keys.specs.declared.command.CmdKind.TheVariants.{Other}
 use Rattle.line_editor.specs.Characters.{begins_apart_at}
 use Rattle.line_editor.specs.Redraws.{Redraw}
 use Rattle.line_editor.specs.Redraws.Redraw.{Drawn, DrawnFrom, Moved, ToEnd, Beeped, Cleared}
-use Rattle.line_editor.specs.SharedStyles.{told_styles, shared_styles, AreFirst}
+use Rattle.line_editor.specs.SharedStyles.{told_styles, noted_styles, shared_styles}
 use Rattle.line_editor.specs.Sights.{drawn_spans}
 use Rattle.line_editor.specs.Values.{Value, Setting, Transition, no_effect, then_do, draw_effect, shown_marks, hint_reply, help_steps, with_hint, without_hint, with_mark, shown_hint}
 
@@ -21,9 +21,10 @@ abbrev pub line_spans : Setting → Value → List Span
 line_spans s v =
     (drawn_spans (shown_marks v s.marks) true s.prompt v.line.text v.line.place []).line
 
--- whether these are noted of it
-abbrev pub AreNoted : Setting → Value → Option (Bor (List Span)) → Type 0
-AreNoted s v noted = AreFirst (length v.line.text) (line_spans s v) (option_copied noted)
+-- whether these are noted of it, for the styles before a place
+abbrev pub AreNoted : Setting → ℕ → Value → Option (Bor (List Span)) → Type 0
+AreNoted s from v noted =
+    noted_styles from (option_copied noted) ≡ told_styles from (line_spans s v)
 
 -- the place up to which a change leaves the line, and the styles of the bytes before it, as far as
 -- they are told

@@ -1,11 +1,11 @@
 -- The history: entries in place of the line, and the line that was saved for them.
 use Rattle.std.specs.Prelude.{ℕ, ◌+◌, ◌-◌, ◌==◌, Bool, true, false, if◌then◌else◌, List, [], ◌∷◌, take, length, Option, Some, None}
-use Rattle.line_edits.specs.Edits.{update_steps, update_group, by}
+use Rattle.line_edits.specs.Edits.{update_steps, update_group}
 use Rattle.line_help.specs.Search.{Hit, entry_at, search_hit}
 use Rattle.line_help.specs.declared.history.search.SearchDirection.{SearchDirection}
 use Rattle.line_help.specs.declared.history.search.SearchDirection.TheVariants.{Forward, Reverse}
 use Rattle.line_editor.specs.Drawing.{refresh_effect, beep_effect}
-use Rattle.line_editor.specs.Values.{Value, Setting, Transition, no_effect, then_do, value_with_edit, edit_effect}
+use Rattle.line_editor.specs.Values.{Value, Setting, Transition, no_effect, then_do, edit_effect}
 use Rattle.line_editor.specs.Values.EditStep.{Takes}
 
 -- the line saved, to come back to it
@@ -16,17 +16,11 @@ abbrev pub save_effect : Transition
 save_effect s v = record { value = with_saved_line v; steps = Takes v ∷ [] }
 
 -- the saved line restored
-abbrev pub value_from_saved : Value → Value
-value_from_saved v = value_with_edit (by (update_steps v.saved.text v.saved.place)) v
-
 abbrev pub restore_effect : Transition
 restore_effect s v = edit_effect (update_steps v.saved.text v.saved.place) s v
 
 abbrev pub at_place : ℕ → Value → Value
 at_place place v = record v { history = place }
-
-abbrev pub value_with_entry : List ℕ → ℕ → Value → Value
-value_with_entry entry place v = value_with_edit (by (update_group entry place)) v
 
 -- the line is saved when it leaves the history's end
 abbrev pub value_on_leaving : Setting → Value → Value

@@ -1,5 +1,5 @@
 -- The styles that the front of a line has in two drawings.
-use Rattle.std.specs.Prelude.{◌≡◌, ℕ, ◌==◌, nat_lt, Bool, false, if◌then◌else◌, List, [], ◌∷◌, ◌++◌, length, take, replicate, Option, Some, None, unwrap_or}
+use Rattle.std.specs.Prelude.{ℕ, ◌==◌, Bool, false, List, [], ◌∷◌, ◌++◌, take, replicate, Option, unwrap_or}
 use Rattle.std.specs.List.{common_prefix_len, flat_map}
 use Rattle.line_help.specs.Paints.{plain}
 use Rattle.line_help.specs.contracts.helpers.style.StylePartialEq.TheImpl as style_eq
@@ -16,15 +16,21 @@ styles_to n spans = take n (span_styles spans ++ replicate n plain)
 
 -- ---- how far two drawings surely agree
 
--- as many spans of a line are compared, at the most
+-- at most so many spans of a line are compared
 abbrev pub most_spans : ℕ
 most_spans = 64
 
+-- the plain bytes after a line's last span, for the styles of its first `n` bytes
+abbrev pub plain_rest : ℕ → Span
+plain_rest n = record { len = n; style = plain }
+
 -- the styles of the bytes before a place, as far as the spans that are compared tell them
 abbrev pub told_styles : ℕ → List Span → List Style
-told_styles n spans =
-    if nat_lt (length spans) most_spans then styles_to n spans
-    else take n (span_styles (take most_spans spans))
+told_styles n spans = take n (span_styles (take most_spans (spans ++ plain_rest n ∷ [])))
+
+-- the same by what is noted of a line: spans, or nothing if it has no styles
+abbrev pub noted_styles : ℕ → Option (List Span) → List Style
+noted_styles n noted = take n (span_styles (unwrap_or noted (plain_rest n ∷ [])))
 
 abbrev pub same_style : Style → Style → Bool
 same_style = (style_eq.ghosts).eq
@@ -33,28 +39,7 @@ same_style = (style_eq.ghosts).eq
 abbrev pub shared_styles : List Style → List Style → ℕ
 shared_styles old new = common_prefix_len same_style old new
 
--- ---- the spans that are compared, for the styles of the first `n` bytes
-
--- what stands after a line's last span
-abbrev pub plain_rest : ℕ → Span
-plain_rest n = record { len = n; style = plain }
-
--- an array of them
-abbrev pub first_spans : ℕ → List Span → List Span
-first_spans n spans = take most_spans (spans ++ replicate most_spans (plain_rest n))
-
--- none for a line without spans
-abbrev pub AreFirst : ℕ → List Span → Option (List Span) → Type 0
-AreFirst n spans None = spans ≡ []
-AreFirst n spans (Some first) = first ≡ first_spans n spans
-
-abbrev pub spans_told : ℕ → Option (List Span) → List Span
-spans_told n first = unwrap_or first (plain_rest n ∷ [])
-
 -- whether so many bytes are all of the first span
 abbrev pub is_used : ℕ → List Span → Bool
 is_used used [] = false
 is_used used (s ∷ rest) = used == s.len
-
-abbrev pub styles_in : ℕ → Option (List Span) → List Style
-styles_in n first = take n (span_styles (spans_told n first))

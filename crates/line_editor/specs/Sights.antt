@@ -245,16 +245,12 @@ pub record Turns (own : List ℕ) (x : Sight) (rs : List EditStep) (y : Sight) :
 
 abbrev pub info_drawn : Option (List ℕ) → Redraw → Option (List ℕ)
 info_drawn info (Drawn prompt given text place new) = new
-info_drawn info (Typed prompt c text place) = None
-info_drawn info (Appended prompt c text place) = None
-info_drawn info (Taken prompt count partial text place) = None
-info_drawn info (Erased prompt c text place) = None
-info_drawn info (PutIn prompt c text place) = None
-info_drawn info (TakenOut prompt count text place) = None
 info_drawn info (DrawnFrom prompt from text place new) = new
-info_drawn info (Rewritten prompt from upto text place) = None
-info_drawn info Cleared = None
-info_drawn info redraw = info
+info_drawn info (Moved text place) = info
+info_drawn info ToEnd = info
+info_drawn info Beeped = info
+info_drawn info (Bared prompt text place) = info
+info_drawn info redraw = None
 
 abbrev pub info_one : Option (List ℕ) → EditStep → Option (List ℕ)
 info_one info (Draws v marks redraw) = info_drawn info redraw

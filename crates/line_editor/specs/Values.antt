@@ -1,5 +1,5 @@
 -- The editor's value, what is passed in for a line, and the effect of an edit.
-use Rattle.std.specs.Prelude.{◌⊎◌, ⊤, ℕ, Bool, true, false, List, [], ◌∷◌, ◌++◌, Option, Some, None, is_some, not, length, ◌==◌, if◌then◌else◌, option_map, IsTrue, IsSomeAnd}
+use Rattle.std.specs.Prelude.{◌⊎◌, ⊤, ℕ, Bool, true, false, List, [], ◌∷◌, ◌++◌, Option, Some, None, is_some, not, length, ◌==◌, if◌then◌else◌, option_map, IsTrue, IsSomeAnd, unwrap_or}
 use Rattle.line_buffer.specs.Line.{Line}
 use Rattle.line_buffer.specs.declared.layout.GraphemeClusterMode.{GraphemeClusterMode}
 use Rattle.line_buffer.specs.declared.layout.TabStops.{TabStops}
@@ -210,13 +210,9 @@ abbrev pub some_hint : Option Hinted → Option Hinted
 some_hint None = None
 some_hint (Some h) = if length h.display == 0 then None else Some h
 
-abbrev pub hint_given : Option (Option Hinted) → Option Hinted
-hint_given None = None
-hint_given (Some hint) = some_hint hint
-
 abbrev pub hint_by : Option (Reply (Option Hinted)) → Option Hinted
 hint_by None = None
-hint_by (Some reply) = hint_given reply.answer
+hint_by (Some reply) = some_hint (unwrap_or reply.answer None)
 
 -- a new hint
 abbrev pub with_hint : Setting → Value → Value

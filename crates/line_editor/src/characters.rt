@@ -67,7 +67,7 @@ pub fn is_apart(c: char) -> bool
 }
 
 /// The character itself, which is a Unicode scalar value.
-fn as_scalar(c: char) -> char
+pub(crate) fn as_scalar(c: char) -> char
     ensures value { result ≡ c }
     ensures scalar { IsScalar c }
 {

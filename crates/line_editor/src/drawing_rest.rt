@@ -9,19 +9,20 @@ use crate::state::State;
 use line_config::ReadlineError;
 use line_help::{Helper, History, Part};
 
-#[tactic(auto, using(crate::proofs::StopsLemmas::drawings_stop))]
+#[tactic(auto, using(crate::proofs::StopsLemmas::drawings_stop, crate::proofs::SinceLemmas::unmarked_noted))]
 impl<'p, 'h, Out: Renderer, H: Helper + Drop, Hi: History> State<'p, 'h, Out, H, Hi> {
     ghost use Rattle.line_editor.specs.States.{value_of, setting_of, Does, Renders};
     ghost use Rattle.line_editor.specs.Drawing.{AreNoted, kept_upto, line_spans, may_begin_at, since, draw_effect_since, refresh_effect_since};
     ghost use Rattle.line_editor.specs.Redraws.Redraw.{DrawnFrom};
-    ghost use Rattle.line_editor.specs.SharedStyles.{AreFirst};
+    ghost use Rattle.line_editor.specs.SharedStyles.{noted_styles, told_styles};
     ghost use Rattle.line_editor.specs.Values.{draw_effect, shown_hint};
 
     /// The first spans of the line, for the styles of so many of its bytes, if it is drawn with
     /// styles.
     #[inline(never)]
     pub(crate) fn line_spans(&self, upto: usize) -> Option<FirstSpans>
-        ensures { AreFirst upto (line_spans (setting_of self.now) (value_of self.now)) result }
+        ensures { noted_styles upto result
+            ≡ told_styles upto (line_spans (setting_of self.now) (value_of self.now)) }
     {
         if !self.highlight_char {
             return None;
@@ -41,7 +42,7 @@ impl<'p, 'h, Out: Renderer, H: Helper + Drop, Hi: History> State<'p, 'h, Out, H,
     /// The place up to which a change is to leave the line, with the line's styles up to there, if
     /// the line may be drawn from there on, and in part.
     pub(crate) fn since<'s>(&self, from: usize, noted: Option<&'s FirstSpans>) -> Option<Since<'s>>
-        requires noted { AreNoted (setting_of self.now) (value_of self.now) noted }
+        requires noted { AreNoted (setting_of self.now) from (value_of self.now) noted }
         ensures { result ≡ since (setting_of self.now) from (value_of self.now) }
     {
         if self.config.partial_redraw() && begins_apart_at(self.recorded.line.as_str(), from) {

@@ -13,7 +13,7 @@ use line_buffer::{RepeatCount, is_printable, is_printable_text, is_simple};
 use line_config::ReadlineError;
 use line_help::{Helper, History};
 
-#[tactic(auto, using(crate::proofs::StopsLemmas::edits_stop))]
+#[tactic(auto, using(crate::proofs::StopsLemmas::edits_stop, crate::proofs::SinceLemmas::unmarked_noted))]
 impl<'p, 'h, Out: Renderer, H: Helper + Drop, Hi: History> State<'p, 'h, Out, H, Hi> {
     ghost use Rattle.line_editor.specs.States.{value_of, setting_of, Does};
     ghost use Rattle.line_editor.specs.Drawing.{AreNoted};
@@ -152,7 +152,7 @@ impl<'p, 'h, Out: Renderer, H: Helper + Drop, Hi: History> State<'p, 'h, Out, H,
     fn insert_in_styles(&mut self, ch: char, n: RepeatCount) -> Result<(), ReadlineError>
         ensures does { Does (insert_char ch n) self.old self.new result }
     {
-        let noted = self.line_spans(self.recorded.line.len());
+        let noted = self.line_spans(self.recorded.line.pos());
         self.insert_noted(ch, n, noted.as_ref())
     }
 
@@ -164,7 +164,8 @@ impl<'p, 'h, Out: Renderer, H: Helper + Drop, Hi: History> State<'p, 'h, Out, H,
         n: RepeatCount,
         noted: Option<&FirstSpans>,
     ) -> Result<(), ReadlineError>
-        requires noted { AreNoted (setting_of self.old) (value_of self.old) noted }
+        requires noted { AreNoted (setting_of self.old) self.old.recorded.line.place
+            (value_of self.old) noted }
         ensures does { Does (insert_char ch n) self.old self.new result }
     {
         let way = self.insertion_way(ch, n);
@@ -196,7 +197,7 @@ impl<'p, 'h, Out: Renderer, H: Helper + Drop, Hi: History> State<'p, 'h, Out, H,
     fn insert_text_in_styles(&mut self, text: &str) -> Result<(), ReadlineError>
         ensures does { Does (insert_text text.now) self.old self.new result }
     {
-        let noted = self.line_spans(self.recorded.line.len());
+        let noted = self.line_spans(self.recorded.line.pos());
         self.insert_text_noted(text, noted.as_ref())
     }
 
@@ -207,7 +208,8 @@ impl<'p, 'h, Out: Renderer, H: Helper + Drop, Hi: History> State<'p, 'h, Out, H,
         text: &str,
         noted: Option<&FirstSpans>,
     ) -> Result<(), ReadlineError>
-        requires noted { AreNoted (setting_of self.old) (value_of self.old) noted }
+        requires noted { AreNoted (setting_of self.old) self.old.recorded.line.place
+            (value_of self.old) noted }
         ensures does { Does (insert_text text.now) self.old self.new result }
     {
         if text.is_empty() {
@@ -238,7 +240,7 @@ impl<'p, 'h, Out: Renderer, H: Helper + Drop, Hi: History> State<'p, 'h, Out, H,
     fn replace_char_in_styles(&mut self, ch: char, n: RepeatCount) -> Result<(), ReadlineError>
         ensures does { Does (replace_char ch n) self.old self.new result }
     {
-        let noted = self.line_spans(self.recorded.line.len());
+        let noted = self.line_spans(self.recorded.line.pos());
         self.replace_char_noted(ch, n, noted.as_ref())
     }
 
@@ -250,7 +252,8 @@ impl<'p, 'h, Out: Renderer, H: Helper + Drop, Hi: History> State<'p, 'h, Out, H,
         n: RepeatCount,
         noted: Option<&FirstSpans>,
     ) -> Result<(), ReadlineError>
-        requires noted { AreNoted (setting_of self.old) (value_of self.old) noted }
+        requires noted { AreNoted (setting_of self.old) self.old.recorded.line.place
+            (value_of self.old) noted }
         ensures does { Does (replace_char ch n) self.old self.new result }
     {
         let pos = self.recorded.line.pos();
@@ -282,7 +285,7 @@ impl<'p, 'h, Out: Renderer, H: Helper + Drop, Hi: History> State<'p, 'h, Out, H,
     fn overwrite_char_in_styles(&mut self, ch: char) -> Result<(), ReadlineError>
         ensures does { Does (overwrite_char ch) self.old self.new result }
     {
-        let noted = self.line_spans(self.recorded.line.len());
+        let noted = self.line_spans(self.recorded.line.pos());
         self.overwrite_char_noted(ch, noted.as_ref())
     }
 
@@ -293,7 +296,8 @@ impl<'p, 'h, Out: Renderer, H: Helper + Drop, Hi: History> State<'p, 'h, Out, H,
         ch: char,
         noted: Option<&FirstSpans>,
     ) -> Result<(), ReadlineError>
-        requires noted { AreNoted (setting_of self.old) (value_of self.old) noted }
+        requires noted { AreNoted (setting_of self.old) self.old.recorded.line.place
+            (value_of self.old) noted }
         ensures does { Does (overwrite_char ch) self.old self.new result }
     {
         let pos = self.recorded.line.pos();

@@ -1,6 +1,6 @@
 //! Kills texts, and copies texts into the ring.
 ghost use Rattle.std.specs.Prelude.{◌≡◌, ◌&&◌, ◌⊎◌, if◌then◌else◌, nat_lt, OnOk, IfErr, IfSome, length, drop, is_some, IsTrue};
-ghost use Rattle.line_buffer.specs.Range.{IsSpanOf, copied_range, deletion_line};
+ghost use Rattle.line_buffer.specs.Range.{FindsSpan, IsSpanOf, copied_range, deletion_line, range_of};
 ghost use Rattle.line_config.specs.declared.errors.ReadlineError.{ReadlineError};
 ghost use Rattle.line_edits.specs.Edits.{ring_without_kill};
 ghost use Rattle.line_buffer.specs.Printable.{at_plain_end, is_printable};
@@ -19,10 +19,10 @@ use line_help::{Helper, History};
 use line_keys::Text;
 use line_record::KillRing;
 
-#[tactic(auto, using(crate::proofs::StopsLemmas::edits_stop))]
+#[tactic(auto, using(crate::proofs::StopsLemmas::edits_stop, crate::proofs::SinceLemmas::unmarked_noted))]
 impl<'p, 'h, Out: Renderer, H: Helper + Drop, Hi: History> State<'p, 'h, Out, H, Hi> {
     ghost use Rattle.line_editor.specs.States.{value_of, setting_of, Does, Stays};
-    ghost use Rattle.line_editor.specs.Drawing.{AreNoted, since};
+    ghost use Rattle.line_editor.specs.Drawing.{AreNoted};
     ghost use Rattle.line_editor.specs.Inserting.{has_printable_rest};
     ghost use Rattle.line_editor.specs.Killing.{may_be_taken, may_be_taken_out, text_gone, last_of_bare, way_erased, show_killed_effect, kill_way, kill_effect, insert_text_if, replace, ring_with_kill_of, ring_with_copy};
 
@@ -111,20 +111,13 @@ impl<'p, 'h, Out: Renderer, H: Helper + Drop, Hi: History> State<'p, 'h, Out, H,
         }
     }
 
-    /// The place at which a kill of a range leaves the cursor, if the line may be drawn from there
-    /// on, and in part.
-    fn since_kill<'s>(
-        &self,
-        span: Option<TextSpan>,
-        noted: Option<&'s FirstSpans>,
-    ) -> Option<Since<'s>>
-        requires noted { AreNoted (setting_of self.now) (value_of self.now) noted }
-        ensures { result ≡ since (setting_of self.now)
-            (deletion_line span self.now.recorded.line).place (value_of self.now) }
+    /// The place at which a kill of a range leaves the cursor.
+    fn place_of_kill(&self, span: Option<TextSpan>) -> usize
+        ensures { result ≡ (deletion_line span self.now.recorded.line).place }
     {
         match span {
-            Some(span) => self.since(span.from, noted),
-            None => self.since(self.recorded.line.pos(), noted),
+            Some(span) => span.from,
+            None => self.recorded.line.pos(),
         }
     }
 
@@ -165,10 +158,11 @@ impl<'p, 'h, Out: Renderer, H: Helper + Drop, Hi: History> State<'p, 'h, Out, H,
             (λ e. (ring.new ≡ ring_with_kill_of movement.now (value_of self.old) ring.old)
             ⊎ ((e ≡ ReadlineError.Memory) × (ring.new ≡ ring_without_kill movement.now ring.old))) }
     {
+        let span = self.recorded.line.range_of(movement);
         if self.highlight_char {
-            return self.kill_in_styles(movement, ring);
+            return self.kill_in_styles(movement, span, ring);
         }
-        self.kill_noted(movement, ring, None)
+        self.kill_noted(movement, span, ring, None)
     }
 
     /// The same in a line with styles, whose first spans are noted. Not inlined, so that other
@@ -177,8 +171,11 @@ impl<'p, 'h, Out: Renderer, H: Helper + Drop, Hi: History> State<'p, 'h, Out, H,
     fn kill_in_styles(
         &mut self,
         movement: &Movement,
+        span: Option<TextSpan>,
         ring: &mut KillRing,
     ) -> Result<(), ReadlineError>
+        requires span { let line = self.old.recorded.line in
+            FindsSpan (range_of movement.now line) line.text span }
         ensures does { Does (kill_effect movement.now) self.old self.new result }
         ensures ring { OnOk result
             (ring.new ≡ ring_with_kill_of movement.now (value_of self.old) ring.old) }
@@ -186,8 +183,8 @@ impl<'p, 'h, Out: Renderer, H: Helper + Drop, Hi: History> State<'p, 'h, Out, H,
             (λ e. (ring.new ≡ ring_with_kill_of movement.now (value_of self.old) ring.old)
             ⊎ ((e ≡ ReadlineError.Memory) × (ring.new ≡ ring_without_kill movement.now ring.old))) }
     {
-        let noted = self.line_spans(self.recorded.line.len());
-        self.kill_noted(movement, ring, noted.as_ref())
+        let noted = self.line_spans(self.place_of_kill(span));
+        self.kill_noted(movement, span, ring, noted.as_ref())
     }
 
     /// The same by the first spans of the line, if it has styles.
@@ -195,10 +192,14 @@ impl<'p, 'h, Out: Renderer, H: Helper + Drop, Hi: History> State<'p, 'h, Out, H,
     fn kill_noted(
         &mut self,
         movement: &Movement,
+        span: Option<TextSpan>,
         ring: &mut KillRing,
         noted: Option<&FirstSpans>,
     ) -> Result<(), ReadlineError>
-        requires noted { AreNoted (setting_of self.old) (value_of self.old) noted }
+        requires span { let line = self.old.recorded.line in
+            FindsSpan (range_of movement.now line) line.text span }
+        requires noted { let line = deletion_line span self.old.recorded.line in
+            AreNoted (setting_of self.old) line.place (value_of self.old) noted }
         ensures does { Does (kill_effect movement.now) self.old self.new result }
         ensures ring { OnOk result
             (ring.new ≡ ring_with_kill_of movement.now (value_of self.old) ring.old) }
@@ -206,11 +207,10 @@ impl<'p, 'h, Out: Renderer, H: Helper + Drop, Hi: History> State<'p, 'h, Out, H,
             (λ e. (ring.new ≡ ring_with_kill_of movement.now (value_of self.old) ring.old)
             ⊎ ((e ≡ ReadlineError.Memory) × (ring.new ≡ ring_without_kill movement.now ring.old))) }
     {
-        let span = self.recorded.line.range_of(movement);
         let alone = self.may_be_taken(span);
         let inside = self.may_be_taken_out(span);
         let last = self.last_of_bare();
-        let since = self.since_kill(span, noted);
+        let since = self.since(self.place_of_kill(span), noted);
         let before = self.recorded.line.len();
         let known = self.known_before(movement);
         self.known = None;

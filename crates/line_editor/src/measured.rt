@@ -55,7 +55,7 @@ impl<'p, 'h, Out: Renderer, H: Helper + Drop, Hi: History> State<'p, 'h, Out, H,
         let cursor = self.out.position_from(text, start, known, pos, plain);
         let end = self
             .out
-            .position_from(text, start, known, text.len(), plain);
+            .position_from(text, start, (pos, cursor), text.len(), plain);
         let (end, has_info) = match display_of(&self.hint) {
             None => (self.out.calculate_position("", end), false),
             Some(info) => (self.out.calculate_position(info, end), true),

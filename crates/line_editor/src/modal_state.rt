@@ -1,12 +1,12 @@
 //! What stands between the commands of a line: a search of the history, candidates, or nothing.
 ghost use Rattle.std.specs.Prelude.{◌≡◌, ◌++◌, encode_utf8, IfErr, OnErr, OnOk, string_bytes};
-ghost use Rattle.std.specs.Char.{IsScalar};
 ghost use Rattle.line_config.specs.Refusals.{OrMemory};
 ghost use Rattle.line_config.specs.declared.errors.ReadlineError.TheVariants.{Memory};
 ghost use Rattle.line_editor.specs.Candidates.{cycle_at};
 ghost use Rattle.line_editor.specs.Modal.{modal_of, modal_first, first_standing, wish_of};
 ghost use Rattle.line_editor.specs.Searching.{query_in, modal_with_query, without_last, modal_after_erase, heading, search_prompt, act_of_movement, act_of, next_at, onward, dir_again, from_again};
 
+use crate::characters::as_scalar;
 use line_buffer::Movement;
 use line_config::{CompletionType, Config, ReadlineError};
 use line_help::SearchDirection;
@@ -199,19 +199,14 @@ pub(crate) fn cycle_at(dir: SearchDirection, at: usize, count: usize) -> usize
     }
 }
 
-/// A character is a scalar value.
-fn drop_char(c: char)
-    ensures scalar { IsScalar c }
-{
-    let _len = c.len_utf8();
-}
-
 /// A text without its last character.
 fn drop_last(text: &mut String)
     ensures { string_bytes text.new ≡ without_last (string_bytes text.old) }
 {
     match text.pop() {
-        Some(c) => drop_char(c),
+        Some(last) => {
+            as_scalar(last);
+        }
         None => text.clear(),
     }
 }

@@ -1,15 +1,15 @@
 //! How far two drawings of a line surely have the same styles.
 ghost use Rattle.std.specs.Prelude.{◌≡◌, ◌<◌, take, drop, length, option_copied, replicate, unwrap_or, IsTrue, if◌then◌else◌};
 ghost use Rattle.line_help.specs.Paints.{first_mark};
-ghost use Rattle.line_editor.specs.SharedStyles.{first_spans, is_used, plain_rest, shared_styles, span_styles};
+ghost use Rattle.line_editor.specs.SharedStyles.{is_used, plain_rest, shared_styles, span_styles, told_styles};
 
 use line_help::{Highlighter, Mark, Part, Span, Style};
 use std::marker::Model;
 
-/// As many spans of a line are compared, at the most.
+/// At most so many spans of a line are compared.
 const MOST_SPANS: usize = 64;
 
-/// The first spans of a line. A line with fewer has plain ones after them, as many as are missing.
+/// The first spans of a line, up to a place. Those that are missing are plain.
 pub(crate) type FirstSpans = [Span; MOST_SPANS];
 
 /// The place up to which a change leaves a line, and the first spans of the line before it, if it is
@@ -23,24 +23,24 @@ pub(crate) struct Since<'a> {
 impl<'a> Model for Since<'a> {
     ghost use Rattle.line_editor.specs.Drawing.{Since};
     ghost use Rattle.std.specs.Prelude.{option_copied};
-    ghost use Rattle.line_editor.specs.SharedStyles.{styles_in};
+    ghost use Rattle.line_editor.specs.SharedStyles.{noted_styles};
 
     ghost Value = { Since };
 
     ghost view = { λ s. record {
       from = s.from;
-      styles = styles_in s.from (option_copied s.spans);
+      styles = noted_styles s.from (option_copied s.spans);
     } };
 }
 
 impl<'a> Since<'a> {
     ghost use Rattle.line_help.specs.Paints.{plain};
-    ghost use Rattle.line_editor.specs.SharedStyles.{styles_in};
+    ghost use Rattle.line_editor.specs.SharedStyles.{noted_styles};
 
     pub(crate) fn new(from: usize, spans: Option<&'a FirstSpans>) -> Self
         ensures { result ≡ record {
           from = from;
-          styles = styles_in from (option_copied spans.entry);
+          styles = noted_styles from (option_copied spans.entry);
         } }
     {
         Since { from, spans }
@@ -62,7 +62,7 @@ impl<'a> Since<'a> {
 
     /// How many bytes before the place have the same styles in a line that has these first spans.
     pub(crate) fn kept_upto(&self, spans: &Option<FirstSpans>) -> usize
-        ensures { result ≡ shared_styles self.now.styles (styles_in self.now.from spans.now) }
+        ensures { result ≡ shared_styles self.now.styles (noted_styles self.now.from spans.now) }
     {
         let rest = [plain_rest(self.from)];
         shared_styles(
@@ -93,25 +93,27 @@ fn spans_or<'a>(spans: Option<&'a FirstSpans>, others: &'a [Span]) -> &'a [Span]
     }
 }
 
-/// The first spans of a text, for the styles of so many of its bytes.
+/// The first spans of a text, for the styles of so many of its bytes. No more spans are asked for.
 pub(crate) fn first_spans<H: Highlighter>(
     highlighter: &H,
     part: Part,
     text: &str,
     upto: usize,
 ) -> FirstSpans
-    ensures { result ≡ first_spans upto
+    ensures { take upto (span_styles result) ≡ told_styles upto
         ((H.marks highlighter.now).paints part text.now first_mark) }
 {
     let mut first = [plain_rest(upto); MOST_SPANS];
     let mut count = 0;
+    let mut left = upto;
     let mut mark = Mark::first();
-    while count < MOST_SPANS {
+    while count < MOST_SPANS && left > 0 {
         let Some((span, next)) = highlighter.next_span(part, text, mark) else {
             break;
         };
         first[count] = span;
         count += 1;
+        left = left.saturating_sub(span.len);
         mark = next;
     }
     first

@@ -1,5 +1,5 @@
 //! Yanks texts from the ring, and replaces yanked texts.
-ghost use Rattle.std.specs.Prelude.{◌≡◌, slice_get};
+ghost use Rattle.std.specs.Prelude.{◌≡◌, ◌-◌, slice_get};
 ghost use Rattle.line_editor.specs.Yanking.{line_at_anchor, steps_over, behind_yank};
 
 use crate::measured::known_within;
@@ -44,7 +44,7 @@ fn step_back(line: &mut LineBuffer, vi_command: bool)
     }
 }
 
-#[tactic(auto, using(crate::proofs::StopsLemmas::edits_stop))]
+#[tactic(auto, using(crate::proofs::StopsLemmas::edits_stop, crate::proofs::SinceLemmas::unmarked_noted))]
 impl<'p, 'h, Out: Renderer, H: Helper + Drop, Hi: History> State<'p, 'h, Out, H, Hi> {
     ghost use Rattle.line_editor.specs.States.{value_of, setting_of, Does};
     ghost use Rattle.line_editor.specs.Drawing.{AreNoted};
@@ -84,7 +84,7 @@ impl<'p, 'h, Out: Renderer, H: Helper + Drop, Hi: History> State<'p, 'h, Out, H,
             (yank_text (is_vi_command input_state.now.mode input_state.now.input_mode)
             text.now anchor n) self.old self.new result }
     {
-        let noted = self.line_spans(self.recorded.line.len());
+        let noted = self.line_spans(place_at(&self.recorded.line, anchor));
         self.yank_noted(input_state, text, anchor, n, noted.as_ref())
     }
 
@@ -98,7 +98,8 @@ impl<'p, 'h, Out: Renderer, H: Helper + Drop, Hi: History> State<'p, 'h, Out, H,
         n: RepeatCount,
         noted: Option<&FirstSpans>,
     ) -> Result<(), ReadlineError>
-        requires noted { AreNoted (setting_of self.old) (value_of self.old) noted }
+        requires noted { let line = line_at_anchor anchor self.old.recorded.line in
+            AreNoted (setting_of self.old) line.place (value_of self.old) noted }
         ensures does { Does
             (yank_text (is_vi_command input_state.now.mode input_state.now.input_mode)
             text.now anchor n) self.old self.new result }
@@ -139,7 +140,8 @@ impl<'p, 'h, Out: Renderer, H: Helper + Drop, Hi: History> State<'p, 'h, Out, H,
     fn yank_pop_in_styles(&mut self, yank_size: usize, text: &str) -> Result<(), ReadlineError>
         ensures does { Does (pop_text yank_size text.now) self.old self.new result }
     {
-        let noted = self.line_spans(self.recorded.line.len());
+        let from = self.recorded.line.pos().saturating_sub(yank_size);
+        let noted = self.line_spans(from);
         self.yank_pop_noted(yank_size, text, noted.as_ref())
     }
 
@@ -151,7 +153,8 @@ impl<'p, 'h, Out: Renderer, H: Helper + Drop, Hi: History> State<'p, 'h, Out, H,
         text: &str,
         noted: Option<&FirstSpans>,
     ) -> Result<(), ReadlineError>
-        requires noted { AreNoted (setting_of self.old) (value_of self.old) noted }
+        requires noted { let line = self.old.recorded.line in
+            AreNoted (setting_of self.old) (line.place - yank_size) (value_of self.old) noted }
         ensures does { Does (pop_text yank_size text.now) self.old self.new result }
     {
         if !self.recorded.line.can_take_before(yank_size) {

@@ -7,7 +7,7 @@ use Rattle.line_editor.proofs.shared_styles.first_spans.Given as goal
 abbrev pub invariant-loop-count : goal.invariant-loop-count
 invariant-loop-count g l =
     let spans = (g.H.Highlighter.marks l.fn.highlighter).paints l.fn.part l.fn.text in
-    Collected l.fn.upto (spans first_mark) l.first l.count (spans l.mark)
+    Collected l.fn.upto (spans first_mark) l.first l.count l.left (spans l.mark)
 
 abbrev pub decreases-loop-count : goal.decreases-loop-count
 decreases-loop-count g l = most_spans - l.count

@@ -1,4 +1,4 @@
-use Rattle.std.proofs.Common.{refl, ℕ, length}
+use Rattle.std.proofs.Common.{refl, length}
 use Rattle.line_editor.specs.Moving.{move_buffer_end}
 use Rattle.line_editor.proofs.MarkLemmas.{follows_from}
 use Rattle.line_editor.proofs.state.State.edit_move_buffer_end.Goals as goal

@@ -29,10 +29,10 @@ returns-clause-does g c =
     (taken_by _ _ _ _ _ _ (value_of s) (kill_line c.args.movement.now s.recorded.line) _ _ _
     (ap (λ n. n - c.len.result) c.len-before.ensures ∙ ap (λ n. length s.recorded.line.text - n)
     c.len.ensures) (c.may_be_taken-alone.ensures
-    ∙ ap (λ o. may_be_taken (drop (length (deletion_line o s.recorded.line).text) s.recorded.line.text) (value_of s)) c.range_of-span.ensures.value)
+    ∙ ap (λ o. may_be_taken (drop (length (deletion_line o s.recorded.line).text) s.recorded.line.text) (value_of s)) c.requires.span.value)
     (c.may_be_taken_out-inside.ensures
-    ∙ ap (λ o. may_be_taken_out (setting_of s).config.partial_redraw (text_gone s.recorded.line (deletion_line o s.recorded.line)) (value_of s)) c.range_of-span.ensures.value)
+    ∙ ap (λ o. may_be_taken_out (setting_of s).config.partial_redraw (text_gone s.recorded.line (deletion_line o s.recorded.line)) (value_of s)) c.requires.span.value)
     c.last_of_bare-last.ensures c.in_ok-killed.ensures.writes.writes.line
     c.kill_way-way.ensures
-    (c.since_kill-since.ensures ∙ ap (λ o. since (setting_of s) (deletion_line o s.recorded.line).place (value_of s)) c.range_of-span.ensures.value)
+    (c.since-since.ensures ∙ ap (λ place. since (setting_of s) place (value_of s)) (c.place_of_kill.ensures ∙ ap (λ o. (deletion_line o s.recorded.line).place) c.requires.span.value))
     c.show_killed.ensures.does)

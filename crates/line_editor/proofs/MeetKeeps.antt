@@ -1,0 +1,202 @@
+-- What the edits of a search and of candidates keep is kept by whatever they make of a command.
+use Rattle.std.proofs.Common.{◌≡◌, ℕ, ◌-◌, ◌≤◌, ◌==◌, ◌&&◌, not, map, Bool, true, false, List, length, Option, Some, None, slice_get, refl, if◌then◌else◌}
+use Rattle.std.specs.Prelude.{nat_le}
+use Rattle.std.proofs.lemmas.Bool.{leb-true}
+use Rattle.line_buffer.specs.Insertions.{is_inside_char}
+use Rattle.line_buffer.specs.Line.{Line}
+use Rattle.line_config.specs.declared.settings.CompletionType.{CompletionType}
+use Rattle.line_config.specs.declared.settings.CompletionType.TheVariants as completion_type
+use Rattle.line_edits.specs.Edits.{update_group}
+use Rattle.line_help.specs.Completion.{Completion}
+use Rattle.line_help.specs.Search.{Hit}
+use Rattle.line_help.specs.declared.history.search.SearchDirection.{SearchDirection}
+use Rattle.line_help.specs.declared.history.search.SearchDirection.TheVariants.{Forward, Reverse}
+use Rattle.line_keys.specs.Replies.{Reply}
+use Rattle.line_keys.specs.declared.command.Cmd.{Cmd}
+use Rattle.line_record.specs.Held.{HeldItem}
+use Rattle.line_editor.specs.Candidates.{only_text, text_at, list_effect_with, candidate_at, turn_effect_with, several, offer_effect_if, is_ambiguous, tab_by, cycle_at, cycle_by}
+use Rattle.line_editor.specs.Completing.{begins_word, common_text_among, common_text, word_updated, complete_effect_with, candidates_given, complete_if}
+use Rattle.line_editor.specs.Drawing.{refresh_effect}
+use Rattle.line_editor.specs.History.{value_on_leaving}
+use Rattle.line_editor.specs.ModalCommands.{meeting_effect, meeting_at_rest, meeting_in_prefixes, meeting_after_tab, meeting_anew, meeting_in_list, meeting_in_cycle, meeting_in, meeting_in_search}
+use Rattle.line_editor.specs.Modal.{Modal, modal_at_rest, wish_of}
+use Rattle.line_editor.specs.Prefixes.{is_prefix, is_own, earlier, later, rise_meeting, rises_if, fall_meeting}
+use Rattle.line_editor.specs.Searching.{modal_after_erase, looks_again, modal_with_char, search_for, onward, hit_undo_effect, put_hit_effect, is_place, place_effect, give_up_effect, search_start_if, hit_again, search_again_meeting, act_of}
+use Rattle.line_editor.specs.Values.{Value, Setting, Saved, then_do, completion_reply, edit_effect, at_line, close_groups}
+use Rattle.line_editor.specs.declared.modal_state.Act.{Act}
+use Rattle.line_editor.specs.declared.modal_state.Act.TheVariants.{Types, Erases, Goes, Leaves, Ends}
+use Rattle.line_editor.specs.declared.modal_state.Standing.{Standing}
+use Rattle.line_editor.specs.declared.modal_state.Standing.TheVariants.{Off, Rests, Prefixes, Searches, Tabbed, Lists, Cycles}
+use Rattle.line_editor.specs.declared.modal_state.Wish.{Wish}
+use Rattle.line_editor.specs.declared.modal_state.Wish.TheVariants.{Search, Up, Down, Tab, TabBack, Leave, Again}
+
+-- a fact of a line's text, whether it may grow, its record, the saved line and the place in the
+-- history
+abbrev pub Fact : Type 1
+Fact = List ℕ → Bool → List HeldItem → Saved → ℕ → Type 0
+
+abbrev pub Holds : Fact → Value → Type 0
+Holds fact v = fact v.line.text v.line.growth v.held v.saved v.history
+
+-- the edits keep it: an entry undone, groups closed, an entry put, a word completed, the line left
+pub record KeptByEdits (fact : Fact) (s : Setting) : Type 0 where
+  pub undone : (v : Value) → Holds fact v → Holds fact (hit_undo_effect true s v).value
+  pub closed : (v : Value) → Holds fact v → Holds fact (close_groups s v).value
+  pub put : (entry : List ℕ) (place : ℕ) (v : Value) → Holds fact v → Holds fact (edit_effect (update_group entry place) s v).value
+  pub completed : (start : ℕ) (text : List ℕ) (v : Value) → start ≤ v.line.place → Holds fact v → Holds fact (word_updated start text s v).value
+  pub left : (v : Value) → Holds fact v → Holds fact (value_on_leaving s v)
+
+-- a text is for a word that begins before the cursor
+begun_before : (start : ℕ) (l : Line) (inside : Bool) (o : Option (List ℕ)) (text : List ℕ) → (if nat_le start l.place && inside then o else None) ≡ Some text → start ≤ l.place
+begun_before start l inside o text is = by_order (nat_le start l.place) refl is
+  where
+    by_order : (b : Bool) → nat_le start l.place ≡ b → (if b && inside then o else None) ≡ Some text → start ≤ l.place
+    by_order true h k = leb-true start l.place h
+    by_order false h k = cc
+
+module _ (fact : Fact) (s : Setting) (k : KeptByEdits fact s) where
+  -- ---- a search
+
+  back : (put : Bool) (v : Value) → Holds fact v → Holds fact (hit_undo_effect put s v).value
+  back true v h = k.undone v h
+  back false v h = h
+
+  entry_put : (put : Bool) (hit : Option Hit) (v : Value) → Holds fact v → Holds fact (put_hit_effect put hit s v).value
+  entry_put put None v h = h
+  entry_put put (Some hit) v h = k.put hit.entry hit.pos (hit_undo_effect put s v).value (back put v h)
+
+  placed_if : (b : Bool) (place : ℕ) (v : Value) → Holds fact v → Holds fact (at_line (if b then record v.line { place = place } else v.line) v)
+  placed_if true place v h = h
+  placed_if false place v h = h
+
+  placed : (put : Bool) (place : ℕ) (v : Value) → Holds fact v → Holds fact (then_do (hit_undo_effect put) (place_effect place) s v).value
+  placed put place v h = let w = (hit_undo_effect put s v).value in placed_if (is_place place w.line) place w (back put v h)
+
+  given_up : (q : Modal) (v : Value) → Holds fact v → Holds fact (give_up_effect q s v).value
+  given_up q v h = placed q.put q.place v h
+
+  again : (empty : Bool) (q : Modal) (v : Value) → Holds fact v → Holds fact (looks_again empty q s v).effect.value
+  again true q v h = placed q.put q.place v h
+  again false q v h = entry_put q.put (search_for q.query q.dir (Some q.start) s.entries) v h
+
+  begun : (empty : Bool) (dir : SearchDirection) (q : Modal) (cmd : Cmd) (v : Value) → Holds fact v → Holds fact (search_start_if empty dir q cmd s v).effect.value
+  begun true dir q cmd v h = h
+  begun false dir q cmd v h = k.closed v h
+
+  found_again : (hit : Option Hit) (q : Modal) (v : Value) → Holds fact v → Holds fact (search_again_meeting hit q s v).effect.value
+  found_again None q v h = h
+  found_again (Some hit) q v h = k.put hit.entry hit.pos (close_groups s v).value (k.closed v h)
+
+  -- ---- entries that begin with the line
+
+  risen : (hit : Option Hit) (q : Modal) (v : Value) → Holds fact v → Holds fact (rise_meeting hit q s v).effect.value
+  risen None q v h = h
+  risen (Some hit) q v h = k.left v h
+
+  rises : (own : Bool) (q : Modal) (cmd : Cmd) (v : Value) → Holds fact v → Holds fact (rises_if own q cmd s v).effect.value
+  rises true q cmd v h = risen (earlier s v) q v h
+  rises false q cmd v h = h
+
+  fallen : (hit : Option Hit) (q : Modal) (v : Value) → Holds fact v → Holds fact (fall_meeting hit q s v).effect.value
+  fallen None q v h = h
+  fallen (Some hit) q v h = h
+
+  -- ---- candidates
+
+  completed : (start : ℕ) (o : Option (List ℕ)) (v : Value) → ((text : List ℕ) → o ≡ Some text → start ≤ v.line.place) → Holds fact v → Holds fact (complete_effect_with start o s v).value
+  completed start None v below h = h
+  completed start (Some text) v below h = k.completed start text v (below text refl) h
+
+  word_completed : (o : Option (List ℕ)) (found : Completion) (v : Value) → Holds fact v → Holds fact (complete_effect_with found.start (if begins_word found.start v.line then o else None) s v).value
+  word_completed o found v h =
+      completed found.start (if begins_word found.start v.line then o else None) v (λ text is. begun_before found.start v.line (not (is_inside_char v.line.text found.start)) o text is) h
+
+  pub complete_keeps : (reply : Option (Reply Completion)) (v : Value) → Holds fact v → Holds fact (complete_if reply s v).value
+  complete_keeps None v h = h
+  complete_keeps (Some reply) v h =
+      let found = candidates_given (Some reply) in
+      word_completed (common_text_among (v.line.place - found.start) (map (λ o. o.replacement) found.candidates)) found v h
+
+  turned_if : (start : ℕ) (o : Option (List ℕ)) (v : Value) → ((text : List ℕ) → o ≡ Some text → start ≤ v.line.place) → Holds fact v → Holds fact (turn_effect_with start o s v).value
+  turned_if start None v below h = h
+  turned_if start (Some text) v below h = k.completed start text v (below text refl) h
+
+  turned : (at : ℕ) (found : Completion) (v : Value) → Holds fact v → Holds fact (turn_effect_with found.start (candidate_at at found v.line) s v).value
+  turned at found v h =
+      turned_if found.start (candidate_at at found v.line) v (λ text is. begun_before found.start v.line (not (is_inside_char v.line.text found.start)) (text_at (slice_get found.candidates at)) text is) h
+
+  listed : (lists : Bool) (o : Option (List ℕ)) (limit : ℕ) (found : Completion) (v : Value) → Holds fact v → Holds fact (complete_effect_with found.start o s v).value → Holds fact (list_effect_with lists limit found o s v).value
+  listed true (Some text) limit found v h done = done
+  listed false (Some text) limit found v h done = done
+  listed true None limit found v h done = h
+  listed false None limit found v h done = h
+
+  several_offered : (kind : CompletionType) (lists : Bool) (q : Modal) (found : Completion) (v : Value) → Holds fact v → Holds fact (several kind lists q found s v).value
+  several_offered completion_type.Circular lists q found v h = turned 0 found (close_groups s v).value (k.closed v h)
+  several_offered completion_type.List lists q found v h =
+      listed lists (common_text found v.line) q.limit found v h (word_completed (common_text_among (v.line.place - found.start) (map (λ o. o.replacement) found.candidates)) found v h)
+
+  offered : (ambiguous lists : Bool) (q : Modal) (found : Completion) (v : Value) → Holds fact v → Holds fact (offer_effect_if ambiguous lists q found s v).value
+  offered false lists q found v h = word_completed (only_text found.candidates) found v h
+  offered true lists q found v h = several_offered q.completion_type lists q found v h
+
+  tabbed : (reply : Option (Reply Completion)) (lists : Bool) (q : Modal) (cmd : Cmd) (v : Value) → Holds fact v → Holds fact (tab_by reply lists q cmd s v).effect.value
+  tabbed None lists q cmd v h = h
+  tabbed (Some reply) lists q cmd v h = let found = candidates_given (Some reply) in offered (is_ambiguous found v.line) lists q found v h
+
+  cycled : (reply : Option (Reply Completion)) (dir : SearchDirection) (q : Modal) (cmd : Cmd) (v : Value) → Holds fact v → Holds fact (cycle_by reply dir q cmd s v).effect.value
+  cycled None dir q cmd v h = h
+  cycled (Some reply) dir q cmd v h =
+      let w = (then_do (hit_undo_effect q.put) (place_effect q.place) s v).value in
+      let found = candidates_given (completion_reply s w) in
+      turned (cycle_at dir q.candidate (length found.candidates)) found w (placed q.put q.place v h)
+
+  -- ---- any command that is met
+
+  at_rest : (wish : Wish) (q : Modal) (cmd : Cmd) (v : Value) → Holds fact v → Holds fact (meeting_at_rest wish q cmd s v).effect.value
+  at_rest (Search dir) q cmd v h = begun (length s.entries == 0) dir q cmd v h
+  at_rest Up q cmd v h = rises (is_own s v && is_prefix v.line) q cmd v h
+  at_rest Tab q cmd v h = tabbed (completion_reply s v) q.lists_at_once q cmd v h
+  at_rest (Again way) q cmd v h = found_again (hit_again way q s v) q v h
+  at_rest wish q cmd v h = h
+
+  in_prefixes : (wish : Wish) (q : Modal) (cmd : Cmd) (v : Value) → Holds fact v → Holds fact (meeting_in_prefixes wish q cmd s v).effect.value
+  in_prefixes Up q cmd v h = risen (earlier s v) q v h
+  in_prefixes Down q cmd v h = fallen (later s v) q v h
+  in_prefixes wish q cmd v h = at_rest wish (modal_at_rest q) cmd v h
+
+  after_tab : (wish : Wish) (q : Modal) (cmd : Cmd) (v : Value) → Holds fact v → Holds fact (meeting_after_tab wish q cmd s v).effect.value
+  after_tab Tab q cmd v h = tabbed (completion_reply s v) true q cmd v h
+  after_tab wish q cmd v h = at_rest wish (modal_at_rest q) cmd v h
+
+  anew : (wish : Wish) (q : Modal) (cmd : Cmd) (v : Value) → Holds fact v → Holds fact (meeting_anew wish q cmd s v).effect.value
+  anew wish q cmd v h = at_rest wish (modal_at_rest q) cmd (refresh_effect s v).value h
+
+  in_list : (wish : Wish) (q : Modal) (cmd : Cmd) (v : Value) → Holds fact v → Holds fact (meeting_in_list wish q cmd s v).effect.value
+  in_list Tab q cmd v h = tabbed (completion_reply s v) true q cmd v h
+  in_list wish q cmd v h = anew wish q cmd v h
+
+  in_cycle : (wish : Wish) (q : Modal) (cmd : Cmd) (v : Value) → Holds fact v → Holds fact (meeting_in_cycle wish q cmd s v).effect.value
+  in_cycle Tab q cmd v h = cycled (completion_reply s v) Forward q cmd v h
+  in_cycle TabBack q cmd v h = cycled (completion_reply s v) Reverse q cmd v h
+  in_cycle Leave q cmd v h = given_up q v h
+  in_cycle wish q cmd v h = at_rest wish (modal_at_rest q) cmd v h
+
+  in_search : (act : Act) (q : Modal) (cmd : Cmd) (v : Value) → Holds fact v → Holds fact (meeting_in_search act q cmd s v).effect.value
+  in_search (Types c) q cmd v h = entry_put q.put (search_for (modal_with_char c q).query q.dir (Some q.at) s.entries) v h
+  in_search Erases q cmd v h = again (length (modal_after_erase q).query == 0) (modal_after_erase q) v h
+  in_search (Goes dir) q cmd v h = entry_put q.put (search_for q.query dir (onward dir q (length s.entries)) s.entries) v h
+  in_search Leaves q cmd v h = given_up q v h
+  in_search Ends q cmd v h = anew (wish_of cmd) q cmd v h
+
+  met : (at : Standing) (q : Modal) (cmd : Cmd) (v : Value) → Holds fact v → Holds fact (meeting_in at q cmd s v).effect.value
+  met Off q cmd v h = h
+  met Rests q cmd v h = at_rest (wish_of cmd) q cmd v h
+  met Prefixes q cmd v h = in_prefixes (wish_of cmd) q cmd v h
+  met Searches q cmd v h = in_search (act_of cmd) q cmd v h
+  met Tabbed q cmd v h = after_tab (wish_of cmd) q cmd v h
+  met Lists q cmd v h = in_list (wish_of cmd) q cmd v h
+  met Cycles q cmd v h = in_cycle (wish_of cmd) q cmd v h
+
+  pub meeting_keeps : (q : Modal) (cmd : Cmd) (v : Value) → Holds fact v → Holds fact (meeting_effect q cmd s v).value
+  meeting_keeps q cmd v h = met q.standing q cmd v h
