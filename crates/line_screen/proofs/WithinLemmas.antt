@@ -1,6 +1,6 @@
 -- Printable ASCII with styles that doesn't fill its row.
 use Rattle.std.proofs.Common.{◌≡◌, ℕ, ◌+◌, ◌<◌, ◌==◌, Bool, true, false, List, [], ◌∷◌, ◌++◌, map, length, take, drop, min, Result, Ok, Err, IsTrue, refl, sym, ap, ap₂, ◌∙◌, subst, append_assoc, append-nil, length-append, arith, if◌then◌else◌}
-use Rattle.std.proofs.lemmas.Bool.{ne_eqb, eqb-true, false≢true}
+use Rattle.std.proofs.lemmas.Bool.{ne_eqb, eqb-true}
 use Rattle.std.proofs.lemmas.List.{map-append, take-append-drop}
 use Rattle.std.specs.Result.{IsErrAnd}
 use Rattle.line_config.specs.declared.device.DeviceFailed.{DeviceFailed}
@@ -14,18 +14,6 @@ use Rattle.line_screen.proofs.Runs.{sent_run, col_after_run}
 use Rattle.line_screen.proofs.StyledTextLemmas.{bare_of}
 use Rattle.line_screen.proofs.PaintRuns.{shaded_run, shades_are, bares_are, bare_sent, painted-append, framed_bytes}
 use Rattle.line_screen.proofs.PaintCode.{take_fewer, drop_fewer, take_none, drop_none}
-
--- ---- letters of one style
-
-pub plain_within : (style letters : List ℕ) → true ≡ (length style == 0) → letters ≡ letters_within style letters
-plain_within [] [] h = refl
-plain_within [] (c ∷ letters) h = refl
-plain_within (p ∷ style) letters h = let none = eqb-true (length (p ∷ style)) 0 (sym h) in absurd (omega arith)
-
-pub framed_within : (style letters : List ℕ) → false ≡ (length style == 0) → false ≡ (length letters == 0) → style_bytes style ++ letters ++ no_style ≡ letters_within style letters
-framed_within [] letters h k = absurd (false≢true h)
-framed_within (p ∷ style) [] h k = absurd (false≢true k)
-framed_within (p ∷ style) (c ∷ letters) h k = refl
 
 -- ---- span by span
 
