@@ -1,13 +1,12 @@
 -- What the loops over spans send.
-use Rattle.std.proofs.Common.{◌≡◌, ℕ, ◌+◌, ◌<◌, ◌≤◌, ◌==◌, nat_le, Bool, true, false, List, [], ◌∷◌, ◌++◌, ◌-◌, map, length, take, drop, take_at, drop_at, length-append, append-nil, if◌then◌else◌, min, get_or, Option, Some, None, zero, suc, inl, inr, refl, sym, ap, ap₂, ◌∙◌, arith, take_all, add-one, drop-cons}
+use Rattle.std.proofs.Common.{◌≡◌, ℕ, ◌+◌, ◌<◌, ◌==◌, Bool, true, false, List, [], ◌∷◌, ◌++◌, ◌-◌, map, length, take, drop, take_at, drop_at, length-append, append-nil, if◌then◌else◌, min, get_or, Option, Some, None, zero, suc, refl, sym, ap, ap₂, ◌∙◌, arith, add-one, drop-cons}
 use Rattle.std.specs.List.{concat, list_all, onto_first}
-use Rattle.std.proofs.lemmas.Bool.{eqb-true, leb-true, and_parts}
-use Rattle.std.proofs.lemmas.List.{map-append}
+use Rattle.std.proofs.lemmas.Bool.{eqb-true, and_parts}
+use Rattle.std.proofs.lemmas.List.{map-append, take_min, drop_min}
 use Rattle.std.proofs.lemmas.List.Splits.{slice_split-cons_no}
 use Rattle.unicode_segmentation.specs.Grapheme.{graphemes}
-use Rattle.line_screen.proofs.SequenceLemmas.{by_test}
-use Rattle.std.proofs.lemmas.Bool.Decides.{nat_tests}
-use Rattle.std.proofs.lemmas.List.{drop_all}
+use Rattle.std.proofs.Math.Seq.{take-nil, drop-nil}
+use Rattle.line_screen.proofs.Items.{no_newline}
 use Rattle.line_screen.specs.Display.{is_printable}
 use Rattle.line_screen.specs.Drawing.{Widths, is_letter, drawn_item, split_rows, text_items}
 use Rattle.line_screen.specs.Drawing.DrawnItem.{NewRow, Letter}
@@ -19,33 +18,26 @@ use Rattle.line_help.specs.declared.helpers.style.Span as span
 use Rattle.line_help.specs.declared.helpers.style.Mark.{Mark}
 use Rattle.line_help.specs.Paints.{IsNextSpan, first_mark}
 
-more_than : (n m : ℕ) → nat_le n m ≡ false → m ≤ n
-more_than n m h = grind (arith, nat_tests)
+-- letters span by span: `one` are those of one span, `all` those of all spans
+module _ {Y : Type 0} (one : List ℕ → List ℕ → List Y) (all : List SgrSpan → List ℕ → List Y)
+    (step : (s : SgrSpan) (spans : List SgrSpan) (letters : List ℕ) → all (s ∷ spans) letters ≡ one s.style (take s.len letters) ++ all spans (drop s.len letters)) where
+  -- the letters of the first span are next
+  pub span_next : (spans behind : List SgrSpan) (s : SgrSpan) (letters front back : List ℕ) (count : ℕ) → spans ≡ s ∷ behind → count ≡ min s.len (length letters)
+      → front ≡ take count letters → back ≡ drop count letters → all spans letters ≡ one s.style front ++ all behind back
+  span_next spans behind s letters front back count is counted front_is back_is =
+      let f : front ≡ take s.len letters = front_is ∙ ap (λ k. take k letters) counted ∙ take_min s.len letters in
+      let b : back ≡ drop s.len letters = back_is ∙ ap (λ k. drop k letters) counted ∙ drop_min s.len letters in
+      ap (λ ss. all ss letters) is ∙ step s behind letters
+      ∙ ap (λ xs. one s.style xs ++ all behind (drop s.len letters)) (sym f)
+      ∙ ap (λ xs. one s.style front ++ all behind xs) (sym b)
 
-pub take_fewer : (n : ℕ) (xs : List ℕ) → take (min n (length xs)) xs ≡ take n xs
-take_fewer n xs = elim (by_test (nat_le n (length xs))) [
-  | inl h ↦ let low = leb-true n (length xs) h in let same : min n (length xs) ≡ n = omega arith in ap (λ k. take k xs) same
-  | inr h ↦ let high = more_than n (length xs) h in let same : min n (length xs) ≡ length xs = omega arith in
-      ap (λ k. take k xs) same ∙ take_all (length xs) xs (omega arith) ∙ sym (take_all n xs high)
-]
-
-pub drop_fewer : (n : ℕ) (xs : List ℕ) → drop (min n (length xs)) xs ≡ drop n xs
-drop_fewer n xs = elim (by_test (nat_le n (length xs))) [
-  | inl h ↦ let low = leb-true n (length xs) h in let same : min n (length xs) ≡ n = omega arith in ap (λ k. drop k xs) same
-  | inr h ↦ let high = more_than n (length xs) h in let same : min n (length xs) ≡ length xs = omega arith in
-      ap (λ k. drop k xs) same ∙ drop_all (length xs) xs (omega arith) ∙ sym (drop_all n xs high)
-]
-
--- the letters of the first span are next
-pub span_next : (spans behind : List SgrSpan) (s : SgrSpan) (letters front back : List ℕ) (count : ℕ) → spans ≡ s ∷ behind → count ≡ min s.len (length letters)
-    → front ≡ take count letters → back ≡ drop count letters
-    → painted_letters spans letters ≡ letters_in_style s.style front ++ painted_letters behind back
-span_next spans behind s letters front back count is counted front_is back_is =
-    let f : front ≡ take s.len letters = front_is ∙ ap (λ k. take k letters) counted ∙ take_fewer s.len letters in
-    let b : back ≡ drop s.len letters = back_is ∙ ap (λ k. drop k letters) counted ∙ drop_fewer s.len letters in
-    ap (λ ss. painted_letters ss letters) is
-    ∙ ap (λ xs. letters_in_style s.style xs ++ painted_letters behind (drop s.len letters)) (sym f)
-    ∙ ap (λ xs. letters_in_style s.style front ++ painted_letters behind xs) (sym b)
+  -- without letters nothing is left, whatever spans follow
+  pub no_letters : ((style : List ℕ) → one style [] ≡ []) → all [] [] ≡ [] → (spans : List SgrSpan) (letters : List ℕ) → (length letters == 0) ≡ true → all spans letters ≡ []
+  no_letters none last [] [] h = last
+  no_letters none last (s ∷ spans) [] h =
+      step s spans [] ∙ ap (λ xs. one s.style xs ++ all spans (drop s.len [])) (take-nil s.len) ∙ ap (λ xs. xs ++ all spans (drop s.len [])) (none s.style)
+      ∙ ap (all spans) (drop-nil s.len) ∙ no_letters none last spans [] h
+  no_letters none last spans (c ∷ letters) h = let zero = eqb-true (length (c ∷ letters)) 0 h in absurd (omega arith)
 
 -- nothing is left of a span that was returned
 pub asked : (paints : Mark → List span.Span) (left : spans.Spans) (next : Option (span.Span × Mark)) → left.first ≡ None → IsNextSpan paints left.mark next → IsFirstSpan paints left next
@@ -57,25 +49,6 @@ all_left paints left none first = ap (λ o. spans_from o (map span_of (paints le
 
 pub no_spans : (paints : Mark → List span.Span) (m : Mark) → m ≡ first_mark → paints m ≡ [] → [] ≡ all_spans paints
 no_spans paints m is none = sym (ap (λ k. map span_of (paints k)) (sym is) ∙ ap (map span_of) none)
-
-pub take_none : (n : ℕ) → let none : List ℕ = [] in take n none ≡ none
-take_none zero = refl
-take_none (suc n) = refl
-
-pub drop_none : (n : ℕ) → let none : List ℕ = [] in drop n none ≡ none
-drop_none zero = refl
-drop_none (suc n) = refl
-
-no_letter_left : (spans : List SgrSpan) → painted_letters spans [] ≡ []
-no_letter_left [] = refl
-no_letter_left (s ∷ spans) =
-    ap (λ xs. letters_in_style s.style xs ++ painted_letters spans (drop s.len [])) (take_none s.len)
-    ∙ ap (painted_letters spans) (drop_none s.len) ∙ no_letter_left spans
-
--- without letters nothing is left, whatever spans follow
-pub no_letters : (spans : List SgrSpan) (letters : List ℕ) → (length letters == 0) ≡ true → painted_letters spans letters ≡ []
-no_letters spans [] none = no_letter_left spans
-no_letters spans (c ∷ letters) none = let zero = eqb-true (length (c ∷ letters)) 0 none in absurd (omega arith)
 
 -- the next cluster is no letter
 pub next_other : (wide : Widths) (spans later : List SgrSpan) (letters g : List ℕ) (before left : List (List ℕ)) → before ≡ g ∷ left → is_letter g ≡ false → later ≡ skip (length g) (skip (length letters) spans)
@@ -133,9 +106,6 @@ rows_end wide text is_first spans n h = ap (painted_left wide is_first spans) h 
 
 -- ---- printable ASCII is one row
 
-no_newline : (c : ℕ) → is_printable c ≡ true → (c == 0x0A) ≡ false
-no_newline c h = grind (arith, nat_tests)
-
 one_row : (text : List ℕ) → list_all is_printable text ≡ true → split_rows text ≡ text ∷ []
 one_row [] h = refl
 one_row (c ∷ cs) h =
@@ -147,7 +117,7 @@ text_letters wide spans text h = ap (painted_rows wide spans) (one_row text h) �
     ∙ ap (λ b. if b then painted_letters spans text else painted_clusters wide spans [] (graphemes true text)) h
 
 pub no_text : (wide : Widths) (spans : List SgrSpan) (text : List ℕ) → true ≡ (length text == 0) → painted_text wide spans text ≡ []
-no_text wide spans [] none = text_letters wide spans [] refl ∙ no_letter_left spans
+no_text wide spans [] none = text_letters wide spans [] refl ∙ no_letters letters_in_style painted_letters (λ s ss letters. refl) (λ style. refl) refl spans [] refl
 no_text wide spans (c ∷ text) none = let zero = eqb-true (length (c ∷ text)) 0 (sym none) in absurd (omega arith)
 
 pub letters_sent : (wide : Widths) (paints : Mark → List span.Span) (left : spans.Spans) (bytes text : List ℕ) → left.first ≡ None → left.mark ≡ first_mark → bytes ≡ text → true ≡ list_all is_printable text

@@ -6,9 +6,8 @@ use Rattle.std.proofs.lemmas.Bool.{ne_eqb, false≢true, and_from, eq-eqb, lt-lt
 use Rattle.line_config.specs.declared.device.DeviceFailed.{DeviceFailed}
 use Rattle.line_config.specs.Sending.{Takes, TakesSome, Sends}
 use Rattle.line_config.proofs.Taking.{takes_then, some_of_more, some_then, sends_then, sends_cut}
-use Rattle.line_screen.specs.Drawing.{control_sequence, no_style, in_fence, left_col, break_if, break_unless, fitted_col, cluster_in_fence, bytes_of_item, col_after_one, SendsTo, move_bytes, is_step_back, short_move}
+use Rattle.line_screen.specs.Drawing.{control_sequence, no_style, in_fence, left_col, break_if, break_unless, fitted_col, SendsTo, move_bytes, is_step_back, short_move}
 use Rattle.line_buffer.specs.declared.layout.Position.{Position}
-use Rattle.line_screen.specs.Drawing.DrawnItem.{Cluster}
 
 -- so many BS, of four
 abbrev four_steps : List ℕ
@@ -48,7 +47,7 @@ module _ {D : Type 0} (held : D → List ℕ) (failed : D → Bool) where
   sends_to_cut Q column columns xs ys {a = a} {b = b} {r = Ok x} refused fails some = absurd refused
   sends_to_cut Q column columns xs ys {a = a} {b = b} {r = Err e} refused fails some = record { sends = sends_cut held failed Q xs ys {a = a} {b = b} {r = Err e} refused fails some; next = tt; inside = tt }
 
-  -- ---- a text in place of a cluster's: space for it, the text, and the end of a full row
+  -- ---- a cluster between sequences: space for it, what is sent of it, and the end of a full row
   module _ (columns width col : ℕ) (fence : List ℕ) where
     abbrev front : List ℕ
     front = break_unless (nat_le (col + width) columns)
@@ -74,33 +73,6 @@ module _ {D : Type 0} (held : D → List ℕ) (failed : D → Bool) where
         → SendsTo behind at_last columns held failed c d r → SendsFence a d r
     all_of_it {a = a} {b = b} {c = c} took works took_text works_on s =
         sends_to_then at_last columns (front ++ fence) behind (takes_then held a b c front fence took took_text) (works_on ∙ works) s
-
-  -- ---- a cluster: a row that has space for it, its text, and the end of a full row
-  module _ (columns width col : ℕ) (cluster : List ℕ) where
-    abbrev room : List ℕ
-    room = break_unless (nat_le (col + width) columns)
-
-    abbrev full : List ℕ
-    full = break_if (fitted_col columns width col + width == columns)
-
-    abbrev next : ℕ
-    next = col_after_one columns (Cluster cluster width) col
-
-    abbrev SendsCluster : D → D → Result ℕ DeviceFailed → Type 0
-    SendsCluster a b r = SendsTo (bytes_of_item columns (Cluster cluster width) col) next columns held failed a b r
-
-    pub roomless : (Q : DeviceFailed → Type 0) {a b : D} {r : Result ℕ DeviceFailed} → IsErrAnd r Q → IsTrue (failed b) → TakesSome held a b room → SendsCluster a b r
-    roomless Q {a = a} {b = b} refused fails some = sends_to_cut Q next columns (room ++ cluster_in_fence cluster) full refused fails (some_of_more held a b room (cluster_in_fence cluster) some)
-
-    pub textless : (Q : DeviceFailed → Type 0) {a b c : D} {r : Result ℕ DeviceFailed} → IsErrAnd r Q
-        → Takes held a b room → IsTrue (failed c) → TakesSome held b c (cluster_in_fence cluster) → SendsCluster a c r
-    textless Q {a = a} {b = b} {c = c} refused took fails some =
-        sends_to_cut Q next columns (room ++ cluster_in_fence cluster) full refused fails (some_then held a b c room (cluster_in_fence cluster) took some)
-
-    pub whole : {a b c d : D} {r : Result ℕ DeviceFailed} → Takes held a b room → failed b ≡ failed a → Takes held b c (cluster_in_fence cluster) → failed c ≡ failed b
-        → SendsTo full next columns held failed c d r → SendsCluster a d r
-    whole {a = a} {b = b} {c = c} took works took_text works_on s =
-        sends_to_then next columns (room ++ cluster_in_fence cluster) full (takes_then held a b c room (cluster_in_fence cluster) took took_text) (works_on ∙ works) s
 
 -- a text's fence
 pub fence_of : (text bytes : List ℕ) → false ≡ (length text == 0) → in_fence text bytes ≡ (no_style ++ bytes) ++ no_style

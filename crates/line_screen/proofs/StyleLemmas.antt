@@ -117,9 +117,6 @@ flag_digit n some low = ap (λ b. if b then [] else number n) (ne_eqb n 0 some) 
 
 -- ---- what is sent
 
-pub sends_digits : {D A E : Type 0} (held : D → List ℕ) (failed : D → Bool) (bytes digits : List ℕ) {a b : D} {r : Result A E} → Sends held failed bytes a b r → bytes ≡ digits → Sends held failed digits a b r
-sends_digits held failed bytes digits {a = a} {b = b} {r = r} s same = subst (λ x. Sends held failed x a b r) same s
-
 none_sent : (style : List ℕ) → true ≡ (length style == 0) → style_bytes style ≡ no_style
 none_sent [] h = refl
 none_sent (p ∷ style) h = let none = eqb-true (length (p ∷ style)) 0 (sym h) in absurd (omega arith)

@@ -2,6 +2,7 @@
 use Rattle.std.proofs.Common.{◌≡◌, ℕ, zero, suc, ◌+◌, ◌-◌, ◌<◌, ◌≤◌, ◌==◌, nat_lt, Bool, true, false, List, [], ◌∷◌, ◌++◌, map, take, drop, length, replicate, slice_index, Option, Some, None, refl, sym, ap, ap₂, ◌∙◌, subst, append_assoc, append-nil, arith, if◌then◌else◌}
 use Rattle.std.specs.List.{list_all, flat_map}
 use Rattle.std.proofs.lemmas.Bool.{and_parts, and_from, false≢true, eqb-true, ltb-true, ltb-false, ne_eqb}
+use Rattle.std.proofs.Math.Seq.{drop-nil}
 use Rattle.std.proofs.lemmas.List.{drop-drop, length-append, map-append}
 use Rattle.std.proofs.lemmas.List.Concat.{flat_map-append}
 use Rattle.unicode_segmentation.specs.Grapheme.{graphemes}
@@ -166,17 +167,13 @@ drop_past (suc n) (suc len) style styles h =
     let e : suc n - suc len ≡ n - len = omega arith in
     ap (λ k. drop k styles) e ∙ drop_past n len style styles (omega (arith, h))
 
-drop_none : (n : ℕ) → drop {A = List ℕ} n [] ≡ []
-drop_none zero = refl
-drop_none (suc n) = refl
-
 skip_if : (n : ℕ) (s : SgrSpan) (spans : List SgrSpan) (b : Bool) → nat_lt n s.len ≡ b → byte_styles (skip (n - s.len) spans) ≡ drop (n - s.len) (byte_styles spans)
     → byte_styles (if b then (record { len = s.len - n; style = s.style } ∷ spans) else skip (n - s.len) spans) ≡ drop n (byte_styles (s ∷ spans))
 skip_if n s spans true e h = drop_span n s.len s.style (byte_styles spans) (ltb-true n s.len e)
 skip_if n s spans false e h = h ∙ drop_past n s.len s.style (byte_styles spans) (ltb-false n s.len e)
 
 pub skip_is : (n : ℕ) (spans : List SgrSpan) → byte_styles (skip n spans) ≡ drop n (byte_styles spans)
-skip_is n [] = sym (drop_none n)
+skip_is n [] = sym (drop-nil n)
 skip_is n (s ∷ spans) = skip_if n s spans (nat_lt n s.len) refl (skip_is (n - s.len) spans)
 
 first_if : (len : ℕ) (style : List ℕ) (styles : List (List ℕ)) (first : List ℕ) → first ≡ first_of styles → (if len == 0 then first else style) ≡ first_of (replicate len style ++ styles)
@@ -377,7 +374,7 @@ module _ (wide : Widths) where
       ap₂ ◌++◌ h k ∙ sym (map-append (with_style []) (bare_items xs) (bare_items ys)) ∙ ap (map (with_style [])) (sym (map-append (λ (x : StyledItem). x.item) xs ys))
 
   none_left : (n : ℕ) (styles : List (List ℕ)) → styles ≡ [] → drop n styles ≡ []
-  none_left n styles h = ap (drop n) h ∙ drop_none n
+  none_left n styles h = ap (drop n) h ∙ drop-nil n
 
   clusters_plain : (styles : List (List ℕ)) (clusters : List (List ℕ)) → styles ≡ [] → styled_clusters wide styles clusters ≡ plain (styled_clusters wide styles clusters)
   clusters_plain styles [] h = refl
@@ -396,7 +393,7 @@ module _ (wide : Widths) where
   rows_plain [] = refl
   rows_plain (row ∷ rows) =
       let later = drop (length row) [] in
-      plain_append (styled_clusters wide [] (row_clusters row)) (rows_styled_behind wide later rows) (clusters_plain [] (row_clusters row) refl) (behind_plain later rows (drop_none (length row)))
+      plain_append (styled_clusters wide [] (row_clusters row)) (rows_styled_behind wide later rows) (clusters_plain [] (row_clusters row) refl) (behind_plain later rows (drop-nil (length row)))
 
   pub plain_styled : (text : List ℕ) → styled_text wide [] text ≡ map (λ item. record { item = item; style = [] }) (text_items wide text)
   plain_styled text = rows_plain (split_rows text) ∙ ap (map (with_style [])) (items_of [] text)

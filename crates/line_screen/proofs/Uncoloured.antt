@@ -34,9 +34,10 @@ use Rattle.line_screen.proofs.InsertedRows.{behind_first}
 use Rattle.line_screen.proofs.Moves.{place}
 use Rattle.line_screen.proofs.PlainDrawing.{plain_text}
 use Rattle.line_screen.proofs.LawLemmas.{calls_lead}
-use Rattle.line_screen.proofs.Leading.{no_styles_are, redraw_drawable, letter_small}
+use Rattle.line_screen.proofs.Leading.{no_styles_are, redraw_drawable}
 use Rattle.std.specs.Prelude.{encode_utf8, length, replicate, slice_range}
 use Rattle.std.proofs.lemmas.Str.{encode_ascii}
+use Rattle.line_buffer.proofs.JoinLemmas.{printable_ascii}
 
 -- ---- sequences that begin otherwise
 
@@ -364,7 +365,7 @@ call_free s some few a b (InsertChar c rest old new finish) here there h plain =
     let letters = and_parts (is_printable c) (list_all is_printable rest) h.printable in
     let from = place_if (finish.row == old.row) new (behind_first finish) new_in.row (below_64 new.col s.columns few new_in.col) h.row (first_low (finish.col == 0)) in
     free_then (insertion_bytes s.columns old.col (encode_utf8 c) rest) (move_bytes (place_after_insertion old new finish) new)
-    (subst (λ cs. IsFree (insertion_bytes s.columns old.col cs rest)) (sym (encode_ascii c (letter_small c letters.0))) (insertion_free s.columns old.col c rest letters.0 letters.1))
+    (subst (λ cs. IsFree (insertion_bytes s.columns old.col cs rest)) (sym (encode_ascii c (printable_ascii c letters.0))) (insertion_free s.columns old.col c rest letters.0 letters.1))
     (move_low (place_after_insertion old new finish) new from.0 from.1 new_in.row (below_64 new.col s.columns few new_in.col))
 call_free s some few a b (MoveAndDelete old new count rest finish) here there h plain =
     let new_in = h.1.inside in

@@ -1,11 +1,7 @@
 -- Wide characters fill rows from their first cells on, after enough of them.
-use Rattle.std.proofs.Common.{◌≡◌, ℕ, zero, suc, ◌+◌, ◌-◌, ◌*◌, ◌/◌, ◌%◌, ◌<◌, ◌≤◌, ◌==◌, nat_le, min, ◌⊎◌, inl, inr, ⊎_elim, Bool, true, false, refl, sym, ap, ◌∙◌, subst, arith, if◌then◌else◌}
-use Rattle.std.proofs.lemmas.Bool.{leb-true, leb-false, eqb-true, eqb-false}
-use Rattle.line_buffer.specs.declared.layout.Position.{Position}
-use Rattle.line_screen.specs.Display.{right}
-use Rattle.line_screen.specs.Drawing.{next_row, fit, leave, fitted_col, left_col}
-use Rattle.line_screen.specs.Measure.{position_within_limit}
-use Rattle.line_screen.proofs.Moves.{place}
+use Rattle.std.proofs.Common.{◌≡◌, ℕ, zero, suc, ◌+◌, ◌*◌, ◌/◌, ◌%◌, ◌<◌, ◌≤◌, ◌==◌, nat_le, ◌⊎◌, inl, inr, ⊎_elim, Bool, true, false, refl, arith, if◌then◌else◌}
+use Rattle.std.proofs.lemmas.Bool.{eqb-true, eqb-false}
+use Rattle.line_screen.specs.Drawing.{fitted_col, left_col}
 
 -- the column after a wide character
 abbrev pub wide_col : ℕ → ℕ → ℕ
@@ -43,40 +39,3 @@ enough_by columns col false e = let odd = eqb-false (col % 2) 0 e in inr (grind 
 
 pub enough_wide : (columns col : ℕ) → Leads columns (suc (columns / 2)) col
 enough_wide columns col = enough_by columns col (col % 2 == 0) refl
-
--- ---- back over one that ends behind its own columns
-
-module _ (columns : ℕ) (there : Position) (low : there.col < columns) (settled : Settled columns there.col) where
-  abbrev wide_end : Bool → Bool → Position
-  wide_end b c =
-      let fitted = if b then there else next_row there in
-      position_within_limit (if c then next_row (right 2 fitted) else right 2 fitted)
-
-  even_by : (b c : Bool) → nat_le (there.col + 2) columns ≡ b → ((if b then there else next_row there).col + 2 == columns) ≡ c → columns % 2 ≡ 0 → (wide_end b c).col ≡ 2
-      → place 0 (wide_end b c).row ≡ position_within_limit there
-  even_by b true fits full even col = absurd (omega (arith, col))
-  even_by true false fits full even col = let first : 0 ≡ there.col = omega (arith, col) in ap (λ n. place n (min there.row 65535)) first
-  even_by false false fits full even col = let beyond = leb-false (there.col + 2) columns fits in absurd (omega (arith, beyond, low, even, settled.0))
-
-  odd_by : (b c : Bool) → nat_le (there.col + 2) columns ≡ b → ((if b then there else next_row there).col + 2 == columns) ≡ c → columns % 2 ≡ 1 → (wide_end b c).col ≡ 2 → (wide_end b c).row < 65535
-      → place (columns - 1) ((wide_end b c).row - 1) ≡ position_within_limit there
-  odd_by b true fits full odd col row = absurd (omega (arith, col))
-  odd_by true false fits full odd col row = absurd (omega (arith, col, settled.1 odd))
-  odd_by false false fits full odd col row =
-      let beyond = leb-false (there.col + 2) columns fits in
-      let same_col : columns - 1 ≡ there.col = omega (arith, beyond, low) in
-      let same_row : min (there.row + 1) 65535 - 1 ≡ min there.row 65535 = omega (arith, row) in
-      λ i. place (same_col i) (same_row i)
-
-  abbrev last : Position
-  last = position_within_limit (leave columns (right 2 (fit columns 2 there)))
-
-  pub even_back : (end : Position) → end ≡ last → columns % 2 ≡ 0 → end.col ≡ 2 → place 0 end.row ≡ position_within_limit there
-  even_back end is even col =
-      ap (λ (p : Position). place 0 p.row) is
-      ∙ even_by (nat_le (there.col + 2) columns) ((fit columns 2 there).col + 2 == columns) refl refl even (ap (λ (p : Position). p.col) (sym is) ∙ col)
-
-  pub odd_back : (end : Position) → end ≡ last → columns % 2 ≡ 1 → end.col ≡ 2 → end.row < 65535 → place (columns - 1) (end.row - 1) ≡ position_within_limit there
-  odd_back end is odd col row =
-      ap (λ (p : Position). place (columns - 1) (p.row - 1)) is
-      ∙ odd_by (nat_le (there.col + 2) columns) ((fit columns 2 there).col + 2 == columns) refl refl odd (ap (λ (p : Position). p.col) (sym is) ∙ col) (subst (λ (p : Position). p.row < 65535) is row)

@@ -1,6 +1,6 @@
 -- Printable ASCII with styles that doesn't fill its row.
-use Rattle.std.proofs.Common.{◌≡◌, ℕ, ◌+◌, ◌<◌, ◌==◌, Bool, true, false, List, [], ◌∷◌, ◌++◌, map, length, take, drop, min, Result, Ok, Err, IsTrue, refl, sym, ap, ap₂, ◌∙◌, subst, append_assoc, append-nil, length-append, arith, if◌then◌else◌}
-use Rattle.std.proofs.lemmas.Bool.{ne_eqb, eqb-true, false≢true}
+use Rattle.std.proofs.Common.{◌≡◌, ℕ, ◌+◌, ◌<◌, ◌==◌, Bool, false, List, [], ◌∷◌, ◌++◌, map, length, take, drop, Result, Ok, Err, IsTrue, refl, sym, ap, ap₂, ◌∙◌, subst, append_assoc, append-nil, length-append, arith, if◌then◌else◌}
+use Rattle.std.proofs.lemmas.Bool.{ne_eqb}
 use Rattle.std.proofs.lemmas.List.{map-append, take-append-drop}
 use Rattle.std.specs.Result.{IsErrAnd}
 use Rattle.line_config.specs.declared.device.DeviceFailed.{DeviceFailed}
@@ -12,42 +12,7 @@ use Rattle.line_screen.specs.Colours.{SgrSpan, style_bytes, letters_in_style, pa
 use Rattle.line_screen.specs.Colours.PaintedItem.{Shaded, Begins}
 use Rattle.line_screen.proofs.Runs.{sent_run, col_after_run}
 use Rattle.line_screen.proofs.StyledTextLemmas.{bare_of}
-use Rattle.line_screen.proofs.PaintRuns.{shaded_run, shades_are, bares_are, bare_sent, painted-append, framed_bytes}
-use Rattle.line_screen.proofs.PaintCode.{take_fewer, drop_fewer, take_none, drop_none}
-
--- ---- letters of one style
-
-pub plain_within : (style letters : List ℕ) → true ≡ (length style == 0) → letters ≡ letters_within style letters
-plain_within [] [] h = refl
-plain_within [] (c ∷ letters) h = refl
-plain_within (p ∷ style) letters h = let none = eqb-true (length (p ∷ style)) 0 (sym h) in absurd (omega arith)
-
-pub framed_within : (style letters : List ℕ) → false ≡ (length style == 0) → false ≡ (length letters == 0) → style_bytes style ++ letters ++ no_style ≡ letters_within style letters
-framed_within [] letters h k = absurd (false≢true h)
-framed_within (p ∷ style) [] h k = absurd (false≢true k)
-framed_within (p ∷ style) (c ∷ letters) h k = refl
-
--- ---- span by span
-
-pub next_within : (spans behind : List SgrSpan) (s : SgrSpan) (letters front back : List ℕ) (count : ℕ) → spans ≡ s ∷ behind → count ≡ min s.len (length letters)
-    → front ≡ take count letters → back ≡ drop count letters
-    → spans_within spans letters ≡ letters_within s.style front ++ spans_within behind back
-next_within spans behind s letters front back count is counted front_is back_is =
-    let f : front ≡ take s.len letters = front_is ∙ ap (λ k. take k letters) counted ∙ take_fewer s.len letters in
-    let b : back ≡ drop s.len letters = back_is ∙ ap (λ k. drop k letters) counted ∙ drop_fewer s.len letters in
-    ap (λ ss. spans_within ss letters) is
-    ∙ ap (λ xs. letters_within s.style xs ++ spans_within behind (drop s.len letters)) (sym f)
-    ∙ ap (λ xs. letters_within s.style front ++ spans_within behind xs) (sym b)
-
-none_within : (spans : List SgrSpan) → spans_within spans [] ≡ []
-none_within [] = refl
-none_within (s ∷ spans) =
-    ap (λ xs. letters_within s.style xs ++ spans_within spans (drop s.len [])) (take_none s.len)
-    ∙ ap (spans_within spans) (drop_none s.len) ∙ none_within spans
-
-pub end_within : (spans : List SgrSpan) (letters : List ℕ) → (length letters == 0) ≡ true → spans_within spans letters ≡ []
-end_within spans [] none = none_within spans
-end_within spans (c ∷ letters) none = let zero = eqb-true (length (c ∷ letters)) 0 none in absurd (omega arith)
+use Rattle.line_screen.proofs.PaintRuns.{shaded_run, shades_are, items_bare, items_sent, painted-append, framed_bytes}
 
 -- ---- what is sent
 
@@ -76,7 +41,7 @@ module _ {D : Type 0} (held : D → List ℕ) (failed : D → Bool) where
 
 letters_are : (style letters : List ℕ) → all_unpainted (letters_in_style style letters) ≡ map Letter letters
 letters_are style [] = refl
-letters_are [] (c ∷ letters) = bares_are (c ∷ letters)
+letters_are [] (c ∷ letters) = items_bare (map Letter (c ∷ letters))
 letters_are (p ∷ style) (c ∷ letters) = bare_of (map (Shaded (p ∷ style)) (c ∷ letters)) (Begins [] ∷ []) ∙ append-nil _ ∙ shades_are (p ∷ style) (c ∷ letters)
 
 module _ (columns : ℕ) where
@@ -90,7 +55,7 @@ module _ (columns : ℕ) where
 
   bare_in_row : (letters : List ℕ) (col : ℕ) → col + length letters < columns → bytes_of_all_painted columns (bare_letters letters) col ≡ letters
   bare_in_row letters col room =
-      sym (bare_sent columns letters col) ∙ sent_run columns letters col (omega arith) (omega arith)
+      sym (items_sent columns (map Letter letters) col) ∙ sent_run columns letters col (omega arith) (omega arith)
       ∙ ap (λ b. letters ++ break_if b) (in_row letters col room) ∙ append-nil letters
 
   style_in_row : (style letters : List ℕ) (col : ℕ) → col + length letters < columns → bytes_of_all_painted columns (letters_in_style style letters) col ≡ letters_within style letters
@@ -117,7 +82,7 @@ module _ (columns : ℕ) where
       (ap (bytes_of_all_painted columns (painted_letters spans back)) here ∙ spans_in_row spans back (col + length front) (omega arith))
 
   spans_are : (spans : List SgrSpan) (letters : List ℕ) → all_unpainted (painted_letters spans letters) ≡ map Letter letters
-  spans_are [] letters = bares_are letters
+  spans_are [] letters = items_bare (map Letter letters)
   spans_are (s ∷ spans) letters =
       let front = take s.len letters in
       let back = drop s.len letters in

@@ -13,7 +13,7 @@ use Rattle.line_help.specs.declared.helpers.style.Span as span
 use Rattle.line_help.specs.Paints.{Marks, first_mark}
 use Rattle.line_screen.specs.declared.drawing.painted.Brush as brush
 use Rattle.line_screen.specs.declared.drawing.painted.Spans as spans
-use Rattle.line_screen.specs.declared.drawing.coloured.Painting as painting
+use Rattle.line_screen.specs.declared.drawing.whole.Painting as painting
 use Rattle.line_screen.specs.declared.drawing.rest.Rest as rest
 use Rattle.line_screen.specs.Styles.{numbers}
 use Rattle.line_screen.specs.Drawing.{SendsTo, DrawnItem, Widths, blanks, is_letter, drawn_item, split_rows, row_break, no_style, break_if, break_unless, fitted_col, bytes_of_item, col_after, in_fence, erase_to_end, clearing_bytes, move_bytes}
@@ -74,7 +74,7 @@ abbrev pub all_unpainted : List PaintedItem → List DrawnItem
 all_unpainted xs = flat_map items_without_style xs
 
 abbrev pub bare_letters : List ℕ → List PaintedItem
-bare_letters letters = map (λ c. Bare (Letter c)) letters
+bare_letters letters = map Bare (map Letter letters)
 
 -- letters of one style, between its beginning and its end
 abbrev pub letters_in_style : List ℕ → List ℕ → List PaintedItem

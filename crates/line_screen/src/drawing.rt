@@ -1,6 +1,6 @@
 //! Drawings, written straight to a sink: each function writes its bytes and stores nothing.
 
-pub(crate) mod coloured;
+pub(crate) mod appended;
 pub(crate) mod over;
 pub(crate) mod painted;
 pub(crate) mod rest;

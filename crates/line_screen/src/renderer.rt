@@ -1,17 +1,18 @@
 //! The renderer: the calls by which an editor draws.
 
-ghost use Rattle.std.specs.Prelude.{◌≡◌, ◌≤◌, ◌++◌, ◌∷◌, [], IsTrue, OnOk, OnErr, IfErr, false, option_copied, option_map};
-ghost use Rattle.line_screen.specs.ScreenCalls.{Screen, screen_of, sink_of, canvas_of, display_answer, styles_by, info_styles, line_styles};
+ghost use Rattle.std.specs.Prelude.{◌≡◌, ◌≤◌, [], false, option_copied, option_map};
+ghost use Rattle.line_screen.specs.ScreenCalls.{screen_of, sink_of, canvas_of, display_answer, styles_of, info_styles, line_styles};
 ghost use Rattle.line_screen.specs.Colours.{brush_spans, styles_in, styles_after};
-ghost use Rattle.line_editor.specs.Values.{marks_seen, seen_marks};
+ghost use Rattle.line_editor.specs.Sights.{drawn_spans};
+ghost use Rattle.line_editor.specs.Values.{marks_seen};
 
-use crate::drawing::coloured::{Painting, paint};
+use crate::drawing::appended::draw_behind;
 use crate::drawing::over::write_letters;
 use crate::drawing::painted::Brush;
 use crate::drawing::rest::{Rest, draw_rest};
 use crate::drawing::sequences::{clear, go, move_and_erase, send_flushed};
 use crate::drawing::shifted::{move_and_take_out, put_before};
-use crate::drawing::whole::{DrawnTexts, draw, draw_behind};
+use crate::drawing::whole::{Painting, paint};
 use crate::grid::Grid;
 use crate::measuring::{measure_in, measure_near, measure_on};
 use line_buffer::{GraphemeClusterMode, Layout, LineBuffer, Position, TabStops, Unit};
@@ -131,20 +132,9 @@ impl<D: Sink + Drop> Renderer for ScreenRenderer<D> {
         told: bool,
     ) -> Result<(), ReadlineError> {
         let row = old_layout.map(|layout| layout.cursor.row);
-        let grid = self.grid;
         let info = hint.unwrap_or("");
-        if let Some(highlighter) = highlighter {
-            let painting = painting_of(highlighter, marked, told, prompt, line, info, new_layout);
-            return answer(paint(&mut self.sink, grid, row, &painting));
-        }
-        let shown = DrawnTexts {
-            prompt,
-            line: line.as_str(),
-            info,
-            end: new_layout.end,
-            cursor: new_layout.cursor,
-        };
-        answer(draw(&mut self.sink, grid, row, shown))
+        let painting = painting_of(highlighter, marked, told, prompt, line, info, new_layout);
+        answer(paint(&mut self.sink, self.grid, row, &painting))
     }
 
     fn write_and_flush(&mut self, text: &str) -> Result<(), ReadlineError> {
@@ -292,10 +282,10 @@ impl<D: Sink + Drop> Renderer for ScreenRenderer<D> {
     }
 }
 
-/// The texts of a line with a highlighter's styles: the line's own if it is marked, and after it
-/// those of a hint, or of a message if `told`.
+/// The texts of a line, with a highlighter's styles if there is one: the line's own if it is marked,
+/// and after it those of a hint, or of a message if `told`.
 fn painting_of<'a, H: Highlighter>(
-    highlighter: &'a H,
+    highlighter: Option<&'a H>,
     marked: bool,
     told: bool,
     prompt: &'a str,
@@ -303,9 +293,10 @@ fn painting_of<'a, H: Highlighter>(
     info: &'a str,
     layout: &Layout,
 ) -> Painting<'a, H>
-    ensures styles { styles_in H.marks result ≡ styles_by (seen_marks marked told
-        (H.marks highlighter.now)) layout.now.default_prompt prompt.now line.now.text
-        line.now.place info.now }
+    ensures styles { styles_in H.marks result
+        ≡ styles_of (drawn_spans
+        (marks_seen marked told (option_map H.marks (option_copied highlighter.entry)))
+        layout.now.default_prompt prompt.now line.now.text line.now.place info.now) }
     ensures prompt { result.prompt.text.now ≡ prompt.now }
     ensures line { result.line.text.now ≡ line.now.text }
     ensures info { result.info.text.now ≡ info.now }
@@ -314,12 +305,12 @@ fn painting_of<'a, H: Highlighter>(
 {
     Painting {
         prompt: Brush {
-            highlighter: Some(highlighter),
+            highlighter,
             part: Part::Prompt(layout.default_prompt),
             text: prompt,
         },
-        line: brush_of_line(Some(highlighter), marked, line),
-        info: brush_of_info(Some(highlighter), told, info),
+        line: brush_of_line(highlighter, marked, line),
+        info: brush_of_info(highlighter, told, info),
         end: layout.end,
         cursor: layout.cursor,
     }

@@ -13,7 +13,7 @@ ghost use Rattle.line_config.specs.Sending.{Sends};
 
 use crate::drawing::sequences::send;
 use crate::drawing::styles::{is_plain, send_style, send_styled_letter};
-use crate::drawing::text::{leave_full, make_room, send_letters, send_tab, send_text};
+use crate::drawing::text::{leave_full, make_room, send_letters, send_rows, send_tab, send_text};
 use crate::grid::{Grid, blanks, is_letter, tab_columns};
 use line_buffer::{Unit, is_printable_text};
 use line_config::{DeviceFailed, Sink};
@@ -548,7 +548,7 @@ fn send_other<D: Sink, H: Highlighter>(
         grid.columns D.held D.has_failed sink.old sink.new result }
 {
     match brush.next(Mark::first()) {
-        None => send_text(sink, grid, start, brush.text),
+        None => send_rows(sink, grid, start, brush.text),
         Some(_) => send_painted_rows(sink, grid, start, brush, Spans::all(), brush.text),
     }
 }

@@ -6,9 +6,9 @@ ghost use Rattle.line_screen.specs.Colours.{bytes_of_all_painted, painted_text, 
 ghost use Rattle.line_screen.specs.Measure.{widths_by};
 ghost use Rattle.line_config.specs.Sending.{Sends};
 
-use crate::drawing::coloured::send_part;
 use crate::drawing::painted::{Brush, send_painted_from};
 use crate::drawing::sequences::{flush, send, send_move};
+use crate::drawing::whole::send_part;
 use crate::grid::Grid;
 use line_buffer::{Position, Unit};
 use line_config::{DeviceFailed, Sink};

@@ -262,7 +262,7 @@ fn send_next_row<D: Sink>(
 
 /// A text row by row. Not inlined, so that `send_text` needs no frame for it if all is one row.
 #[inline(never)]
-fn send_rows<D: Sink>(
+pub(crate) fn send_rows<D: Sink>(
     sink: &mut D,
     grid: Grid,
     start: Unit,

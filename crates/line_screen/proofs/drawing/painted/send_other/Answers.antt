@@ -12,9 +12,9 @@ returns-in-None g c =
     let wide = widths_by c.args.grid.mode c.args.grid.tab c.args.grid.columns in
     let text = c.args.brush.now.text.now in
     let paints = brush_paints g.H.Highlighter.marks c.args.brush.now in
-    let All : List PaintedItem → Type 0 = λ items. SendsPainted items c.args.start c.args.grid.columns g.D.Sink.held g.D.Sink.has_failed c.args.sink.now c.send_text.new.sink c.send_text.result in
+    let All : List PaintedItem → Type 0 = λ items. SendsPainted items c.args.start c.args.grid.columns g.D.Sink.held g.D.Sink.has_failed c.args.sink.now c.send_rows.new.sink c.send_rows.result in
     subst All (bare_text wide (all_spans paints) text (no_spans paints c.first.result c.first.ensures c.in-None.ensures))
-    (sends_items g.D.Sink.held g.D.Sink.has_failed c.args.grid.columns (text_items wide text) c.args.start c.send_text.ensures)
+    (sends_items g.D.Sink.held g.D.Sink.has_failed c.args.grid.columns (text_items wide text) c.args.start c.send_rows.ensures)
 
 pub returns-in-Some : goal.returns-in-Some
 returns-in-Some g c =

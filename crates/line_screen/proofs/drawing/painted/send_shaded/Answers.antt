@@ -5,7 +5,8 @@ use Rattle.line_screen.specs.Styles.{numbers}
 use Rattle.line_screen.specs.Drawing.{no_style}
 use Rattle.line_screen.specs.Colours.{end_of, PaintedItem, style_bytes, bytes_of_all_painted, SendsPainted}
 use Rattle.line_screen.specs.Colours.PaintedItem.{Shaded}
-use Rattle.line_screen.proofs.PaintRuns.{sends_framed, sends_bare, shaded_none}
+use Rattle.line_screen.specs.Drawing.DrawnItem.{Letter}
+use Rattle.line_screen.proofs.PaintRuns.{sends_framed, sends_items, shaded_none}
 use Rattle.line_screen.proofs.Sendings.{sends_to_then, sends_to_cut}
 use Rattle.line_screen.proofs.drawing.painted.send_shaded.Goals as goal
 
@@ -13,7 +14,7 @@ pub returns-then-is_plain : goal.returns-then-is_plain
 returns-then-is_plain g c =
     let All : List PaintedItem → Type 0 = λ items. SendsPainted items c.args.col c.args.grid.columns g.D.Sink.held g.D.Sink.has_failed c.args.sink.now c.send_letters.new.sink c.send_letters.result in
     subst All (shaded_none (numbers c.args.style) c.args.letters.now (c.if-is_plain.ensures ∙ plain_none c.args.style))
-    (sends_bare g.D.Sink.held g.D.Sink.has_failed c.args.grid.columns c.args.letters.now c.args.col c.send_letters.ensures)
+    (sends_items g.D.Sink.held g.D.Sink.has_failed c.args.grid.columns (map Letter c.args.letters.now) c.args.col c.send_letters.ensures)
 
 pub returns-in_err-send_style : goal.returns-in_err-send_style
 returns-in_err-send_style g c =

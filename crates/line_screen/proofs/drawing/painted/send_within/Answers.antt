@@ -1,8 +1,9 @@
 -- Letters span by span, and those after the last one.
-use Rattle.std.proofs.Common.{map, sym, ap, ◌∙◌}
+use Rattle.std.proofs.Common.{map, refl, sym, ap, ◌∙◌}
 use Rattle.line_screen.specs.Styles.{numbers}
 use Rattle.line_screen.specs.Colours.{letters_within, spans_within, brush_paints, brush_spans, span_of}
-use Rattle.line_screen.proofs.WithinLemmas.{next_within, end_within, sends_rest, sends_end, sends_part}
+use Rattle.line_screen.proofs.PaintCode.{span_next, no_letters}
+use Rattle.line_screen.proofs.WithinLemmas.{sends_rest, sends_end, sends_part}
 use Rattle.line_screen.proofs.drawing.painted.send_within.Goals as goal
 
 pub returns-in_err-send_styled-in-Some : goal.returns-in_err-send_styled-in-Some
@@ -16,7 +17,7 @@ returns-in_err-send_styled-in-Some g c =
     sends_part g.D.Sink.held g.D.Sink.has_failed _ (spans_within (brush_spans g.H.Highlighter.marks c.args.brush.now) c.args.letters.now) (spans_within left rest)
     (letters_within (numbers c.in-Some.span.style) front) (spans_within behind back)
     c.loop-rest.invariant
-    (next_within left behind (span_of c.in-Some.span) rest front back c.min-len.result (ap (map span_of) c.in-Some.ensures) c.min-len.ensures c.split_at.ensures.front c.split_at.ensures.back)
+    (span_next letters_within spans_within (λ s ss letters. refl) left behind (span_of c.in-Some.span) rest front back c.min-len.result (ap (map span_of) c.in-Some.ensures) c.min-len.ensures c.split_at.ensures.front c.split_at.ensures.back)
     c.from_residual.ensures.1 c.in_err-send_styled-in-Some.ensures.err c.in_err-send_styled-in-Some.ensures.begins
 
 pub returns-in-None : goal.returns-in-None
@@ -31,4 +32,4 @@ returns g c =
     let left = map span_of (brush_paints g.H.Highlighter.marks c.args.brush.now c.loop-rest.mark) in
     let rest = c.loop-rest.rest.now in
     sends_end g.D.Sink.held g.D.Sink.has_failed (spans_within (brush_spans g.H.Highlighter.marks c.args.brush.now) c.args.letters.now) (spans_within left rest)
-    c.loop-rest.invariant (end_within left rest (sym c.is_empty.ensures ∙ c.loop-rest-test.false))
+    c.loop-rest.invariant (no_letters letters_within spans_within (λ s ss letters. refl) (λ style. refl) refl left rest (sym c.is_empty.ensures ∙ c.loop-rest-test.false))

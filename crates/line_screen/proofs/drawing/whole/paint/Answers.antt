@@ -3,7 +3,7 @@ use Rattle.std.proofs.Common.{ℕ, Option, sym, subst}
 use Rattle.line_config.specs.Sending.{Sends}
 use Rattle.line_screen.specs.Colours.{painted_bytes, styles_in}
 use Rattle.line_screen.specs.Measure.{widths_by}
-use Rattle.line_screen.proofs.drawing.coloured.paint.Goals as goal
+use Rattle.line_screen.proofs.drawing.whole.paint.Goals as goal
 
 pub returns-in-Some-clause-sends : goal.returns-in-Some-clause-sends
 returns-in-Some-clause-sends g c =

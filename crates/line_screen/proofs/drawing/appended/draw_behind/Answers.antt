@@ -5,8 +5,8 @@ use Rattle.line_config.specs.Sending.{Takes, TakesSome}
 use Rattle.line_config.proofs.Taking.{some_then, sends_refused}
 use Rattle.line_screen.specs.Drawing.{bytes_of_items, next_row, text_items}
 use Rattle.line_screen.specs.Measure.{widths_by, in_row}
-use Rattle.line_screen.proofs.drawing.whole.draw_behind.Goals as goal
-use Rattle.line_screen.proofs.drawing.whole.draw_behind.Goals.{then-at-grid-3, else-at-grid-3}
+use Rattle.line_screen.proofs.drawing.appended.draw_behind.Goals as goal
+use Rattle.line_screen.proofs.drawing.appended.draw_behind.Goals.{then-at-grid-3, else-at-grid-3}
 
 pub returns-in_err-flush-clause-sends : goal.returns-in_err-flush-clause-sends
 returns-in_err-flush-clause-sends g c =

@@ -6,7 +6,7 @@ use Rattle.line_screen.specs.Drawing.{no_style}
 use Rattle.line_screen.specs.Colours.{PaintedItem, bytes_of_all_painted, painted_text, brush_spans}
 use Rattle.line_screen.specs.Measure.{widths_by}
 use Rattle.line_screen.proofs.PaintCode.{no_text}
-use Rattle.line_screen.proofs.drawing.coloured.send_end.Goals as goal
+use Rattle.line_screen.proofs.drawing.whole.send_end.Goals as goal
 
 pub returns-then-is_empty : goal.returns-then-is_empty
 returns-then-is_empty g c =
