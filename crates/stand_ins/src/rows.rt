@@ -13,12 +13,27 @@ pub trait Player {
 /// Makes each row's call, and compares its answer. `nothing` stands for an empty text or no answer.
 pub fn rows_hold<P: Player>(alloc: Global, player: &mut P, table: &str) -> Result<(), Fail> {
     for row in table.lines() {
-        if let Some((call, answer)) = call_and_answer(row) {
+        if let Some((call, wanted)) = call_and_answer(row) {
             let said = player.play(alloc, call)?;
-            if or_nothing(said.as_str()) != or_nothing(answer) {
-                return Err(Fail::new(format_args!("{row}, but it answers {said}")));
-            }
+            answers(row, said.as_str(), wanted)?;
         }
+    }
+    Ok(())
+}
+
+fn answers(row: &str, said: &str, wanted: &str) -> Result<(), Fail> {
+    if or_nothing(said) == or_nothing(wanted) {
+        Ok(())
+    } else {
+        Err(Fail::new(format_args!("{row}, but it answers {said}")))
+    }
+}
+
+/// Makes the calls of each table by its own player, as `rows_hold` does.
+pub fn each_holds<P: Player + Copy>(alloc: Global, tables: &[(P, &str)]) -> Result<(), Fail> {
+    for (player, table) in tables {
+        let mut player = *player;
+        rows_hold(alloc, &mut player, table)?;
     }
     Ok(())
 }
@@ -39,6 +54,11 @@ pub fn tables_hold<P: Starts + Drop>(alloc: Global, tables: &[&str]) -> Result<(
         table_holds::<P>(alloc, table)?;
     }
     Ok(())
+}
+
+/// What a test fails with at a row that it can't read: `no call: ab`.
+pub fn misread(what: &str, row: &str) -> Fail {
+    Fail::new(format_args!("{what}: {row}"))
 }
 
 /// A text without the blanks at its ends.

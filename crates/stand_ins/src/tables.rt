@@ -11,13 +11,21 @@ pub fn call_and_answer(row: &str) -> Option<(&str, &str)> {
     if row.trim().is_empty() {
         return None;
     }
-    let (call, answer) = row.split_once(" = ").unwrap_or((row, ""));
+    let (call, answer) = parted(row, " = ");
     Some((call.trim(), answer.trim()))
+}
+
+/// The text before a mark, and the text after it; without a mark the whole text, and nothing.
+pub fn parted<'t>(text: &'t str, mark: &str) -> (&'t str, &'t str) {
+    match text.split_once(mark) {
+        Some(parts) => parts,
+        None => (text, ""),
+    }
 }
 
 /// The first word, and the text after it.
 pub fn word_and_rest(text: &str) -> (&str, &str) {
-    let (word, rest) = text.split_once(' ').unwrap_or((text, ""));
+    let (word, rest) = parted(text, " ");
     (word, rest.trim_start_matches(' '))
 }
 
@@ -111,30 +119,46 @@ fn push_bytes(alloc: Global, bytes: &mut Vec<u8>, named: &str) -> Result<(), All
 /// `ababab`.
 pub fn meant_bytes(alloc: Global, shown: &str) -> Result<Vec<u8>, AllocError> {
     let mut bytes = Vec::new(alloc);
+    push_meant_bytes(alloc, &mut bytes, shown)?;
+    Ok(bytes)
+}
+
+/// Appends the bytes of such a text.
+pub fn push_meant_bytes(alloc: Global, bytes: &mut Vec<u8>, shown: &str) -> Result<(), AllocError> {
     for piece in shown.split('‹') {
         let (named, text) = piece.split_once('›').unwrap_or(("", piece));
-        push_bytes(alloc, &mut bytes, named)?;
+        push_bytes(alloc, bytes, named)?;
         bytes.extend_from_slice(meant(alloc, text)?.as_bytes())?;
     }
-    Ok(bytes)
+    Ok(())
 }
 
 /// Bytes with pictures; those that aren't UTF-8 by their numbers.
 pub fn pictured_bytes(alloc: Global, bytes: &[u8]) -> Result<String, AllocError> {
     let mut shown = String::new(alloc);
-    for chunk in bytes.utf8_chunks() {
-        shown.push_str(pictured(alloc, chunk.valid())?.as_str())?;
-        for byte in chunk.invalid() {
-            write!(shown, "‹{byte:02x}›")?;
-        }
-    }
+    push_chunks(&mut shown, bytes)?;
     Ok(shown)
+}
+
+fn push_chunks(shown: &mut String, bytes: &[u8]) -> Result<(), AllocError> {
+    for chunk in bytes.utf8_chunks() {
+        push_pictured(shown, chunk.valid())?;
+        push_numbers(shown, chunk.invalid())?;
+    }
+    Ok(())
+}
+
+fn push_numbers(shown: &mut String, bytes: &[u8]) -> Result<(), AllocError> {
+    for byte in bytes {
+        write!(shown, "‹{byte:02x}›")?;
+    }
+    Ok(())
 }
 
 /// A line and a place in it, in bytes, marked by a bar: `ab|` is the end of `ab`, and `ab|+5` five
 /// bytes after it.
 pub fn line_and_place(alloc: Global, marked: &str) -> Result<(String, usize), AllocError> {
-    let (before, behind) = marked.split_once('|').unwrap_or((marked, ""));
+    let (before, behind) = parted(marked, "|");
     let mut line = meant(alloc, before)?;
     let place = line.len();
     let beyond: Option<usize> = behind

@@ -9,8 +9,8 @@ use line_buffer::{
 };
 use stand_ins::commands::movement_named;
 use stand_ins::lines::{line_of, shown_of};
-use stand_ins::rows::{Player, Starts, raised, rows_hold};
-use stand_ins::tables::pictured;
+use stand_ins::rows::{Player, Starts, misread, raised, rows_hold};
+use stand_ins::tables::{parted, pictured};
 use std::alloc::{AllocError, Global};
 use std::test::Fail;
 
@@ -51,7 +51,7 @@ pub(crate) fn begun<'a>(
     let Some(quoted) = call.strip_prefix('\'') else {
         return Ok(call);
     };
-    let (shown, call) = quoted.split_once('\'').unwrap_or((quoted, ""));
+    let (shown, call) = parted(quoted, "'");
     *line = line_of(alloc, shown)?;
     Ok(call.trim_start())
 }
@@ -261,7 +261,7 @@ fn put(
         "insert" => raised(line.insert(alloc, a.text.chars().next().unwrap_or(' '), a.n(), log)),
         "yank" => raised(line.yank(alloc, a.text, a.n(), log)),
         "yank_pop" => popped(alloc, line, a, log),
-        other => Err(Fail::new(format_args!("no call: {other}"))),
+        other => Err(misread("no call", other)),
     }
 }
 

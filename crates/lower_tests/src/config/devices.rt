@@ -5,8 +5,8 @@ use line_config::{
     DeviceFailed, ReadSource, Recorded, Sink, SliceSource, Source, VecSink, WriteSink,
 };
 use stand_ins::devices::{Pieces, Taker, Turns};
-use stand_ins::rows::{Player, raised, rows_hold, trimmed};
-use stand_ins::tables::{or_nothing, pictured_bytes, shown};
+use stand_ins::rows::{Player, each_holds, misread, raised, trimmed};
+use stand_ins::tables::{or_nothing, parted, pictured_bytes, shown};
 use std::alloc::{AllocError, Global};
 use std::cell::Cell;
 use std::io::Write;
@@ -120,7 +120,7 @@ fn holds(alloc: Global, name: &str) -> Result<bool, Fail> {
         "hands back what was read" => Ok(hands_back()),
         "reads more than its array" => reads_all(alloc),
         "writes more than its array" => writes_all(alloc),
-        other => Err(Fail::new(format_args!("no case: {other}"))),
+        other => Err(misread("no case", other)),
     }
 }
 
@@ -162,15 +162,15 @@ const CASES: &str = "
     a recorded writer = abc, 3 in (1, 1)
     ";
 
+const TABLES: [(Ask, &str); 3] = [
+    (Ask::Read, READS_IN_PIECES),
+    (Ask::Written, WRITES_THAT_TAKE_A_PART_OR_FAIL),
+    (Ask::Named, CASES),
+];
+
 #[test]
 fn devices(rt: HostRuntime) -> Result<(), Fail> {
-    rows_hold(rt.alloc(), &mut Ask::Read, READS_IN_PIECES)?;
-    rows_hold(
-        rt.alloc(),
-        &mut Ask::Written,
-        WRITES_THAT_TAKE_A_PART_OR_FAIL,
-    )?;
-    rows_hold(rt.alloc(), &mut Ask::Named, CASES)
+    each_holds(rt.alloc(), &TABLES)
 }
 
 /// A reader of six letters with turns.
@@ -415,7 +415,7 @@ fn wrote(sink: &mut WriteSink<Taker<'_>>, calls: &Calls) -> Result<bool, Fail> {
 /// What a writer with these turns takes of `abcd`, what stays unsent, and whether the flush
 /// succeeded.
 fn written_by(alloc: Global, turns: &str) -> Result<String, Fail> {
-    let (turns, flushes) = turns.split_once(" | ").unwrap_or((turns, ""));
+    let (turns, flushes) = parted(turns, " | ");
     let calls = Calls::none();
     let mut sink = sink_over(alloc, turns, flushes, &calls);
     let passed = wrote(&mut sink, &calls)?;

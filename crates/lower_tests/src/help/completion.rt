@@ -14,7 +14,7 @@ use line_help::{
 };
 use stand_ins::lines::{line_of, shown_of};
 use stand_ins::rows::{Player, raised, rows_hold, same};
-use stand_ins::tables::{line_and_place, marked, meant, word_and_rest};
+use stand_ins::tables::{line_and_place, marked, meant, parted, word_and_rest};
 use std::alloc::{AllocError, Global};
 use std::cell::Cell;
 use std::test::Fail;
@@ -417,7 +417,7 @@ impl<C: Completer> Updater<C> {
 
 impl<C: Completer> Player for Updater<C> {
     fn play(&mut self, alloc: Global, call: &str) -> Result<String, Fail> {
-        let (line, elected) = call.split_once(':').unwrap_or((call, ""));
+        let (line, elected) = parted(call, ":");
         let start = line.find('[').unwrap_or(0);
         let line = line.trim().replace(alloc, "[", "")?;
         raised(self.updated(alloc, line.as_str(), start, elected.trim()))

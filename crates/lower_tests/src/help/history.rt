@@ -519,7 +519,7 @@ fn place_is_set<H: History>(history: &H) -> bool {
 fn hints(rt: HostRuntime) -> Result<(), Fail> {
     let history = with_lines(rt.alloc(), "hello world|")?;
     if !place_is_set(&history) {
-        return Err(Fail::new(format_args!("a place is not as it is set")));
+        return Err(Fail::new("a place is not as it is set"));
     }
     rows_hold(rt.alloc(), &mut Hinted { history }, HINTS)
 }

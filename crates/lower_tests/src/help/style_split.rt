@@ -3,7 +3,7 @@
 use crate::help::asks::Ask;
 use crate::help::styles::paints;
 use line_help::{Colour, PromptHighlighter, Span, StandardHighlighter, Style, split_styles};
-use stand_ins::rows::{rows_hold, same};
+use stand_ins::rows::{each_holds, same};
 use stand_ins::tables::{meant, pictured};
 use std::alloc::{AllocError, Global};
 use std::test::Fail;
@@ -111,11 +111,15 @@ pub(crate) fn split_told(alloc: Global, call: &str) -> Result<String, AllocError
     in_words(alloc, text.as_str(), spans.as_slice())
 }
 
+const TABLES: [(Ask, &str); 3] = [
+    (Ask::Split, SPLIT),
+    (Ask::Split, DROPPED),
+    (Ask::Split, OTHERS),
+];
+
 #[test]
 fn texts_are_split(rt: HostRuntime) -> Result<(), Fail> {
-    rows_hold(rt.alloc(), &mut Ask::Split, SPLIT)?;
-    rows_hold(rt.alloc(), &mut Ask::Split, DROPPED)?;
-    rows_hold(rt.alloc(), &mut Ask::Split, OTHERS)
+    each_holds(rt.alloc(), &TABLES)
 }
 
 // The spans are the first three bytes in faint and the fourth in red.

@@ -7,7 +7,7 @@ use line_config::{Config, EditMode, ReadlineError};
 use line_keys::{InputState, KeyEvent};
 use stand_ins::asked_keys::{AskedKeys, requests_in_words};
 use stand_ins::refreshers::PlainLine;
-use stand_ins::rows::{Player, raised, rows_hold};
+use stand_ins::rows::{Player, misread, raised, rows_hold};
 use stand_ins::typing::keys_named;
 use std::alloc::Global;
 use std::test::Fail;
@@ -94,7 +94,7 @@ struct Requests;
 impl Player for Requests {
     fn play(&mut self, alloc: Global, call: &str) -> Result<String, Fail> {
         let Some((settings, keys)) = call.split_once(": ") else {
-            return Err(Fail::new(format_args!("no keys: {call}")));
+            return Err(misread("no keys", call));
         };
         let mode = if settings.contains("Vi") {
             EditMode::Vi

@@ -13,7 +13,7 @@ use stand_ins::reader_calls::tell_call;
 use stand_ins::readers::{After, KeyList};
 use stand_ins::refreshers::PlainLine;
 use stand_ins::rows::{Player, raised, rows_hold, same, trimmed};
-use stand_ins::tables::{meant, shown, word_and_rest};
+use stand_ins::tables::{meant, parted, shown, word_and_rest};
 use stand_ins::typing::{command_of, event, typed};
 use std::alloc::{AllocError, Global};
 use std::test::Fail;
@@ -103,7 +103,7 @@ struct Binder {
 
 impl Player for Binder {
     fn play(&mut self, alloc: Global, call: &str) -> Result<String, Fail> {
-        let (call, cmd) = call.split_once(':').unwrap_or((call, ""));
+        let (call, cmd) = parted(call, ":");
         let (call, keys) = word_and_rest(call);
         let bindings = &mut self.bindings;
         let said = match call {

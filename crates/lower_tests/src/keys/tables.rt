@@ -12,7 +12,7 @@ use crate::keys::commands::{bind_command, bind_handler};
 use crate::keys::telling::told;
 use line_config::{EditMode, ReadlineError};
 use line_keys::Bindings;
-use stand_ins::rows::done;
+use stand_ins::rows::{done, misread};
 use stand_ins::tables::word_and_rest;
 use std::alloc::{AllocError, Global};
 use std::test::Fail;
@@ -105,7 +105,7 @@ pub(crate) fn is_blank(line: &str) -> Result<(), Fail> {
     if line.trim().is_empty() {
         Ok(())
     } else {
-        Err(Fail::new(format_args!("no row: {line}")))
+        Err(misread("no row", line))
     }
 }
 

@@ -3,7 +3,7 @@
 
 use crate::record::undo::answered;
 use line_record::Changeset;
-use stand_ins::rows::{Player, raised, rows_hold};
+use stand_ins::rows::{Player, misread, raised, rows_hold};
 use stand_ins::tables::word_and_rest;
 use std::alloc::Global;
 use std::test::Fail;
@@ -21,7 +21,7 @@ fn told(alloc: Global, changes: &mut Changeset, call: &str, words: &str) -> Resu
         "delete" => changes.delete(alloc, place, first),
         "replace" => changes.replace(alloc, place, first, second),
         "truncate" => Ok(changes.truncate(place)),
-        other => return Err(Fail::new(format_args!("no call: {other}"))),
+        other => return Err(misread("no call", other)),
     })
 }
 

@@ -6,7 +6,7 @@ ghost use Rattle.line_record.specs.Items.{ItemsStand, ItemsStand-prop};
 use line_buffer::{DeleteListener, LineBuffer, Movement, OutOfMemory, Word, WordAction};
 use line_record::{Changeset, Joined, KillRing};
 use stand_ins::lines::{line_of, shown_of};
-use stand_ins::rows::{Player, Starts, done, raised, stands, tables_hold};
+use stand_ins::rows::{Player, Starts, done, misread, raised, stands, tables_hold};
 use stand_ins::tables::word_and_rest;
 use std::alloc::Global;
 use std::fmt::Display;
@@ -148,7 +148,7 @@ pub(crate) fn edited(
     match edited {
         Some(Ok(())) => Ok(String::new(alloc)),
         Some(Err(why)) => Err(Fail::from(why)),
-        None => Err(Fail::new(format_args!("no call, or no number for it: {call}"))),
+        None => Err(misread("no call, or no number for it", call)),
     }
 }
 

@@ -10,7 +10,8 @@
 
 use line_buffer::GraphemeClusterMode;
 use line_config::EditMode;
-use stand_ins::tables::meant_bytes;
+use stand_ins::rows::raised;
+use stand_ins::tables::{meant_bytes, parted, push_meant_bytes};
 use std::alloc::{AllocError, Global};
 
 /// How the lines of a session are read.
@@ -154,7 +155,7 @@ pub fn row_of(text: &str) -> Option<Row<'_>> {
     if keys.trim_start().starts_with('#') {
         return None;
     }
-    let (lines, _) = wanted.split_once(" | ").unwrap_or((wanted, ""));
+    let (lines, _) = parted(wanted, " | ");
     Some(Row {
         keys,
         lines,
@@ -191,15 +192,14 @@ fn control(word: &str) -> Option<u8> {
 
 fn put_key(alloc: Global, bytes: &mut Vec<u8>, word: &str) -> Result<(), AllocError> {
     if let Some(code) = control(word) {
-        bytes.push(code)?;
-        return Ok(());
+        return raised(bytes.push(code));
     }
     let (before, shown) = match word.strip_prefix("M-") {
         Some(rest) if !rest.is_empty() => (b"\x1B".as_slice(), rest),
         _ => (b"".as_slice(), named(word).unwrap_or(word)),
     };
     bytes.extend_from_slice(before)?;
-    bytes.extend_from_slice(meant_bytes(alloc, shown)?.as_slice())
+    push_meant_bytes(alloc, bytes, shown)
 }
 
 /// The bytes of typed keys.
@@ -213,9 +213,8 @@ pub fn typed(alloc: Global, keys: &str) -> Result<Vec<u8>, AllocError> {
 
 fn put_line(alloc: Global, bytes: &mut Vec<u8>, word: &str) -> Result<(), AllocError> {
     let line = if word == "\"\"" { "" } else { word };
-    bytes.extend_from_slice(meant_bytes(alloc, line)?.as_slice())?;
-    bytes.push(b'\n')?;
-    Ok(())
+    push_meant_bytes(alloc, bytes, line)?;
+    raised(bytes.push(b'\n'))
 }
 
 /// The bytes of the lines, each with its newline.
@@ -256,7 +255,7 @@ fn put_search(
     heading: &str,
     rest: &str,
 ) -> Result<(), AllocError> {
-    let (query, line) = rest.split_once('\'').unwrap_or((rest, ""));
+    let (query, line) = parted(rest, "'");
     let prompt = format!(in alloc; "␍␛[J␛[m{heading}{query}':␠␛[m{line}")?;
     put_drawn(alloc, bytes, prompt.as_str())
 }

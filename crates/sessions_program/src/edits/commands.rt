@@ -13,7 +13,7 @@ use line_keys::{Bindings, Cmd, InputState};
 use line_record::KillRing;
 use line_screen::ScreenRenderer;
 use stand_ins::commands::command_named;
-use stand_ins::tables::word_and_rest;
+use stand_ins::tables::{word_and_rest, words_in};
 use std::alloc::Global;
 use std::io::{self, Stderr};
 
@@ -37,12 +37,8 @@ fn helper_of(alloc: Global, listed: &str) -> Result<Option<Aide>, ReadlineError>
     if listed.is_empty() {
         return Ok(None);
     }
-    let mut words = Vec::new(alloc);
-    for word in listed.split(',') {
-        words.push(String::from_str(alloc, word)?)?;
-    }
     Ok(Some(HelperParts {
-        completer: WordCompleter::new(words),
+        completer: WordCompleter::new(words_in(alloc, listed, ',')?),
         hinter: HistoryHinter::new(),
         highlighter: (),
         validator: MatchingBracketValidator::new(),

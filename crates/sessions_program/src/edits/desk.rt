@@ -5,6 +5,7 @@ ghost use Rattle.line_record.specs.Together.{SameNames};
 
 use line_buffer::{LineBuffer, Movement, NoListener, OutOfMemory, Word, WordAction};
 use line_record::{Changeset, Joined, KillRing};
+use stand_ins::rows::done;
 use std::alloc::Global;
 
 /// The text of the line when a case begins.
@@ -26,9 +27,13 @@ impl Desk {
     /// A line on which `START` was typed, and text after it killed.
     pub(crate) fn new(alloc: Global) -> Result<Self, OutOfMemory> {
         let mut desk = Desk::empty(alloc)?;
-        desk.type_group()?;
-        desk.kill_last()?;
+        desk.type_start()?;
         Ok(desk)
+    }
+
+    fn type_start(&mut self) -> Result<(), OutOfMemory> {
+        self.type_group()?;
+        self.kill_last()
     }
 
     fn empty(alloc: Global) -> Result<Self, OutOfMemory> {
@@ -88,27 +93,23 @@ impl Desk {
 
     fn type_char(&mut self, c: char) -> Result<(), OutOfMemory> {
         let _text = self.line.as_str();
-        self.line.insert(self.alloc, c, 1, &mut self.changes)?;
-        Ok(())
+        done(self.line.insert(self.alloc, c, 1, &mut self.changes))
     }
 
     pub(crate) fn paste(&mut self, text: &str) -> Result<(), OutOfMemory> {
         let _text = self.line.as_str();
-        self.line.yank(self.alloc, text, 1, &mut self.changes)?;
-        Ok(())
+        done(self.line.yank(self.alloc, text, 1, &mut self.changes))
     }
 
     pub(crate) fn backspace(&mut self) -> Result<(), OutOfMemory> {
         let _text = self.line.as_str();
-        self.line.backspace(self.alloc, 1, &mut self.changes)?;
-        Ok(())
+        done(self.line.backspace(self.alloc, 1, &mut self.changes))
     }
 
     pub(crate) fn update(&mut self, text: &str) -> Result<(), OutOfMemory> {
         let _text = self.line.as_str();
-        self.line
-            .update(self.alloc, text, text.len(), &mut self.changes)?;
-        Ok(())
+        let place = text.len();
+        done(self.line.update(self.alloc, text, place, &mut self.changes))
     }
 
     /// Replaces the text between two places by another.
@@ -122,34 +123,32 @@ impl Desk {
         if from > upto || !here.is_char_boundary(from) || !here.is_char_boundary(upto) {
             return Ok(());
         }
-        self.line
-            .replace(self.alloc, from..upto, text, &mut self.changes)?;
-        Ok(())
+        done(
+            self.line
+                .replace(self.alloc, from..upto, text, &mut self.changes),
+        )
     }
 
     pub(crate) fn raise_word(&mut self) -> Result<(), OutOfMemory> {
         let _text = self.line.as_str();
-        self.line
-            .edit_word(self.alloc, WordAction::Uppercase, &mut self.changes)?;
-        Ok(())
+        done(
+            self.line
+                .edit_word(self.alloc, WordAction::Uppercase, &mut self.changes),
+        )
     }
 
     pub(crate) fn transpose_words(&mut self) -> Result<(), OutOfMemory> {
         let _text = self.line.as_str();
-        self.line.transpose_words(self.alloc, 1, &mut self.changes)?;
-        Ok(())
+        done(self.line.transpose_words(self.alloc, 1, &mut self.changes))
     }
 
     pub(crate) fn indent_all(&mut self) -> Result<(), OutOfMemory> {
         let _text = self.line.as_str();
-        self.line.indent(
-            self.alloc,
-            &Movement::WholeBuffer,
-            2,
-            false,
-            &mut self.changes,
-        )?;
-        Ok(())
+        let all = &Movement::WholeBuffer;
+        done(
+            self.line
+                .indent(self.alloc, all, 2, false, &mut self.changes),
+        )
     }
 
     pub(crate) fn kill_word_back(&mut self) -> Result<(), OutOfMemory> {

@@ -126,19 +126,20 @@ impl Case {
 
     /// The call, and whether its answer is the right one.
     fn call(self, desk: &mut Desk) -> Result<bool, OutOfMemory> {
-        match self {
-            Case::Letter => desk.type_text("!")?,
-            Case::LetterJoined => desk.type_text("y")?,
-            Case::Paste => desk.paste(LONG)?,
-            Case::Backspace | Case::BackspaceJoined => desk.backspace()?,
-            Case::ReplacementJoined => desk.replace(3, 4, LONG)?,
-            Case::Update => desk.update(LONG)?,
-            Case::RaiseWord => desk.raise_word()?,
-            Case::TransposeWords => desk.transpose_words()?,
-            Case::Indent => desk.indent_all()?,
-            Case::Kill | Case::KillJoined | Case::KillRound => desk.kill_word_back()?,
+        let made = match self {
+            Case::Letter => desk.type_text("!"),
+            Case::LetterJoined => desk.type_text("y"),
+            Case::Paste => desk.paste(LONG),
+            Case::Backspace | Case::BackspaceJoined => desk.backspace(),
+            Case::ReplacementJoined => desk.replace(3, 4, LONG),
+            Case::Update => desk.update(LONG),
+            Case::RaiseWord => desk.raise_word(),
+            Case::TransposeWords => desk.transpose_words(),
+            Case::Indent => desk.indent_all(),
+            Case::Kill | Case::KillJoined | Case::KillRound => desk.kill_word_back(),
             _ => return self.call_record(desk),
-        }
+        };
+        made?;
         Ok(true)
     }
 

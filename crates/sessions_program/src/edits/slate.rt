@@ -190,15 +190,19 @@ impl Slate {
     }
 }
 
-/// Makes the steps, and prints the state after each of them.
-pub(crate) fn play(rt: &HostRuntime, alloc: Global, steps: &[String]) -> io::Result<()> {
-    let Ok(mut slate) = Slate::new(alloc) else {
-        return eprintln!(rt; "not begun");
-    };
+fn play_on(rt: &HostRuntime, slate: &mut Slate, steps: &[String]) -> io::Result<()> {
     for step in steps {
         let (name, n, text) = parts(step.as_str());
         let word = word_of(slate.makes(name, n, text));
         slate.tell(rt, word)?;
     }
     Ok(())
+}
+
+/// Makes the steps, and prints the state after each of them.
+pub(crate) fn play(rt: &HostRuntime, alloc: Global, steps: &[String]) -> io::Result<()> {
+    match &mut Slate::new(alloc) {
+        Ok(slate) => play_on(rt, slate, steps),
+        Err(_) => eprintln!(rt; "not begun"),
+    }
 }
