@@ -1,4 +1,3 @@
-pub mod AlikeScripts
 pub mod BytesFuel
 pub mod CloseLemmas
 pub mod CuttingLemmas
@@ -10,7 +9,6 @@ mod FaultRows
 pub mod HeardBytes
 pub mod HeardLines
 pub mod InvocationLemmas
-pub mod LineFuel
 pub mod LinesLemmas
 pub mod OneByteLemmas
 pub mod OpenedLemmas
@@ -27,9 +25,7 @@ pub mod SessionSteps
 pub mod ShowCourse
 mod ShowRows
 pub mod ShowSteps
-pub mod SteadyParts
 pub mod TranscriptLemmas
 pub mod TurnShowLemmas
 pub mod UnmetLemmas
 pub mod Unread
-pub mod ViFuel
