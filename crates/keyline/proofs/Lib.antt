@@ -2,7 +2,6 @@ pub mod BytesFuel
 pub mod CloseLemmas
 pub mod CuttingLemmas
 pub mod DeskLemmas
-pub mod EditLemmas
 pub mod EnvironmentLemmas
 pub mod EventLemmas
 mod FaultRows
@@ -15,10 +14,8 @@ pub mod OpenedLemmas
 pub mod OptionsLemmas
 pub mod OrderLemmas
 pub mod PasteLemmas
-pub mod PastePhrases
 pub mod PhraseFuel
 pub mod PlayedLemmas
-pub mod RestFits
 pub mod SessionFuel
 pub mod SessionLawLemmas
 pub mod SessionSteps
@@ -26,6 +23,4 @@ pub mod ShowCourse
 mod ShowRows
 pub mod ShowSteps
 pub mod TranscriptLemmas
-pub mod TurnShowLemmas
 pub mod UnmetLemmas
-pub mod Unread
