@@ -434,7 +434,7 @@ module _ (s : Screen) (low : 2 ≤ s.columns) (high : s.columns ≤ 1000) (own :
       let cursor = (ruler_of s).measure (take at text) l.prompt_size in
       let letters = slice_range text from upto in
       let t : RewrittenFits x prompt from upto text at = fits.2 in
-      let printable = ap (list_all is_printable) (rewritten_letters s low high x prompt from upto text at t) ∙ t.printable in
+      let printable = ap (list_all is_printable) (rewritten_letters x prompt from upto text at t) ∙ t.printable in
       let written = both (calm_short l.cursor cell) (both (calm_all is_printable letter_plain letters printable) (calm_short (right (length letters) cell) cursor)) in
       short_or_rest (Draws v m (Rewritten prompt from upto text at)) bytes l x (write_over_call l letters cell cursor) (shown_marks v m) from text at (may_write_over (ruler_of s) l cell (length letters)) refl
       (λ is. (refl, both written no_bytes)) a fits rows none
