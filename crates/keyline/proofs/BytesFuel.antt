@@ -4,8 +4,9 @@ use Rattle.std.specs.Prelude.{codes, ◌&&◌, ◌||◌, ◌==◌, nat_lt, take,
 use Rattle.line_config.specs.declared.device.Last.{Last}
 use Rattle.line_config.specs.declared.settings.EditMode.{EditMode}
 use Rattle.line_config.specs.declared.settings.EditMode.TheVariants.{Vi}
+use Rattle.line_keys.specs.declared.key.KeyEvent.{KeyEvent}
 use Rattle.line_keys.specs.Keys.{alt, key_of, none}
-use Rattle.line_screen.specs.Input.{AtBad, AtFailure, Chars, Continuation, Next, Over, Stop, after_byte, char_then, chars_of, in_char, lead_in, lead_rows, value_with, is_scalar}
+use Rattle.line_screen.specs.Input.{AtBad, AtFailure, Chars, Continuation, Next, Over, Stop, after_byte, chars_of, in_char, lead_in, lead_rows, value_with, is_scalar}
 use Rattle.line_screen.specs.KeyGrammar.{Cut, Key, Paste, Readings, Stops, announces, byte_is, coming_of, esc, in_escape, in_paste, in_sequence, keeps_byte, lone_escape, marker, paste_with_char, readings}
 use Rattle.line_screen.specs.Sequences.{awaits_more, sequence_key}
 use Rattle.keyline.specs.Sessions.{coming_from}
@@ -26,39 +27,52 @@ items_are bytes (Paste text behind rest) = ap suc (items_are behind rest)
 items_are bytes (Cut stop left) = refl
 items_are bytes (Stops stop left) = refl
 
--- ---- the choice of an `if` is no more than both
+-- ---- at most so many, also by the choice of an `if`
 
-size_if : (b : Bool) (x y : Chars) (n : ℕ) → size x ≤ n → size y ≤ n → size (cond b x y) ≤ n
-size_if true x y n h g = h
-size_if false x y n h g = g
+record Short (chars : Chars) (n : ℕ) : Type 0 where
+  at_most : size chars ≤ n
 
-items_if : (b : Bool) (x y : Readings) (n : ℕ) → items x ≤ n → items y ≤ n → items (cond b x y) ≤ n
-items_if true x y n h g = h
-items_if false x y n h g = g
+short_if : {x y : Chars} {n : ℕ} (b : Bool) → Short x n → Short y n → Short (cond b x y) n
+short_if true h g = h
+short_if false h g = g
+
+short_more : {x : Chars} {n : ℕ} → Short x n → Short x (suc n)
+short_more h = record { at_most = omega arith }
+
+short_next : (c : ℕ) (behind : List ℕ) {x : Chars} {n : ℕ} → Short x n → Short (Next c behind x) (suc n)
+short_next c behind h = record { at_most = omega arith }
+
+short_over : (stop : Stop) (left : List ℕ) {n : ℕ} → Short (Over stop left) n
+short_over stop left = record { at_most = omega arith }
+
+record Few (r : Readings) (n : ℕ) : Type 0 where
+  at_most : items r ≤ n
+
+few_if : {x y : Readings} {n : ℕ} (b : Bool) → Few x n → Few y n → Few (cond b x y) n
+few_if true h g = h
+few_if false h g = g
+
+few_more : {x : Readings} {n : ℕ} → Few x n → Few x (suc n)
+few_more h = record { at_most = omega arith }
+
+few_key : (k : KeyEvent) (behind : List ℕ) {x : Readings} {n : ℕ} → Few x n → Few (Key k behind x) (suc n)
+few_key k behind h = record { at_most = omega arith }
 
 -- ---- characters
 
-size_then : (b : Bool) (c : ℕ) (behind : List ℕ) (rest : Chars) (n : ℕ) → size rest ≤ n → size (cond b (Next c behind rest) (Over AtBad behind)) ≤ suc n
-size_then true c behind rest n h = omega arith
-size_then false c behind rest n h = omega arith
-
 mutual
-  size_of : (bytes : List ℕ) (last : Last) → size (chars_of bytes last) ≤ length bytes
-  size_of [] last = omega arith
+  size_of : (bytes : List ℕ) (last : Last) → Short (chars_of bytes last) (length bytes)
+  size_of [] last = record { at_most = omega arith }
   size_of (byte ∷ bytes) last =
-      size_if (nat_lt byte 0x80) (Next byte bytes (chars_of bytes last)) (in_char (lead_in lead_rows byte) bytes last) (suc (length bytes))
-      (let h = size_of bytes last in omega arith) (let h = size_in (lead_in lead_rows byte) bytes last in omega arith)
+      short_if (nat_lt byte 0x80) (short_next byte bytes (size_of bytes last)) (short_more (size_in (lead_in lead_rows byte) bytes last))
 
-  size_in : (o : Option Continuation) (bytes : List ℕ) (last : Last) → size (in_char o bytes last) ≤ length bytes
-  size_in None bytes last = omega arith
-  size_in (Some awaited) [] last = omega arith
+  size_in : (o : Option Continuation) (bytes : List ℕ) (last : Last) → Short (in_char o bytes last) (length bytes)
+  size_in None bytes last = record { at_most = omega arith }
+  size_in (Some awaited) [] last = record { at_most = omega arith }
   size_in (Some awaited) (byte ∷ bytes) last =
-      size_if (nat_lt byte awaited.least || nat_lt awaited.greatest byte) (Over AtBad bytes)
-      (cond (awaited.more == 0) (char_then (value_with awaited.value byte) bytes (chars_of bytes last)) (in_char (Some (after_byte awaited byte)) bytes last)) (suc (length bytes))
-      (omega arith)
-      (size_if (awaited.more == 0) (char_then (value_with awaited.value byte) bytes (chars_of bytes last)) (in_char (Some (after_byte awaited byte)) bytes last) (suc (length bytes))
-      (size_then (is_scalar (value_with awaited.value byte)) (value_with awaited.value byte) bytes (chars_of bytes last) (length bytes) (size_of bytes last))
-      (let h = size_in (Some (after_byte awaited byte)) bytes last in omega arith))
+      let value = value_with awaited.value byte in
+      short_if (nat_lt byte awaited.least || nat_lt awaited.greatest byte) (short_over AtBad bytes)
+      (short_if (awaited.more == 0) (short_if (is_scalar value) (short_next value bytes (size_of bytes last)) (short_over AtBad bytes)) (short_more (size_in (Some (after_byte awaited byte)) bytes last)))
 
 -- ---- keys and pastes
 
@@ -68,50 +82,32 @@ lone_few Vi (byte ∷ bytes) stop left again h = omega arith
 lone_few _ _ _ left again h = omega arith
 
 mutual
-  few : (mode : EditMode) (chars : Chars) → items (readings mode chars) ≤ size chars
-  few mode (Next c behind rest) =
-      items_if (c == 0x1B) (in_escape mode behind rest (readings mode rest)) (Key (key_of c none) behind (readings mode rest)) (suc (size rest))
-      (few_escape mode behind rest (readings mode rest) (few mode rest)) (let h = few mode rest in omega arith)
-  few mode (Over stop left) = omega arith
+  few : (mode : EditMode) (chars : Chars) → Few (readings mode chars) (size chars)
+  few mode (Next c behind rest) = few_if (c == 0x1B) (few_escape mode behind rest (few mode rest)) (few_key (key_of c none) behind (few mode rest))
+  few mode (Over stop left) = record { at_most = omega arith }
 
-  few_escape : (mode : EditMode) (here : List ℕ) (chars : Chars) (again : Readings) → items again ≤ size chars → items (in_escape mode here chars again) ≤ suc (size chars)
-  few_escape mode here (Next c behind rest) again h =
-      let seq = λ (text : List ℕ). few_sequence mode text rest in
-      let first = seq (codes "[") in
-      let second = seq (codes "O") in
-      let next = few mode rest in
-      items_if (byte_is 0x5B here) (in_sequence mode (codes "[") rest)
-      (cond (byte_is 0x4F here) (in_sequence mode (codes "O") rest) (cond (keeps_byte mode here) (Key esc here again) (Key (key_of c alt) behind (readings mode rest)))) (suc (suc (size rest)))
-      (omega arith)
-      (items_if (byte_is 0x4F here) (in_sequence mode (codes "O") rest) (cond (keeps_byte mode here) (Key esc here again) (Key (key_of c alt) behind (readings mode rest))) (suc (suc (size rest)))
-      (omega arith)
-      (items_if (keeps_byte mode here) (Key esc here again) (Key (key_of c alt) behind (readings mode rest)) (suc (suc (size rest))) (omega arith) (omega arith)))
-  few_escape mode here (Over stop left) again h = lone_few mode here stop left again h
+  few_escape : (mode : EditMode) (here : List ℕ) (chars : Chars) {again : Readings} → Few again (size chars) → Few (in_escape mode here chars again) (suc (size chars))
+  few_escape mode here (Next c behind rest) h =
+      few_if (byte_is 0x5B here) (few_more (few_more (few_sequence mode (codes "[") rest))) (few_if (byte_is 0x4F here) (few_more (few_more (few_sequence mode (codes "O") rest)))
+      (few_if (keeps_byte mode here) (few_key esc here h) (few_more (few_key (key_of c alt) behind (few mode rest)))))
+  few_escape mode here (Over stop left) {again} h = record { at_most = lone_few mode here stop left again h.at_most }
 
-  few_sequence : (mode : EditMode) (text : List ℕ) (chars : Chars) → items (in_sequence mode text chars) ≤ size chars
+  few_sequence : (mode : EditMode) (text : List ℕ) (chars : Chars) → Few (in_sequence mode text chars) (size chars)
   few_sequence mode text (Next c behind rest) =
       let k = sequence_key (text ++ c ∷ []) in
-      let more = few_sequence mode (text ++ c ∷ []) rest in
-      let next = items_if (announces k) (in_paste mode [] false 0 rest) (readings mode rest) (size rest) (few_paste mode [] false 0 rest) (few mode rest) in
-      items_if (awaits_more (text ++ c ∷ [])) (in_sequence mode (text ++ c ∷ []) rest) (Key k behind (cond (announces k) (in_paste mode [] false 0 rest) (readings mode rest))) (suc (size rest))
-      (omega arith) (omega arith)
-  few_sequence mode text (Over stop left) = omega arith
+      few_if (awaits_more (text ++ c ∷ [])) (few_more (few_sequence mode (text ++ c ∷ []) rest)) (few_key k behind (few_if (announces k) (few_paste mode [] false 0 rest) (few mode rest)))
+  few_sequence mode text (Over stop left) = record { at_most = omega arith }
 
-  few_paste : (mode : EditMode) (text : List ℕ) (after_return : Bool) (matched : ℕ) (chars : Chars) → items (in_paste mode text after_return matched chars) ≤ size chars
+  few_paste : (mode : EditMode) (text : List ℕ) (after_return : Bool) (matched : ℕ) (chars : Chars) → Few (in_paste mode text after_return matched chars) (size chars)
   few_paste mode text after_return matched (Next c behind rest) =
-      let next = few mode rest in
-      let on = few_paste mode text after_return (matched + 1) rest in
-      let anew = few_paste mode (text ++ take matched marker) false 1 rest in
-      let more = few_paste mode (paste_with_char (text ++ take matched marker) (after_return && (matched == 0)) c) (c == 0x0D) 0 rest in
-      items_if (c == slice_index marker matched)
-      (cond (matched == 5) (Paste text behind (readings mode rest)) (in_paste mode text after_return (matched + 1) rest))
-      (cond (c == 0x1B) (in_paste mode (text ++ take matched marker) false 1 rest) (in_paste mode (paste_with_char (text ++ take matched marker) (after_return && (matched == 0)) c) (c == 0x0D) 0 rest)) (suc (size rest))
-      (items_if (matched == 5) (Paste text behind (readings mode rest)) (in_paste mode text after_return (matched + 1) rest) (suc (size rest)) (omega arith) (omega arith))
-      (items_if (c == 0x1B) (in_paste mode (text ++ take matched marker) false 1 rest) (in_paste mode (paste_with_char (text ++ take matched marker) (after_return && (matched == 0)) c) (c == 0x0D) 0 rest) (suc (size rest)) (omega arith) (omega arith))
-  few_paste mode text after_return matched (Over stop left) = omega arith
+      let held = text ++ take matched marker in
+      let more : Few (readings mode rest) (size rest) = few mode rest in
+      few_if (c == slice_index marker matched) (few_if (matched == 5) (record { at_most = omega arith }) (few_more (few_paste mode text after_return (matched + 1) rest)))
+      (few_if (c == 0x1B) (few_more (few_paste mode held false 1 rest)) (few_more (few_paste mode (paste_with_char held (after_return && (matched == 0)) c) (c == 0x0D) 0 rest)))
+  few_paste mode text after_return matched (Over stop left) = record { at_most = omega arith }
 
 pub few_in_bytes : (mode : EditMode) (bytes : List ℕ) (last : Last) → keys_and_pastes (coming_from mode bytes last) ≤ length bytes
 few_in_bytes mode bytes last =
-    let few_chars = few mode (chars_of bytes last) in
-    let few_bytes = size_of bytes last in
+    let few_chars = (few mode (chars_of bytes last)).at_most in
+    let few_bytes = (size_of bytes last).at_most in
     let are = items_are bytes (readings mode (chars_of bytes last)) in omega arith

@@ -1,5 +1,5 @@
 -- The end of a line: an exit for each fault, and the one where all went well.
-use Rattle.std.proofs.Common.{◌≡◌, ℕ, append-nil, Bool, true, false, ◌&&◌, List, [], ◌∷◌, inl, inr, refl, sym, ap, ◌∙◌, subst, IsTrue, Result, Ok, Err, IfErr}
+use Rattle.std.proofs.Common.{◌≡◌, ℕ, append-nil, Bool, true, false, ◌&&◌, List, [], ◌∷◌, inl, inr, refl, sym, ap, subst, IsTrue, Result, Ok, Err, IfErr}
 use Rattle.std.specs.Global.{Global}
 use Rattle.std.specs.Prelude.{IfOk, MatchResult, OnErr, OnOk, String, if◌then◌else◌, string_bytes}
 use Rattle.line_config.specs.declared.errors.ReadlineError.{ReadlineError}
@@ -14,10 +14,10 @@ use Rattle.line_screen.specs.ScreenCalls.{NothingWaits, Sent, CutSending, sink_o
 use Rattle.line_screen.specs.Drawing.{row_break, break_if}
 use Rattle.line_screen.specs.declared.renderer.ScreenRenderer.{ScreenRenderer}
 use Rattle.line_screen.proofs.WaitingLemmas.{sent_rests, unsent_rests}
-use Rattle.keyline.specs.SessionEffects.{AreDone, Closes, CloseReason, DrawsEnd, EndIsCut, EndIsDrawn, CutSessionEvent, RowIsCut, RowIsDrawn, WantsMemory, Went, Work, breaks, work}
+use Rattle.keyline.specs.SessionEffects.{AreDone, Closes, DrawsEnd, EndIsCut, EndIsDrawn, CutSessionEvent, RowIsCut, RowIsDrawn, WantsMemory, Went, Work, breaks, work}
 use Rattle.keyline.specs.Events.{SessionEvent, Breaks, Keeps, Writes, end_events}
 use Rattle.keyline.specs.Sessions.{history_after, history_with_if, line_text}
-use Rattle.keyline.proofs.EventLemmas.{none_done as nothing_done, remembered_none}
+use Rattle.keyline.proofs.EventLemmas.{none_done, remembered_none}
 
 true_not_false : (b : Bool) → b ≡ true → b ≡ false → ⊥
 true_not_false b one other = absurd (cc)
@@ -51,18 +51,13 @@ module _ {D : Type 0} (shown : D → List ℕ) (show_failed : D → Bool) (adds 
 
   -- the display failed
   pub end_cut : {A : Type 0} (result : Result A ReadlineError) (e : ReadlineError) → result ≡ Err e → e ≡ Display → RowIsCut shown show_failed (breaks outcome) d d' → End h result
-  end_cut {A} result e is display cut =
-      let P : Result A ReadlineError → Type 0 = End h in
-      subst P (sym (is ∙ ap (λ e. Err e) display)) (cut, refl)
+  end_cut result e is display cut = rw (is, display) (cut, refl)
 
   -- an accepted line is in the history, or memory ran out for it
   pub end_kept : {A : Type 0} (text : List ℕ) (h' : Filed) (result : Result A ReadlineError) → outcome ≡ Ok text → Row → OnOk result (h' ≡ history_with_if adds (text ∷ []) h) → OnErr result (h' ≡ h)
       → IfErr result (λ e. (e ≡ Memory) × IsTrue (adds && takes h text)) → End h' result
   end_kept text h' (Ok x) is row added kept fault = record { row = row; kept = subst (λ o. h' ≡ history_after adds o h) (sym is) added }
-  end_kept text h' (Err e) is row added kept fault =
-      let Wants : Result (List ℕ) ReadlineError → Type 0 = λ o. WantsMemory adds h o Memory in
-      let P : ReadlineError → Type 0 = EndIsCut shown show_failed adds outcome d d' h h' in
-      subst P (sym fault.0) (row, subst Wants (sym is) (refl, fault.1), kept)
+  end_kept text h' (Err e) is row added kept fault = rw fault.0 (row, subst (λ o. WantsMemory adds h o Memory) (sym is) (refl, fault.1), kept)
 
   -- no line was accepted
   pub end_other : (e : ReadlineError) → outcome ≡ Err e → Row → EndIsDrawn shown show_failed adds outcome d d' h h
@@ -95,9 +90,6 @@ module _ {D L : Type 0} (shown : D → List ℕ) (show_failed : D → Bool) (wri
   abbrev Sums : Bool → List SessionEvent → Work D L → Work D L → Type 0
   Sums adds events old new = AreDone shown written_in adds events old new
 
-  none_done : (adds : Bool) (x : Work D L) → Sums adds [] x x
-  none_done adds x = nothing_done shown written_in adds x
-
   row_done : (adds : Bool) (d d' : D) (l : L) (h : Filed) (coming : Coming) → Takes shown d d' row_break → Sums adds (Breaks ∷ []) (work d l h coming) (work d' l h coming)
   row_done adds d d' l h coming drawn = record { drawn = drawn; wrote = takes_none written_in l l refl; history_is = sym (remembered_none adds h); left_is = refl; answered = tt }
 
@@ -107,10 +99,9 @@ module _ {D L : Type 0} (shown : D → List ℕ) (show_failed : D → Bool) (wri
   closes_undrawn adds outcome d d' l h result breaks is failed some = record {
     goes = λ coming.
         let row = row_first outcome breaks in
-        record { done = []; others = Breaks ∷ row.0; split = row.1; at = work d l h coming; are_done = none_done adds (work d l h coming); stands = (Display, (some, refl), is) };
+        record { done = []; others = Breaks ∷ row.0; split = row.1; at = work d l h coming; are_done = none_done (work d l h coming); stands = (Display, (some, refl), is) };
     stays = stays_not outcome (work d l h) (work d' l h) result breaks;
-    reason = λ coming. let P : Result (List ℕ) ReadlineError → Type 0 = λ r. IfErr r (CloseReason adds h outcome (show_failed d) (show_failed d') (write_failed l)) in
-        subst P (sym is) (inr (inl (refl, failed)));
+    reason = λ coming. rw is (inr (inl (refl, failed)));
     display_is = λ coming. inl is;
     lines_are = λ coming. inr refl;
   }
@@ -128,8 +119,7 @@ module _ {D L : Type 0} (shown : D → List ℕ) (show_failed : D → Bool) (wri
       stands = (Memory, (adding, ap (λ h. work d' l h coming) kept), is);
     };
     stays = tt;
-    reason = λ coming. let P : Result (List ℕ) ReadlineError → Type 0 = λ r. IfErr r (CloseReason adds h (Ok text) (show_failed d) (show_failed d') (write_failed l)) in
-        subst P (sym is) (inr (inr (inr (refl, adding))));
+    reason = λ coming. rw is (inr (inr (inr (refl, adding))));
     display_is = λ coming. inr works;
     lines_are = λ coming. inr refl;
   }
@@ -193,7 +183,7 @@ module _ {D L : Type 0} (shown : D → List ℕ) (show_failed : D → Bool) (wri
       by coming true drawn still =
           record { done = Breaks ∷ []; others = []; split = refl; at = work d' l h coming; are_done = row_done adds d d' l h coming drawn; stands = (refl, refl) }
       by coming false drawn still =
-          record { done = []; others = []; split = refl; at = work d l h coming; are_done = none_done adds (work d l h coming); stands = (refl, ap (λ d. work d l h coming) (still refl)) }
+          record { done = []; others = []; split = refl; at = work d l h coming; are_done = none_done (work d l h coming); stands = (refl, ap (λ d. work d l h coming) (still refl)) }
 
   same_text : (text : List ℕ) (o : Result (String Global) ReadlineError) → IfOk o (λ line. string_bytes line ≡ text) → answer_map (λ line. text) o ≡ answer_map string_bytes o
   same_text text (Ok line) is = ap (λ t. Ok t) (sym is)
@@ -205,27 +195,20 @@ module _ {D L : Type 0} (shown : D → List ℕ) (show_failed : D → Bool) (wri
       → Sends written_in write_failed (line_text text) l l' result → IfErr result (λ e. e ≡ Lines) → IfOk result (λ line. string_bytes line ≡ text)
       → Ends adds outcome (work d l h) (work d' l' h') (answer_map string_bytes result)
   closes_accepted adds text outcome d d' l l' h h' result is end wrote named same =
-      let Drawn : Result (List ℕ) ReadlineError → Type 0 = λ o. EndIsDrawn shown show_failed adds o d d' h h' in
-      let E : Result (List ℕ) ReadlineError → Type 0 = Ends adds (Ok text) (work d l h) (work d' l' h') in
-      let P : Result (List ℕ) ReadlineError → Type 0 = λ o. Ends adds o (work d l h) (work d' l' h') (answer_map string_bytes result) in
-      let drawn = subst Drawn is end in
-      subst P (sym is) (subst E (same_text text result same) (closes_written adds text d d' l l' h h' result drawn.row.drawn drawn.row.works drawn.kept wrote named))
+      let drawn = subst (λ o. EndIsDrawn shown show_failed adds o d d' h h') is end in
+      rw (is, sym (same_text text result same)) (closes_written adds text d d' l l' h h' result drawn.row.drawn drawn.row.works drawn.kept wrote named)
 
   pub closes_refused : (adds : Bool) (e : ReadlineError) (outcome : Result (List ℕ) ReadlineError) (d d' : D) (l : L) (h h' : Filed)
       → outcome ≡ Err e → EndIsDrawn shown show_failed adds outcome d d' h h' → Ends adds outcome (work d l h) (work d' l h') (Err e)
   closes_refused adds e outcome d d' l h h' is end =
-      let Drawn : Result (List ℕ) ReadlineError → Type 0 = λ o. EndIsDrawn shown show_failed adds o d d' h h' in
-      let P : Result (List ℕ) ReadlineError → Type 0 = λ o. Ends adds o (work d l h) (work d' l h') (Err e) in
-      let Q : Filed → Type 0 = λ h'. Ends adds (Err e) (work d l h) (work d' l h') (Err e) in
-      let drawn = subst Drawn is end in
-      subst P (sym is) (subst Q (sym drawn.kept) (closes_other adds e d d' l h drawn.row.drawn drawn.row.works drawn.row.stays))
+      let drawn = subst (λ o. EndIsDrawn shown show_failed adds o d d' h h') is end in
+      rw (is, drawn.kept) (closes_other adds e d d' l h drawn.row.drawn drawn.row.works drawn.row.stays)
 
   -- its end was cut
   pub closes_cut : (adds : Bool) (outcome : Result (List ℕ) ReadlineError) (d d' : D) (l : L) (h h' : Filed) (result : Result (List ℕ) ReadlineError) (e : ReadlineError)
       → result ≡ Err e → EndIsCut shown show_failed adds outcome d d' h h' e → Ends adds outcome (work d l h) (work d' l h') result
   closes_cut adds outcome d d' l h h' result Display is cut =
-      let P : Filed → Type 0 = λ h'. Ends adds outcome (work d l h) (work d' l h') result in
-      subst P (sym cut.1) (closes_undrawn adds outcome d d' l h result (row_asked outcome cut.0.0) is cut.0.2 cut.0.1)
+      rw cut.1 (closes_undrawn adds outcome d d' l h result (row_asked outcome cut.0.0) is cut.0.2 cut.0.1)
   closes_cut adds (Ok text) d d' l h h' result Memory is cut =
       closes_unkept adds text d d' l h h' result cut.0.drawn cut.0.works is cut.1.1 cut.2
   closes_cut adds (Err e) d d' l h h' result Memory is cut = absurd (cut.1.1)

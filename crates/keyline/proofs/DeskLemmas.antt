@@ -1,8 +1,9 @@
 -- A line at a desk: what `run` gives, and then the line's end.
-use Rattle.std.proofs.Common.{◌≡◌, ℕ, suc, ◌<◌, Bool, true, false, List, [], ◌∷◌, ◌++◌, ◌⊎◌, inl, inr, refl, sym, ap, ◌∙◌, subst, IsTrue, Option, Result, Ok, Err, IfErr, OnOk, le_refl}
+use Rattle.std.proofs.Common.{◌≡◌, ℕ, suc, ◌<◌, Bool, true, false, List, [], ◌∷◌, ◌++◌, inl, inr, refl, sym, ap, ◌∙◌, subst, IsTrue, Option, Result, Ok, Err, IfErr, OnOk, le_refl}
 use Rattle.std.specs.List.{flat_map}
 use Rattle.std.specs.Prelude.{⊤, String, if◌then◌else◌, string_bytes}
 use Rattle.std.specs.Global.{Global}
+use Rattle.std.proofs.lemmas.Result.{IfErr-weaker}
 use Rattle.line_config.specs.declared.config.Config.{Config}
 use Rattle.line_config.specs.declared.errors.ReadlineError.{ReadlineError}
 use Rattle.line_config.specs.declared.errors.ReadlineError.TheVariants.{Reader, Display, Lines, HistoryText, Helper, Handler, Memory}
@@ -13,8 +14,7 @@ use Rattle.line_keys.specs.KeyFeeds.{KeyFeed}
 use Rattle.line_record.specs.Ring.{Ring}
 use Rattle.line_editor.specs.LineEndings.{breaks_after}
 use Rattle.line_editor.specs.LineScripts.{LineState, LineStage, line_state, line_script, line_stage}
-use Rattle.line_editor.specs.Redraws.{fresh}
-use Rattle.line_editor.specs.LineRun.{Helping, Runs, first_line_state, outcome_of, setting_by, stage_first}
+use Rattle.line_editor.specs.LineRun.{Helping, Runs, outcome_of, setting_by, stage_first}
 use Rattle.line_editor.specs.States.{reason_of}
 use Rattle.line_editor.specs.EditSteps.{surface}
 use Rattle.line_editor.specs.Turn.{cause_of}
@@ -28,12 +28,12 @@ use Rattle.line_screen.proofs.CallLemmas.{goes_stay}
 use Rattle.line_screen.proofs.WaitingLemmas.{reads_find_nothing_waiting}
 use Rattle.keyline.specs.Desks.{TakesLine, DeskReason, desk_feed, session_state_of, work_of}
 use Rattle.keyline.specs.KnownDevices.{KnownDevices, HasPassedOn, HasPassedLines}
-use Rattle.keyline.specs.SessionEffects.{AreDone, Closes, CloseReason, SessionReason, Work, work}
-use Rattle.keyline.specs.Events.{SessionEvent, Course, Begins, Breaks, asks_events, end_events, line_course, lines_kept, line_play_in}
-use Rattle.keyline.specs.Sessions.{Given, SessionState, given_of, history_after, history_with_if, state_after}
+use Rattle.keyline.specs.SessionEffects.{AreDone, Closes, CloseReason, SessionReason, Went, Work, work}
+use Rattle.keyline.specs.Events.{SessionEvent, Course, Begins, Breaks, events_of, end_events, line_course, lines_kept, line_play_in}
+use Rattle.keyline.specs.Sessions.{Given, SessionState, given_of, history_after, history_with_if, state_after, state_at}
 use Rattle.keyline.specs.Shows.{EachShown}
 use Rattle.keyline.specs.declared.desk.Desk.{Desk}
-use Rattle.keyline.proofs.EventLemmas.{Cut, Goes, Whole, done_both, line_went, none_done, remembered_none, went_before, went_behind, went_cases, went_not, went_not_whole, went_so, went_whole}
+use Rattle.keyline.proofs.EventLemmas.{done_both, line_went, none_done, remembered_none, went_before, went_behind, went_cases, went_not, went_not_whole, went_so, went_whole}
 use Rattle.keyline.proofs.ShowCourse.{first_shown, lines_show}
 
 -- ---- faults
@@ -66,10 +66,6 @@ ok_given (Ok x) f (Ok u) P p is = p
 ok_given (Err d) f (Ok u) P p is = absurd (cc)
 ok_given _ f (Err e) P p is = tt
 
-ok_of_cut : (result : Result (List ℕ) ReadlineError) (e : ReadlineError) (P : Type 0) → result ≡ Err e → OnOk result P
-ok_of_cut (Ok u) e P is = absurd (cc)
-ok_of_cut (Err d) e P is = tt
-
 -- ---- a line at a desk
 
 -- what holds with the renderer and the helper that were taken out holds of the desk
@@ -77,13 +73,6 @@ pub with_held : {S H D L : Type 0} (P : Desk S H D L → Type 0) (at old : Desk 
     → P (record at { out = out; helper = helper }) → P old
 with_held P at old is out helper out_is helper_is p =
     subst P is (subst (λ out. P (record at { out = out })) out_is (subst (λ helper. P (record at { out = out; helper = helper })) helper_is p))
-
-abbrev pair : Result (List ℕ) ReadlineError → SessionState → Result (List ℕ) ReadlineError × SessionState
-pair o x = (o, x)
-
-abbrev desk_of : {S H D L : Type 0} → KeyReader S → ScreenRenderer D → Option H → Filed → Ring → String Global → L → Desk S H D L
-desk_of reader out helper history ring last_query lines =
-    record { reader = reader; out = out; helper = helper; history = history; ring = ring; last_query = last_query; lines = lines }
 
 module _ {S H D L K T : Type 0} (k : KnownDevices S D L) (helps : Option H → Helping) (custom : Custom) (config : Config) (prompt : List ℕ)
     (old : Desk S H D L) (ran : Ran (ScreenRenderer D) H K T) (ring : Ring) (last_query : String Global) (reader : KeyReader S) where
@@ -94,14 +83,11 @@ module _ {S H D L K T : Type 0} (k : KnownDevices S D L) (helps : Option H → H
   abbrev setting : Setting
   setting = setting_by (ruler_of (screen_of old.out)) prompt (helps old.helper) old.history.kept.entries config
 
-  abbrev come : Coming
-  come = (items_of k.feed old.reader).coming
-
   abbrev left : Coming
   left = (items_of k.feed reader).coming
 
   abbrev first : LineStage (ScreenRenderer D)
-  first = stage_first old.out (ruler_of (screen_of old.out)) setting old.ring (string_bytes old.last_query) come
+  first = stage_first old.out (ruler_of (screen_of old.out)) setting old.ring (string_bytes old.last_query) (items_of k.feed old.reader).coming
 
   abbrev last : RunsAt → LineStage (ScreenRenderer D)
   last runs = line_stage (surface ran.out runs.layout) (line_state runs.value runs.input ring runs.modal left)
@@ -123,7 +109,7 @@ module _ {S H D L K T : Type 0} (k : KnownDevices S D L) (helps : Option H → H
         (work (sink_of ran.out) old.lines old.history) (work (sink_of out) lines history) result
 
     abbrev new : Desk S H D L
-    new = desk_of reader out ran.helper history ring last_query lines
+    new = record { reader = reader; out = out; helper = ran.helper; history = history; ring = ring; last_query = last_query; lines = lines }
 
     abbrev given : Given
     given = given_of config custom prompt (screen_of old.out) (helps old.helper)
@@ -140,93 +126,48 @@ module _ {S H D L K T : Type 0} (k : KnownDevices S D L) (helps : Option H → H
     abbrev line : ℕ → Course (Result (List ℕ) ReadlineError × SessionState)
     line n = line_course n given state
 
-    abbrev LineComes : ℕ → Type 0
-    LineComes n = Goes k.shown k.written_in config.auto_add_history (line n).events (work_of k old) (work_of k new) ((result, session_state_of k new) ≡ (line n).answer) (λ e. result ≡ Err e)
-
-    abbrev Sums : List SessionEvent → Work D L → Work D L → Type 0
-    Sums events x y = AreDone k.shown k.written_in config.auto_add_history events x y
-
-    -- what is asked of it
-    abbrev asked_of : ℕ → List SessionEvent
-    asked_of n = asks_events (screen_of old.out) setting (fresh (screen_of old.out).mode) (first_line_state setting old.ring (string_bytes old.last_query) come) (line_play_in n given state).asks
-
-    abbrev WholeLine : ℕ → RunsAt → Type 0
-    WholeLine n runs =
-        Whole k.shown k.written_in config.auto_add_history old.lines old.history k.waits k.show_failed (screen_of old.out) setting (line_script n custom) first (last runs) (outcome_of ran)
-
-    abbrev CutLine : ℕ → RunsAt → Type 0
-    CutLine n runs =
-        Cut k.shown k.written_in config.auto_add_history old.lines old.history k.waits k.show_failed (screen_of old.out) setting (line_script n custom) first (last runs) (outcome_of ran)
-
-    abbrev Went' : List SessionEvent → Work D L → Work D L → Type 0 → (ReadlineError → Type 0) → Type 0
-    Went' events x y W F = Goes k.shown k.written_in config.auto_add_history events x y W F
+    -- an accepted line is kept, and no other
+    kept_in_end : (o : Result (List ℕ) ReadlineError) (h : Filed) → history_with_if config.auto_add_history (flat_map lines_kept (end_events o)) h ≡ history_after config.auto_add_history o h
+    kept_in_end (Ok text) h = refl
+    kept_in_end (Err e) h = by (breaks_after e)
+      where
+        by : (b : Bool) → history_with_if config.auto_add_history (flat_map lines_kept (if b then Breaks ∷ [] else [])) h ≡ h
+        by true = remembered_none config.auto_add_history h
+        by false = remembered_none config.auto_add_history h
 
     -- the begin of a line makes nothing
-    begun : (events : List SessionEvent) (x y : Work D L) → Sums events x y → Sums (Begins (screen_of old.out) ∷ events) x y
-    begun events x y d = record { drawn = d.drawn; wrote = d.wrote; history_is = d.history_is; left_is = d.left_is; answered = d.answered }
+    begun : {events : List SessionEvent} {x y : Work D L} → AreDone k.shown k.written_in config.auto_add_history events x y → AreDone k.shown k.written_in config.auto_add_history (Begins (screen_of old.out) ∷ events) x y
+    begun d = record { drawn = d.drawn; wrote = d.wrote; history_is = d.history_is; left_is = d.left_is; answered = d.answered }
 
-    -- an accepted line is kept, and no other
-    kept_in_end : (o : Result (List ℕ) ReadlineError) (h h' : Filed) → h' ≡ history_with_if config.auto_add_history (flat_map lines_kept (end_events o)) h → h' ≡ history_after config.auto_add_history o h
-    kept_in_end (Ok text) h h' is = is
-    kept_in_end (Err e) h h' is = by (breaks_after e) is
-      where
-        by : (b : Bool) → h' ≡ history_with_if config.auto_add_history (flat_map lines_kept (if b then Breaks ∷ [] else [])) h → h' ≡ h
-        by true is = is ∙ remembered_none config.auto_add_history h
-        by false is = is ∙ remembered_none config.auto_add_history h
-
-    abbrev begin_of : List SessionEvent
-    begin_of = Begins (screen_of old.out) ∷ []
-
-    abbrev CutBy : ReadlineError → Type 0
-    CutBy e = (outcome_of ran ≡ Err e) × reason_of true ⊤ e
-
-    abbrev Refused : ReadlineError → Type 0
-    Refused e = result ≡ Err e
-
-    abbrev Whole' : ℕ → Type 0
-    Whole' n = (result, session_state_of k new) ≡ (line n).answer
-
-    line_comes : (n : ℕ) (runs : RunsAt) → Ends (outcome_of ran) → WholeLine n runs ⊎ CutLine n runs → LineComes n
-    line_comes n runs closes (inl whole) =
+    line_goes : RunsAt → Ends (outcome_of ran) → IsTrue (items_of k.feed reader).told → (n : ℕ) → (desk_feed k old).bound < n
+        → Went k.shown k.written_in config.auto_add_history (line n).events (work_of k old) (work_of k new) ((result, session_state_of k new) ≡ (line n).answer) (λ e. result ≡ Err e)
+    line_goes runs closes t n b =
         let adds = config.auto_add_history in
         let o = outcome_of ran in
         let p = line_play_in n given state in
-        let first = begun (asked_of n) (work_of k old) at_end whole.are_done in
-        let here : List SessionEvent = Begins (screen_of old.out) ∷ asked_of n in
-        subst (λ o. Went' (here ++ end_events o) (work_of k old) (work_of k new) (Whole' n) Refused) (sym whole.answer_is)
-        (went_cases k.shown k.written_in adds (result ≡ o) Refused (end_events o) at_end (work_of k new) (closes.goes left)
-        (λ done same.
-        let history_is : history ≡ history_after adds o old.history = kept_in_end o old.history history done.history_is in
-        let state_is : session_state_of k new ≡ state_after adds o ring runs.modal.query left state =
-        ap (λ query. record { ring = ring; query = query; history = history; coming = left }) runs.last
-        ∙ ap (λ (h : Filed). record { ring = ring; query = runs.modal.query; history = h; coming = left }) history_is in
-        let after : Result (List ℕ) ReadlineError → LineState → Result (List ℕ) ReadlineError × SessionState = λ o l. (o, state_after adds o l.ring l.modal.query l.coming state) in
-        went_whole k.shown k.written_in adds (Whole' n) Refused (here ++ end_events o) (work_of k old) (work_of k new)
-        (done_both k.shown k.written_in adds here (end_events o) (work_of k old) at_end (work_of k new) first done)
-        (ap (λ r. pair r (session_state_of k new)) same ∙ ap (pair o) state_is ∙ ap (after o) (sym whole.rest_is) ∙ ap (λ o. after o p.rest) (sym whole.answer_is)))
-        (λ cut. went_behind k.shown k.written_in adds (Whole' n) Refused here (end_events o) (work_of k old) at_end (work_of k new) first
-        (went_not_whole k.shown k.written_in adds (Whole' n) Refused (end_events o) at_end (work_of k new) cut)))
-    line_comes n runs closes (inr cut) =
-        let adds = config.auto_add_history in
-        let end = end_events (line_play_in n given state).answer in
-        let here = went_behind k.shown k.written_in adds ⊥ CutBy begin_of (asked_of n) (work_of k old) (work_of k old) at_end (begun [] (work_of k old) (work_of k old) (none_done k.shown k.written_in adds (work_of k old))) cut in
-        let stays = λ (e : ReadlineError) (by : CutBy e). (subst Ends by.0 closes).stays (unbroken true ⊤ e by.1) in
-        let is : work_of k new ≡ at_end =
-        went_not k.shown k.written_in adds CutBy (λ e by. ap (λ (f : Coming → Work D L). f left) (stays e by).0) (asked_of n) (work_of k old) at_end cut in
-        let so = went_so k.shown k.written_in adds ⊥ CutBy Refused (λ e by. (stays e by).1) (begin_of ++ asked_of n) (work_of k old) at_end here in
-        subst (λ x. Went' ((begin_of ++ asked_of n) ++ end) (work_of k old) x (Whole' n) Refused) (sym is)
-        (went_before k.shown k.written_in adds (Whole' n) Refused (begin_of ++ asked_of n) end (work_of k old) at_end so)
+        let here : List SessionEvent = Begins (screen_of old.out) ∷ events_of given state p.asks in
+        let Comes : List SessionEvent → Work D L → Type 0 = λ events x. Went k.shown k.written_in adds events (work_of k old) x ((result, session_state_of k new) ≡ (line n).answer) (λ e. result ≡ Err e) in
+        elim (line_went k.shown k.written_in adds old.lines old.history k.waits k.show_failed (screen_of old.out) setting (line_script n custom) first (last runs) o refl (runs.goes t n b)) [
+          | inl whole ↦
+              let first = begun whole.are_done in
+              let after : Result (List ℕ) ReadlineError → LineState → Result (List ℕ) ReadlineError × SessionState = λ o l. (o, state_after adds o l.ring l.modal.query l.coming state) in
+              subst (λ o. Comes (here ++ end_events o) (work_of k new)) (sym whole.answer_is)
+              (went_cases (closes.goes left)
+              (λ done same.
+              let state_is : session_state_of k new ≡ state_after adds o ring runs.modal.query left state =
+              ap (λ query. state_at ring query history left) runs.last ∙ ap (λ (h : Filed). state_at ring runs.modal.query h left) (done.history_is ∙ kept_in_end o old.history) in
+              went_whole (done_both first done)
+              (ap (λ r. (r, session_state_of k new)) same ∙ ap (λ x. (o, x)) state_is ∙ ap (after o) (sym whole.rest_is) ∙ ap (λ o. after o p.rest) (sym whole.answer_is)))
+              (λ cut. went_behind first (went_not_whole cut)))
+          | inr cut ↦
+              let stays = λ (e : ReadlineError) (by : (o ≡ Err e) × reason_of true ⊤ e). (subst Ends by.0 closes).stays (unbroken true ⊤ e by.1) in
+              let is : work_of k new ≡ at_end = went_not (λ e by. ap (λ (f : Coming → Work D L). f left) (stays e by).0) cut in
+              subst (Comes (here ++ end_events p.answer)) (sym is)
+              (went_before (end_events p.answer) (went_so (λ e by. (stays e by).1) (went_behind (begun (none_done (work_of k old))) cut)))
+        ]
 
-    line_goes : RunsAt → Ends (outcome_of ran) → IsTrue (items_of k.feed reader).told → (n : ℕ) → (desk_feed k old).bound < n → LineComes n
-    line_goes runs closes t n b = line_comes n runs closes
-        (line_went k.shown k.written_in config.auto_add_history old.lines old.history k.waits k.show_failed (screen_of old.out) setting
-        (line_script n custom) first (last runs) (outcome_of ran) refl (runs.goes t n b))
-
-    line_falls : RunsAt → Went' (end_events (outcome_of ran)) at_end (work_of k new) (result ≡ outcome_of ran) Refused → OnOk result ((desk_feed k new).bound < (desk_feed k old).bound)
-    line_falls runs w =
-        went_cases k.shown k.written_in config.auto_add_history (result ≡ outcome_of ran) Refused (end_events (outcome_of ran)) at_end (work_of k new) w
-        (λ done same. ok_given ran.outcome string_bytes result _ runs.falls same)
-        (λ cut. went_not k.shown k.written_in config.auto_add_history Refused (λ e is. ok_of_cut result e _ is) (end_events (outcome_of ran)) at_end (work_of k new) cut)
+    line_falls : RunsAt → Went k.shown k.written_in config.auto_add_history (end_events (outcome_of ran)) at_end (work_of k new) (result ≡ outcome_of ran) (λ e. result ≡ Err e) → OnOk result ((desk_feed k new).bound < (desk_feed k old).bound)
+    line_falls runs w = went_cases w (λ done same. ok_given ran.outcome string_bytes result _ runs.falls same) (λ cut. went_not (λ e is. rw is tt) cut)
 
     line_given : RunsAt → screen_of out ≡ screen_of ran.out → IsTrue (desk_feed k new).told → given' ≡ given
     line_given runs screen t =
@@ -237,12 +178,11 @@ module _ {S H D L K T : Type 0} (k : KnownDevices S D L) (helps : Option H → H
         → DeskReason k given new e
     reason_of_close runs e (inl p) =
         let cause = err_given ran.outcome string_bytes e _ runs.reason p.0 in
-        let of_line = reason_by given _ (k.show_failed (sink_of ran.out)) (k.write_failed lines) (items_of k.feed reader) _ e (λ r. r) cause in
-        let P : Bool → Type 0 = λ failed. SessionReason given (k.feed reader.bytes.source).failed failed (k.write_failed lines) e in
-        subst P (sym p.1) of_line
-    reason_of_close runs e (inr (inl p)) = subst (λ (e : ReadlineError). DeskReason k given new e) (sym p.0) p.1
-    reason_of_close runs e (inr (inr (inl p))) = subst (λ (e : ReadlineError). DeskReason k given new e) (sym p.0) p.1
-    reason_of_close runs e (inr (inr (inr p))) = subst (λ (e : ReadlineError). DeskReason k given new e) (sym p.0) tt
+        subst (λ failed. SessionReason given (k.feed reader.bytes.source).failed failed (k.write_failed lines) e) (sym p.1)
+        (reason_by given _ (k.show_failed (sink_of ran.out)) (k.write_failed lines) (items_of k.feed reader) _ e (λ r. r) cause)
+    reason_of_close runs e (inr (inl p)) = rw p.0 p.1
+    reason_of_close runs e (inr (inr (inl p))) = rw p.0 p.1
+    reason_of_close runs e (inr (inr (inr p))) = rw p.0 tt
 
     pub takes_line : RunsAt → Ends (outcome_of ran) → screen_of out ≡ screen_of ran.out → (HasPassedOn k (sink_of ran.out) → HasPassedOn k (sink_of out))
         → (HasPassedLines k old.lines → HasPassedLines k lines) → TakesLine k given given' old new result
@@ -267,10 +207,5 @@ module _ {S H D L K T : Type 0} (k : KnownDevices S D L) (helps : Option H → H
         last = runs.last;
         closes = closes;
       };
-      reason = if_err result (closes.reason left);
+      reason = IfErr-weaker result _ _ (λ e. reason_of_close runs e) (closes.reason left);
     }
-      where
-        if_err : (r : Result (List ℕ) ReadlineError) → IfErr r (CloseReason config.auto_add_history old.history (outcome_of ran) (k.show_failed (sink_of ran.out)) (k.show_failed (sink_of out)) (k.write_failed lines))
-            → IfErr r (DeskReason k given new)
-        if_err (Ok u) p = tt
-        if_err (Err e) p = reason_of_close runs e p

@@ -15,10 +15,10 @@ use Rattle.line_keys.specs.KeyFeeds.{InputItem, IsReadFault, Paste, behind}
 use Rattle.line_keys.specs.PhraseScripts.{Reads}
 use Rattle.line_editor.specs.RenderCalls.{Call, Canvas, MadeIn, CutCall, CutCalls}
 use Rattle.line_editor.specs.RenderCalls.Call.{Help}
-use Rattle.line_editor.specs.LineScripts.{DrawnBy, CutLineAsk, Keys, LineAsk, LineScript, LineStage, LineState, Obeys, Stopped, effect_at, left_at, line_world, line_stage, played_from, steps_along}
+use Rattle.line_editor.specs.LineScripts.{CutLineAsk, Keys, LineAsk, LineScript, LineStage, LineState, Obeys, Stopped, effect_at, left_at, line_world, line_stage, played_from, steps_along}
 use Rattle.line_editor.specs.Redraws.{RedrawCalls, calls_of_redraw}
 use Rattle.line_editor.specs.States.{reason_of}
-use Rattle.line_editor.specs.EditSteps.{one, Surface, CutStep, CutHelp, CutEditSteps as StepsStop}
+use Rattle.line_editor.specs.EditSteps.{one, surface, Surface, CutStep, CutHelp, CutEditSteps as StepsStop}
 use Rattle.line_editor.specs.Values.{Value, Setting, EditStep, shown_marks}
 use Rattle.line_editor.specs.Values.EditStep.{Draws as DrawStep, Helped as HelpStep}
 use Rattle.line_editor.proofs.StopsLemmas.{asked_both}
@@ -79,7 +79,7 @@ module _ (s : Screen) where
   step_left c l (DrawStep v marks redraw ∷ rs) = step_left c (calls_of_redraw (ruler_of s) (shown_marks v marks) l redraw).layout rs
   step_left c l (_ ∷ rs) = step_left c l rs
 
-  pub step_quiet : (l : Layout) (rs : List EditStep) → (flat_map lines_kept (step_events s l rs) ≡ []) × (flat_map lines_written (step_events s l rs) ≡ [])
+  step_quiet : (l : Layout) (rs : List EditStep) → (flat_map lines_kept (step_events s l rs) ≡ []) × (flat_map lines_written (step_events s l rs) ≡ [])
   step_quiet l [] = (refl, refl)
   step_quiet l (DrawStep v marks redraw ∷ rs) = step_quiet (calls_of_redraw (ruler_of s) (shown_marks v marks) l redraw).layout rs
   step_quiet l (_ ∷ rs) = step_quiet l rs
@@ -88,18 +88,6 @@ module _ (s : Screen) where
     own_bytes : (k : LineState) (ask : LineAsk) (more : List SessionEvent) → drawn_in (own_events a k ask ++ more) ≡ drawn_in more
     own_bytes k (Keys (Reads item)) more = refl
     own_bytes k _ more = refl
-
-    own_left : (k : LineState) (ask : LineAsk) (more : List SessionEvent) → coming_after_events k.coming (own_events a k ask ++ more) ≡ coming_after_events (left_at a k ask).coming more
-    own_left k (Keys (Reads item)) more = refl
-    own_left k _ more = refl
-
-    pub own_quiet : (k : LineState) (ask : LineAsk) → (flat_map lines_kept (own_events a k ask) ≡ []) × (flat_map lines_written (own_events a k ask) ≡ [])
-    own_quiet k (Keys (Reads item)) = (refl, refl)
-    own_quiet k _ = (refl, refl)
-
-    own_answered : (k : LineState) (ask : LineAsk) → AllAnswered (own_events a k ask)
-    own_answered k (Keys (Reads item)) = tt
-    own_answered k _ = tt
 
     pub asks_bytes : (l : Layout) (k : LineState) (asks : List LineAsk) → drawn_in (asks_events s a l k asks) ≡ flat_map (bytes_of s) (calls_by_screen s l (steps_along a k asks)).calls
     asks_bytes l k [] = refl
@@ -114,35 +102,6 @@ module _ (s : Screen) where
         ∙ ap (λ b. flat_map (bytes_of s) x.calls ++ b) (own_bytes k ask more ∙ asks_bytes x.layout left asks)
         ∙ sym (flat_map-append (bytes_of s) x.calls (calls_by_screen s x.layout later).calls)
         ∙ ap (λ (q : RedrawCalls). flat_map (bytes_of s) q.calls) (sym (asked_both (ruler_of s) l rs later))
-
-    asks_left : (l : Layout) (k : LineState) (asks : List LineAsk) → coming_after_events k.coming (asks_events s a l k asks) ≡ (left_along a k asks).coming
-    asks_left l k [] = refl
-    asks_left l k (ask ∷ asks) =
-        let rs = (effect_at a k ask).steps in
-        let left = left_at a k ask in
-        let x = calls_by_screen s l rs in
-        let more = asks_events s a x.layout left asks in
-        left_both k.coming (step_events s l rs) (own_events a k ask ++ more)
-        ∙ ap (λ c. coming_after_events c (own_events a k ask ++ more)) (step_left k.coming l rs)
-        ∙ own_left k ask more
-        ∙ asks_left x.layout left asks
-
-    nothing_in : (f : SessionEvent → List (List ℕ)) (xs ys zs : List SessionEvent) → flat_map f xs ≡ [] → flat_map f ys ≡ [] → flat_map f zs ≡ [] → flat_map f (xs ++ (ys ++ zs)) ≡ []
-    nothing_in f xs ys zs p q r =
-        flat_map-append f xs (ys ++ zs) ∙ (ap (λ b. b ++ flat_map f (ys ++ zs)) p ∙ (flat_map-append f ys zs ∙ (ap (λ b. b ++ flat_map f zs) q ∙ r)))
-
-    pub asks_quiet : (l : Layout) (k : LineState) (asks : List LineAsk) → (flat_map lines_kept (asks_events s a l k asks) ≡ []) × (flat_map lines_written (asks_events s a l k asks) ≡ [])
-    asks_quiet l k [] = (refl, refl)
-    asks_quiet l k (ask ∷ asks) =
-        let rs = (effect_at a k ask).steps in
-        let left = left_at a k ask in
-        let x = calls_by_screen s l rs in
-        let first = step_quiet l rs in
-        let own = own_quiet k ask in
-        let rest = asks_quiet x.layout left asks in
-        let events = step_events s l rs in
-        let more = asks_events s a x.layout left asks in
-        (nothing_in lines_kept events (own_events a k ask) more first.0 own.0 rest.0, nothing_in lines_written events (own_events a k ask) more first.1 own.1 rest.1)
 
     -- the events of some asks, and of those after them
     pub asks_both : (l : Layout) (k : LineState) (xs ys : List LineAsk)
@@ -169,15 +128,12 @@ folds_apart : {R : Type 0} (made : R → Call → R → Type 0) (xs ys : List Ca
 folds_apart made [] ys a c h = (a, refl, h)
 folds_apart made (x ∷ xs) ys a c h = let r = folds_apart made xs ys h.0 c h.2 in (r.0, (h.0, h.1, r.1), r.2)
 
-module _ {D L : Type 0} (shown : D → List ℕ) (written_in : L → List ℕ) (adds : Bool) where
-  abbrev Sums : List SessionEvent → Work D L → Work D L → Type 0
-  Sums events old new = AreDone shown written_in adds events old new
-
-  pub none_done : (s : Work D L) → Sums [] s s
+module _ {D L : Type 0} {shown : D → List ℕ} {written_in : L → List ℕ} {adds : Bool} where
+  pub none_done : (s : Work D L) → AreDone shown written_in adds [] s s
   none_done s = record { drawn = takes_none shown s.display s.display refl; wrote = takes_none written_in s.lines s.lines refl; history_is = sym (remembered_none adds s.history); left_is = refl; answered = tt }
 
-  pub done_both : (xs ys : List SessionEvent) (s m t : Work D L) → Sums xs s m → Sums ys m t → Sums (xs ++ ys) s t
-  done_both xs ys s m t d r = record {
+  pub done_both : {xs ys : List SessionEvent} {s m t : Work D L} → AreDone shown written_in adds xs s m → AreDone shown written_in adds ys m t → AreDone shown written_in adds (xs ++ ys) s t
+  done_both {xs} {ys} {s} {m} {t} d r = record {
     drawn = subst (TakesAll shown s.display t.display) (sym (flat_map-append bytes_drawn xs ys))
         (takes_then shown s.display m.display t.display (flat_map bytes_drawn xs) (flat_map bytes_drawn ys) d.drawn r.drawn);
     wrote = subst (TakesAll written_in s.lines t.lines) (sym (flat_map-append line_text (flat_map lines_written xs) (flat_map lines_written ys)) ∙ ap lines_text (sym (flat_map-append lines_written xs ys)))
@@ -190,70 +146,69 @@ module _ {D L : Type 0} (shown : D → List ℕ) (written_in : L → List ℕ) (
 
   -- ---- all that goes, or what a fault stopped
 
-  abbrev pub Goes : List SessionEvent → Work D L → Work D L → Type 0 → (ReadlineError → Type 0) → Type 0
-  Goes events s t Whole Faulted = Went shown written_in adds events s t Whole Faulted
+  pub went_whole : {W : Type 0} {F : ReadlineError → Type 0} {events : List SessionEvent} {s t : Work D L} → AreDone shown written_in adds events s t → W → Went shown written_in adds events s t W F
+  went_whole {events = events} {t = t} d w = record { done = events; others = []; split = sym (append-nil events); at = t; are_done = d; stands = (w, refl) }
 
-  module _ (W : Type 0) (F : ReadlineError → Type 0) where
-    pub went_whole : (events : List SessionEvent) (s t : Work D L) → Sums events s t → W → Goes events s t W F
-    went_whole events s t d w = record { done = events; others = []; split = sym (append-nil events); at = t; are_done = d; stands = (w, refl) }
-
-    pub went_stopped : (done : List SessionEvent) (event : SessionEvent) (others : List SessionEvent) (s at t : Work D L) (why : ReadlineError) → Sums done s at → CutSessionEvent shown written_in adds at event why t → F why
-        → Goes (done ++ (event ∷ others)) s t W F
-    went_stopped done event others s at t why d stops f = record { done = done; others = event ∷ others; split = refl; at = at; are_done = d; stands = (why, stops, f) }
+  module _ {F : ReadlineError → Type 0} {s t : Work D L} where
+    pub went_stopped : {W : Type 0} {done : List SessionEvent} {at : Work D L} (event : SessionEvent) (others : List SessionEvent) (why : ReadlineError) → AreDone shown written_in adds done s at
+        → CutSessionEvent shown written_in adds at event why t → F why → Went shown written_in adds (done ++ (event ∷ others)) s t W F
+    went_stopped {done = done} {at = at} event others why d stops f = record { done = done; others = event ∷ others; split = refl; at = at; are_done = d; stands = (why, stops, f) }
 
     -- it was all of them, or a fault stopped one
-    pub went_cases : {P : Type 0} (events : List SessionEvent) (s t : Work D L) → Goes events s t W F → (Sums events s t → W → P) → (Goes events s t ⊥ F → P) → P
-    went_cases {P} events s t w whole cut = by w.others w.split w.stands
+    pub went_cases : {W P : Type 0} {events : List SessionEvent} → Went shown written_in adds events s t W F → (AreDone shown written_in adds events s t → W → P) → (Went shown written_in adds events s t ⊥ F → P) → P
+    went_cases {W} {P} {events} w whole cut = by w.others w.split w.stands
       where
         by : (others : List SessionEvent) → events ≡ w.done ++ others → Stands shown written_in adds others w.at t W F → P
-        by [] split stands =
-            let all : Sums events s w.at = subst (λ events. Sums events s w.at) (sym (split ∙ append-nil w.done)) w.are_done in
-            whole (subst (Sums events s) (sym stands.1) all) stands.0
+        by [] split stands = whole (rw (split, append-nil w.done, stands.1) w.are_done) stands.0
         by (event ∷ others) split stands = cut (record { done = w.done; others = event ∷ others; split = split; at = w.at; are_done = w.are_done; stands = stands })
 
     -- behind others that were done
-    pub went_behind : (xs ys : List SessionEvent) (s m t : Work D L) → Sums xs s m → Goes ys m t W F → Goes (xs ++ ys) s t W F
-    went_behind xs ys s m t d w = record {
+    pub went_behind : {W : Type 0} {xs ys : List SessionEvent} {m : Work D L} → AreDone shown written_in adds xs s m → Went shown written_in adds ys m t W F → Went shown written_in adds (xs ++ ys) s t W F
+    went_behind {xs = xs} d w = record {
       done = xs ++ w.done;
       others = w.others;
       split = ap (λ zs. xs ++ zs) w.split ∙ sym (append_assoc xs w.done w.others);
       at = w.at;
-      are_done = done_both xs w.done s m w.at d w.are_done;
+      are_done = done_both d w.are_done;
       stands = w.stands;
     }
 
     -- a fault stopped one, so those after it were not done
-    pub went_before : (xs ys : List SessionEvent) (s t : Work D L) → Goes xs s t ⊥ F → Goes (xs ++ ys) s t W F
-    went_before xs ys s t w = by w.others w.split w.stands
+    pub went_before : {W : Type 0} {xs : List SessionEvent} (ys : List SessionEvent) → Went shown written_in adds xs s t ⊥ F → Went shown written_in adds (xs ++ ys) s t W F
+    went_before {W} {xs} ys w = by w.others w.split w.stands
       where
-        by : (others : List SessionEvent) → xs ≡ w.done ++ others → Stands shown written_in adds others w.at t ⊥ F → Goes (xs ++ ys) s t W F
+        by : (others : List SessionEvent) → xs ≡ w.done ++ others → Stands shown written_in adds others w.at t ⊥ F → Went shown written_in adds (xs ++ ys) s t W F
         by [] split stands = absurd (stands.0)
         by (event ∷ others) split stands =
-            subst (λ zs. Goes zs s t W F) (sym (ap (λ zs. zs ++ ys) split ∙ append_assoc w.done (event ∷ others) ys))
-            (went_stopped w.done event (others ++ ys) s w.at t stands.0 w.are_done stands.1 stands.2)
+            subst (λ zs. Went shown written_in adds zs s t W F) (sym (ap (λ zs. zs ++ ys) split ∙ append_assoc w.done (event ∷ others) ys))
+            (went_stopped event (others ++ ys) stands.0 w.are_done stands.1 stands.2)
 
-    pub went_not_whole : (events : List SessionEvent) (s t : Work D L) → Goes events s t ⊥ F → Goes events s t W F
-    went_not_whole events s t w = subst (λ zs. Goes zs s t W F) (append-nil events) (went_before events [] s t w)
+    pub went_not_whole : {W : Type 0} {events : List SessionEvent} → Went shown written_in adds events s t ⊥ F → Went shown written_in adds events s t W F
+    went_not_whole {W} {events} w = subst (λ zs. Went shown written_in adds zs s t W F) (append-nil events) (went_before [] w)
 
     -- for another reason
-    pub went_so : (G : ReadlineError → Type 0) → ((e : ReadlineError) → F e → G e) → (events : List SessionEvent) (s t : Work D L) → Goes events s t W F → Goes events s t W G
-    went_so G so events s t w = record { done = w.done; others = w.others; split = w.split; at = w.at; are_done = w.are_done; stands = by w.others w.stands }
+    pub went_so : {G : ReadlineError → Type 0} {events : List SessionEvent} → ((e : ReadlineError) → F e → G e) → Went shown written_in adds events s t ⊥ F → Went shown written_in adds events s t ⊥ G
+    went_so {G} so w = record { done = w.done; others = w.others; split = w.split; at = w.at; are_done = w.are_done; stands = by w.others w.stands }
       where
-        by : (others : List SessionEvent) → Stands shown written_in adds others w.at t W F → Stands shown written_in adds others w.at t W G
-        by [] stands = stands
+        by : (others : List SessionEvent) → Stands shown written_in adds others w.at t ⊥ F → Stands shown written_in adds others w.at t ⊥ G
+        by [] stands = absurd (stands.0)
         by (event ∷ others) stands = (stands.0, stands.1, so stands.0 stands.2)
 
-  -- no fault can have stopped one
-  pub went_not : {P : Type 0} (F : ReadlineError → Type 0) → ((e : ReadlineError) → F e → P) → (events : List SessionEvent) (s t : Work D L) → Goes events s t ⊥ F → P
-  went_not {P} F never events s t w = by w.others w.stands
-    where
-      by : (others : List SessionEvent) → Stands shown written_in adds others w.at t ⊥ F → P
-      by [] stands = absurd (stands.0)
-      by (event ∷ others) stands = never stands.0 stands.2
+    -- no fault can have stopped one
+    pub went_not : {P : Type 0} {events : List SessionEvent} → ((e : ReadlineError) → F e → P) → Went shown written_in adds events s t ⊥ F → P
+    went_not {P} never w = by w.others w.stands
+      where
+        by : (others : List SessionEvent) → Stands shown written_in adds others w.at t ⊥ F → P
+        by [] stands = absurd (stands.0)
+        by (event ∷ others) stands = never stands.0 stands.2
+
+module _ {D L : Type 0} (shown : D → List ℕ) (written_in : L → List ℕ) (adds : Bool) where
+  abbrev Sums : List SessionEvent → Work D L → Work D L → Type 0
+  Sums events old new = AreDone shown written_in adds events old new
 
   -- a fault stopped one of these
   abbrev pub Broken : List SessionEvent → Work D L → ReadlineError → Work D L → Type 0
-  Broken events s why t = Goes events s t ⊥ (λ e. e ≡ why)
+  Broken events s why t = Went shown written_in adds events s t ⊥ (λ e. e ≡ why)
 
   -- ---- a line's calls on a screen; lines and history stay
 
@@ -331,9 +286,6 @@ module _ {D L : Type 0} (shown : D → List ℕ) (written_in : L → List ℕ) (
     step_stopped _ c e left a b is h =
         subst (λ why. CutSessionEvent shown written_in adds (on a.out c) Takes why (on b.out c)) (sym h.0) (ap (λ (x : Surface (ScreenRenderer D)). on x.out c) h.1)
 
-    one_calls : (step : EditStep) (l : Layout) → (calls_by_screen s l (step ∷ [])).calls ≡ (one (ruler_of s) l step).calls
-    one_calls step l = append-nil (one (ruler_of s) l step).calls
-
     steps_stopped : (rs : List EditStep) (c : Coming) (why : ReadlineError) (v : Value) (a b : Surface (ScreenRenderer D)) → screen_of a.out ≡ s
         → StepsStop canvas (ruler_of s) rs a why v b → Broken (step_events s a.layout rs) (on a.out c) why (on b.out c)
     unfolding StepsStop
@@ -342,11 +294,9 @@ module _ {D L : Type 0} (shown : D → List ℕ) (written_in : L → List ℕ) (
         let calls = (one (ruler_of s) a.layout step).calls in
         let rest : Broken (step_events s (one (ruler_of s) a.layout step).layout rs) (on m.out c) why (on b.out c) =
         subst (λ l. Broken (step_events s l rs) (on m.out c) why (on b.out c)) made.1 (steps_stopped rs c why v m b (screen_kept calls a.out m.out is made.0) h) in
-        went_behind ⊥ (λ e. e ≡ why) (step_events s a.layout (step ∷ [])) (step_events s (one (ruler_of s) a.layout step).layout rs) (on a.out c) (on m.out c) (on b.out c)
-        (steps_done (step ∷ []) c a m is (subst (λ calls. Drawn calls a.out m.out) (sym (one_calls step a.layout)) made.0)) rest
+        went_behind (steps_done (step ∷ []) c a m is (subst (λ calls. Drawn calls a.out m.out) (sym (append-nil calls)) made.0)) rest
     steps_stopped (step ∷ rs) c why v a b is (inr h) =
-        went_stopped ⊥ (λ e. e ≡ why) [] (step_event s a.layout step) (step_events s (one (ruler_of s) a.layout step).layout rs) (on a.out c) (on a.out c) (on b.out c) why (none_done (on a.out c))
-        (step_stopped step c why v a b is h) refl
+        went_stopped (step_event s a.layout step) (step_events s (one (ruler_of s) a.layout step).layout rs) why (none_done (on a.out c)) (step_stopped step c why v a b is h) refl
 
     -- ---- a line's asks
 
@@ -354,30 +304,21 @@ module _ {D L : Type 0} (shown : D → List ℕ) (written_in : L → List ℕ) (
       abbrev pub at : LineStage (ScreenRenderer D) → Work D L
       at x = on x.drawn.out x.kept.coming
 
-      asks_answered : (l : Layout) (k : LineState) (asks : List LineAsk) (x y : ScreenRenderer D) → Drawn (calls_by_screen s l (steps_along a k asks)).calls x y → AllAnswered (asks_events s a l k asks)
-      asks_answered l k [] x y made = tt
-      asks_answered l k (ask ∷ asks) x y made =
+      own_done : (ask : LineAsk) (k : LineState) (out : ScreenRenderer D) → Sums (own_events a k ask) (on out k.coming) (on out (left_at a k ask).coming)
+      own_done (Keys (Reads item)) k out = record { drawn = takes_none shown (sink_of out) (sink_of out) refl; wrote = takes_none written_in lines lines refl; history_is = sym (remembered_none adds history); left_is = refl; answered = tt }
+      own_done _ k out = record { drawn = takes_none shown (sink_of out) (sink_of out) refl; wrote = takes_none written_in lines lines refl; history_is = sym (remembered_none adds history); left_is = refl; answered = tt }
+
+      asks_done : (asks : List LineAsk) (k : LineState) (l : Layout) (x y : ScreenRenderer D) → screen_of x ≡ s → Drawn (calls_by_screen s l (steps_along a k asks)).calls x y
+          → Sums (asks_events s a l k asks) (on x k.coming) (on y (left_along a k asks).coming)
+      asks_done [] k l x y is made = subst (λ y. Sums [] (on x k.coming) (on y k.coming)) made (none_done (on x k.coming))
+      asks_done (ask ∷ asks) k l x y is made =
           let rs = (effect_at a k ask).steps in
           let left = left_at a k ask in
           let m = calls_by_screen s l rs in
           let later = steps_along a left asks in
           let parts = folds_apart (MadeIn canvas) m.calls (calls_by_screen s m.layout later).calls x y (subst (λ (q : RedrawCalls). Drawn q.calls x y) (asked_both (ruler_of s) l rs later) made) in
-          answered_both (step_events s l rs) (own_events a k ask ++ asks_events s a m.layout left asks) (steps_answered l rs x parts.0 parts.1)
-          (answered_both (own_events a k ask) (asks_events s a m.layout left asks) (own_answered s a k ask) (asks_answered m.layout left asks parts.0 y parts.2))
-
-      asks_done : (asks : List LineAsk) (x y : LineStage (ScreenRenderer D)) → screen_of x.drawn.out ≡ s → DrawnBy canvas (ruler_of s) (steps_along a x.kept asks) x.drawn y.drawn
-          → y.kept.coming ≡ (left_along a x.kept asks).coming → Sums (asks_events s a x.drawn.layout x.kept asks) (at x) (at y)
-      asks_done asks x y is made left_is =
-          let l = x.drawn.layout in
-          let quiet = asks_quiet s a l x.kept asks in
-          record {
-            drawn = subst (TakesAll shown (sink_of x.drawn.out) (sink_of y.drawn.out)) (sym (asks_bytes s a l x.kept asks))
-                (calls_sent (calls_by_screen s l (steps_along a x.kept asks)).calls x.drawn.out y.drawn.out is made.0);
-            wrote = subst (λ xs. TakesAll written_in lines lines (lines_text xs)) (sym quiet.1) (takes_none written_in lines lines refl);
-            history_is = sym (remembered_none adds history) ∙ ap (λ xs. history_with_if adds xs history) (sym quiet.0);
-            left_is = left_is ∙ sym (asks_left s a l x.kept asks);
-            answered = asks_answered l x.kept asks x.drawn.out y.drawn.out made.0;
-          }
+          done_both (steps_done rs k.coming (surface x l) (surface parts.0 m.layout) is parts.1)
+          (done_both (own_done ask k parts.0) (asks_done asks left m.layout parts.0 y (screen_kept m.calls x parts.0 is parts.1) parts.2))
 
       leaves_coming : (ask : LineAsk) (k l : LineState) (why : ReadlineError) → CutLineAsk ask k why l → l.coming ≡ k.coming
       leaves_coming (Obeys cmd) k l why h = ap (λ (z : LineState). z.coming) h.0
@@ -390,14 +331,13 @@ module _ {D L : Type 0} (shown : D → List ℕ) (written_in : L → List ℕ) (
           let more = own_events a x.kept ask ++ asks_events s a (calls_by_screen s x.drawn.layout rs).layout (left_at a x.kept ask) asks in
           let events = step_events s x.drawn.layout rs ++ more in
           subst (λ c. Broken events (at x) why (on y.drawn.out c)) (sym (leaves_coming ask x.kept y.kept why leaves))
-          (went_before ⊥ (λ e. e ≡ why) (step_events s x.drawn.layout rs) more (at x) (on y.drawn.out x.kept.coming) (steps_stopped rs x.kept.coming why y.kept.value x.drawn y.drawn is stops))
+          (went_before more (steps_stopped rs x.kept.coming why y.kept.value x.drawn y.drawn is stops))
       ask_stopped (Keys (Reads item)) asks why x y is (inr (left, unread, same)) = unread_by item why left unread same
         where
           unread_by : (item : InputItem) (why : ReadlineError) (left : List ℕ) → IsReadFault item why → y ≡ line_stage x.drawn (record x.kept { coming = coming_after_error why left })
               → Broken (Hears item ∷ asks_events s a x.drawn.layout (left_at a x.kept (Keys (Reads item))) asks) (at x) why (at y)
           unread_by Paste Memory left unread same =
-              went_stopped ⊥ (λ e. e ≡ Memory) [] (Hears Paste) (asks_events s a x.drawn.layout (left_at a x.kept (Keys (Reads Paste))) asks) (at x) (at x) (at y) Memory (none_done (at x))
-              (left, ap (λ (z : LineStage (ScreenRenderer D)). at z) same) refl
+              went_stopped (Hears Paste) (asks_events s a x.drawn.layout (left_at a x.kept (Keys (Reads Paste))) asks) Memory (none_done (at x)) (left, ap (λ (z : LineStage (ScreenRenderer D)). at z) same) refl
           unread_by _ _ left unread same = absurd unread
       ask_stopped _ asks why x y is (inr (left, unread, same)) = absurd unread
 
@@ -411,7 +351,7 @@ module _ {D L : Type 0} (shown : D → List ℕ) (written_in : L → List ℕ) (
 
       -- or a fault stopped it
       abbrev pub Cut : {X : Type 0} → LineScript X → LineStage (ScreenRenderer D) → LineStage (ScreenRenderer D) → Result X ReadlineError → Type 0
-      Cut p x y result = Goes (asks_events s a x.drawn.layout x.kept (played_from a p x.kept).asks) (at x) (at y) ⊥ (λ e. (result ≡ Err e) × reason_of true ⊤ e)
+      Cut p x y result = Went shown written_in adds (asks_events s a x.drawn.layout x.kept (played_from a p x.kept).asks) (at x) (at y) ⊥ (λ e. (result ≡ Err e) × reason_of true ⊤ e)
 
       pub line_went : {X : Type 0} (p : LineScript X) (x y : LineStage (ScreenRenderer D)) (result : Result X ReadlineError) → screen_of x.drawn.out ≡ s → GoesOn (line_world canvas (ruler_of s) a) p x result y
           → Whole p x y result ⊎ Cut p x y result
@@ -423,11 +363,13 @@ module _ {D L : Type 0} (shown : D → List ℕ) (written_in : L → List ℕ) (
               inl (record {
                 answer_is = h.answer_is;
                 rest_is = h.rest_is;
-                are_done = asks_done q.asks x y is h.drawn (ap (λ (k : LineState). k.coming) (sym h.rest_is ∙ sym (rest_along a p x.kept)));
+                are_done = subst (λ (k : LineState). Sums (asks_events s a x.drawn.layout x.kept q.asks) (at x) (on y.drawn.out k.coming)) (rest_along a p x.kept ∙ h.rest_is)
+                    (asks_done q.asks x.kept x.drawn.layout x.drawn.out y.drawn.out is h.drawn.0);
               })
           by (inr h) =
               let q = played_from a p x.kept in
-              let first = asks_done h.done x h.at is h.drawn (ap (λ (k : LineState). k.coming) h.kept_is) in
+              let first = subst (λ (k : LineState). Sums (asks_events s a x.drawn.layout x.kept h.done) (at x) (on h.at.drawn.out k.coming)) (sym h.kept_is)
+              (asks_done h.done x.kept x.drawn.layout x.drawn.out h.at.drawn.out is h.drawn.0) in
               let now : screen_of h.at.drawn.out ≡ s = screen_kept (calls_by_screen s x.drawn.layout (steps_along a x.kept h.done)).calls x.drawn.out h.at.drawn.out is h.drawn.0 in
               let next = ask_stopped h.ask h.others h.fault h.at y now h.stopped in
               let E : Layout → LineState → List SessionEvent = λ l k. asks_events s a l k (h.ask ∷ h.others) in
@@ -435,10 +377,8 @@ module _ {D L : Type 0} (shown : D → List ℕ) (written_in : L → List ℕ) (
               let placed : Broken (E there (left_along a x.kept h.done)) (at h.at) h.fault (at y) =
               subst (λ k. Broken (E there k) (at h.at) h.fault (at y)) h.kept_is (subst (λ l. Broken (E l h.at.kept) (at h.at) h.fault (at y)) h.drawn.1 next) in
               let mine = asks_events s a x.drawn.layout x.kept h.done in
-              let both = went_behind ⊥ (λ e. e ≡ h.fault) mine (E there (left_along a x.kept h.done)) (at x) (at h.at) (at y) first placed in
+              let both : Broken (mine ++ E there (left_along a x.kept h.done)) (at x) h.fault (at y) = went_behind first placed in
               let cause = stopped_cause canvas (ruler_of s) a h.ask h.at y h.fault h.stopped in
               let split = ap (asks_events s a x.drawn.layout x.kept) h.first ∙ asks_both s a x.drawn.layout x.kept h.done (h.ask ∷ h.others) in
-              inr (went_so ⊥ (λ e. e ≡ h.fault) (λ e. (result ≡ Err e) × reason_of true ⊤ e)
-              (λ e is. (h.result_is ∙ ap (λ e. Err e) (sym is), subst (reason_of true ⊤) (sym is) cause))
-              (asks_events s a x.drawn.layout x.kept q.asks) (at x) (at y)
+              inr (went_so (λ e is. (h.result_is ∙ ap (λ e. Err e) (sym is), subst (reason_of true ⊤) (sym is) cause))
               (subst (λ events. Broken events (at x) h.fault (at y)) (sym split) both))

@@ -1,35 +1,26 @@
-pub mod AlikeScripts
 pub mod BytesFuel
 pub mod CloseLemmas
 pub mod CuttingLemmas
 pub mod DeskLemmas
-pub mod EditLemmas
 pub mod EnvironmentLemmas
 pub mod EventLemmas
 mod FaultRows
 pub mod HeardBytes
 pub mod HeardLines
 pub mod InvocationLemmas
-pub mod LineFuel
 pub mod LinesLemmas
 pub mod OneByteLemmas
 pub mod OpenedLemmas
 pub mod OptionsLemmas
 pub mod OrderLemmas
 pub mod PasteLemmas
-pub mod PastePhrases
 pub mod PhraseFuel
 pub mod PlayedLemmas
-pub mod RestFits
 pub mod SessionFuel
 pub mod SessionLawLemmas
 pub mod SessionSteps
 pub mod ShowCourse
 mod ShowRows
 pub mod ShowSteps
-pub mod SteadyParts
 pub mod TranscriptLemmas
-pub mod TurnShowLemmas
 pub mod UnmetLemmas
-pub mod Unread
-pub mod ViFuel

@@ -1,5 +1,5 @@
 -- Lines in a loop, with one prompt, and with a prompt and columns for each.
-use Rattle.std.proofs.Common.{◌≡◌, ℕ, suc, ◌<◌, List, Result, Ok, Err, IsTrue, refl, sym, ap, ◌∙◌, subst}
+use Rattle.std.proofs.Common.{◌≡◌, ℕ, suc, List, Result, Ok, Err, IsTrue, refl, sym, ap, ◌∙◌, subst}
 use Rattle.line_config.specs.declared.errors.ReadlineError.{ReadlineError}
 use Rattle.line_screen.specs.ScreenCalls.{sink_of}
 use Rattle.line_screen.specs.declared.renderer.ScreenRenderer.{ScreenRenderer}
@@ -9,7 +9,7 @@ use Rattle.keyline.specs.KnownDevices.{KnownDevices, HasPassedOn}
 use Rattle.keyline.specs.SessionEffects.{Went, Work, work}
 use Rattle.keyline.specs.Sessions.{Given, LineGiven, each, for_line}
 use Rattle.keyline.specs.declared.desk.Desk.{Desk}
-use Rattle.keyline.proofs.SessionSteps.{Onward, Onwards, onward_nowhere, onward_ok, onward_err}
+use Rattle.keyline.proofs.SessionSteps.{Onward, onward_nowhere, onward_ok, onward_err}
 
 pub along : {A B : Type 0} {x y : A} → x ≡ y → (f : A → B) → f x ≡ f y
 along same f = ap f same
@@ -49,45 +49,27 @@ module _ {S H D L : Type 0} (k : KnownDevices S D L) where
   pub asking_nowhere : (g : Given) (at : ℕ → LineGiven) (d : Desk S H D L) → Asking k g g at at d d
   asking_nowhere g at d = record { onward = onward_nowhere k g at d; given = λ t line. refl; custom = refl }
 
-  -- a desk with another renderer on the same display
-  redrawn : Desk S H D L → ScreenRenderer D → Desk S H D L
-  redrawn d out = record d { out = out }
-
-  onward_redrawn : (g : Given) (at at' : ℕ → LineGiven) (first now : Desk S H D L) (out : ScreenRenderer D) → sink_of out ≡ sink_of now.out
-      → Onward k g at at' first now → Onward k g at at' first (redrawn now out)
-  unfolding redrawn
+  -- at a desk with another renderer on the same display
+  onward_redrawn : (g : Given) (at at' : ℕ → LineGiven) (first now : Desk S H D L) (out : ScreenRenderer D) → sink_of out ≡ sink_of now.out → Onward k g at at' first now → Onward k g at at' first (record now { out = out })
   onward_redrawn g at at' first now out same before = record {
     told = before.told;
     passes = λ t none. subst (HasPassedOn k) (sym same) (before.passes t none);
     passes_lines = before.passes_lines;
-    onward = λ t n b. let so = before.onward t n b in went so.0 so.1 so.2;
+    onward = λ t n b.
+        let so = before.onward t n b in
+        let lines = session so.0 g at' (session_state_of k now) in
+        let P : Work D L → ReadlineError → D → Type 0 = λ end why display.
+        Went k.shown k.written_in g.config.auto_add_history lines.events (work display now.lines now.history (desk_feed k now).coming) end (why ≡ lines.answer) (λ e. why ≡ e) in
+        (so.0, so.1, λ end why r. so.2 end why (subst (P end why) same r));
   }
-    where
-      went : (m : ℕ) → (desk_feed k now).bound < m → {Q : Work D L → ReadlineError → Type 0}
-          → ((end : Work D L) (why : ReadlineError) → Onwards k m g at' now end why → Q end why)
-          → (m' : ℕ) × ((desk_feed k now).bound < m')
-          × ((end : Work D L) (why : ReadlineError) → Onwards k m' g at' (redrawn now out) end why → Q end why)
-      went m b so = (
-        m,
-        b,
-        λ end why r.
-            let lines = session m g at' (session_state_of k now) in
-            let P : D → Type 0 = λ display.
-            Went k.shown k.written_in g.config.auto_add_history lines.events (work display now.lines now.history (desk_feed k now).coming) end (why ≡ lines.answer) (λ e. why ≡ e) in
-            so end why (subst P same r),
-      )
 
   module _ (g h h1 h2 : Given) (at at' : ℕ → LineGiven) (first now now1 next : Desk S H D L) (result : Result (List ℕ) ReadlineError) (before : Asking k g h at at' first now)
       (others : now1 ≡ record now { out = now1.out }) (same : sink_of now1.out ≡ sink_of now.out) (asked : h1 ≡ for_line h (at' 0)) (line : TakesLine k h1 h2 now1 next result) where
     onward_here : Onward k g at at' first now1
-    unfolding redrawn
     onward_here = let P : Desk S H D L → Type 0 = Onward k g at at' first in subst P (sym others) (onward_redrawn g at at' first now now1.out same before.onward)
 
-    told_here : IsTrue (desk_feed k now1).told → IsTrue (desk_feed k now).told
-    told_here t = let P : Desk S H D L → Type 0 = λ d. IsTrue (desk_feed k d).told in subst P others t
-
     given_here : IsTrue (desk_feed k now1).told → h1 ≡ for_line g (at' 0)
-    given_here t = asked ∙ before.given (told_here t) (at' 0)
+    given_here t = let P : Desk S H D L → Type 0 = λ d. IsTrue (desk_feed k d).told in asked ∙ before.given (subst P others t) (at' 0)
 
     custom_here : h1.custom ≡ g.custom
     custom_here = ap (λ (h : Given). h.custom) asked ∙ before.custom
@@ -95,9 +77,7 @@ module _ {S H D L : Type 0} (k : KnownDevices S D L) where
     pub asking_ok : (text : List ℕ) → result ≡ Ok text → (at'' : ℕ → LineGiven) → at'' ≡ (λ line. at' (suc line))
         → (h' : Given) → ((line : LineGiven) → for_line h' line ≡ for_line h2 line) → h'.custom ≡ h2.custom → Asking k g h' at at'' first next
     asking_ok text is at'' later h' alike customs = record {
-      onward =
-          let P : (ℕ → LineGiven) → Type 0 = λ at''. Onward k g at at'' first next in
-          subst P (sym later) (onward_ok k g at at' first now1 next h1 h2 result onward_here given_here line text is);
+      onward = subst (λ at''. Onward k g at at'' first next) (sym later) (onward_ok k g at at' first now1 next h1 h2 result onward_here given_here line text is);
       given = λ t l. alike l ∙ ap (λ (h : Given). for_line h l) (line.given t ∙ given_here (line.told t));
       custom = customs ∙ (line.custom ∙ custom_here);
     }

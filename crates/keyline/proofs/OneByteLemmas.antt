@@ -148,9 +148,7 @@ typed_bytes s l a v c t =
     ∙ ap (λ way. bytes_for s l (Draws e.value a.marks (put_redraw way c (since a v.line.place v) a e.value) ∷ [])) (typed_way a v c t)
 
 short_bytes : (s : Screen) (l : Layout) (v : Value) (m : Option Marks) (prompt : List ℕ) (c : ℕ) (text : List ℕ) (at : ℕ) → is_printable c ≡ true → may_type (ruler_of s) l ≡ true → bytes_for s l (Draws v m (Typed prompt c text at) ∷ []) ≡ c ∷ []
-short_bytes s l v m prompt c text at printable may =
-    ap (λ b. flat_map (bytes_of s) ((if b then char_call l c else full (ruler_of s) (shown_marks v m) l prompt true text at None).calls ++ [])) may
-    ∙ append-nil (encode_utf8 c) ∙ encode_ascii c (small c printable)
+short_bytes s l v m prompt c text at printable may = rw may (append-nil (encode_utf8 c) ∙ encode_ascii c (small c printable))
 
 -- a letter that doesn't fill its row is drawn by its byte
 here_in_row : (columns : ℕ) (at : Position) → fits_in_row columns at ≡ true → in_row columns at ≡ at
@@ -169,8 +167,7 @@ letter_bytes s c at printable room =
 alone_bytes : (s : Screen) (l : Layout) (v : Value) (m : Option Marks) (prompt : List ℕ) (c : ℕ) (text : List ℕ) (at : ℕ) → is_printable c ≡ true → may_type (ruler_of s) l ≡ true → bytes_for s l (Draws v m (Appended prompt c text at) ∷ []) ≡ c ∷ []
 alone_bytes s l v m prompt c text at printable may =
     let parts = and_parts (not l.has_info) (fits_in_row s.columns l.cursor) may in
-    ap (λ b. flat_map (bytes_of s) ((if b then full (ruler_of s) (shown_marks v m) l prompt true text at None else append_call (ruler_of s) l c).calls ++ [])) (not-true l.has_info parts.0)
-    ∙ append-nil (bytes_of s (Append (encode_utf8 c) l.cursor)) ∙ letter_bytes s c l.cursor printable parts.1
+    rw (not-true l.has_info parts.0) (append-nil (bytes_of s (Append (encode_utf8 c) l.cursor)) ∙ letter_bytes s c l.cursor printable parts.1)
 
 either_bytes : (s : Screen) (l : Layout) (a : Setting) (v : Value) (c : ℕ) (b : Bool) (from : Option Since) → is_printable c ≡ true → may_type (ruler_of s) l ≡ true
     → bytes_for s l (Draws v a.marks (put_redraw (if b then Alone else AtEnd) c from a v) ∷ []) ≡ c ∷ []
@@ -202,9 +199,7 @@ turned_steps n a custom k c rests alone =
 
 -- after steps that call nothing
 unasked_bytes : (s : Screen) (l : Layout) (xs ys : List EditStep) → calls_by_screen s l xs ≡ nothing_asked l → bytes_for s l (xs ++ ys) ≡ bytes_for s l ys
-unasked_bytes s l xs ys none =
-    ap (λ (x : RedrawCalls). flat_map (bytes_of s) x.calls) (asked_both (ruler_of s) l xs ys)
-    ∙ ap (λ (x : RedrawCalls). flat_map (bytes_of s) (x.calls ++ (calls_by_screen s x.layout ys).calls)) none
+unasked_bytes s l xs ys none = rw (asked_both (ruler_of s) l xs ys, none) refl
 
 pub one_byte : OneByte
 one_byte n s l a custom k c rests alone t may =

@@ -1,98 +1,102 @@
 -- Each line of a session is written right after it was kept.
 use Rattle.std.proofs.Common.{◌≡◌, ℕ, zero, suc, ◌≤◌, Bool, true, false, List, [], ◌∷◌, ◌++◌, length, refl, sym, ap, ◌∙◌, subst, append-nil, append_assoc, Result, Ok, Err, arith}
 use Rattle.std.specs.List.{flat_map}
-use Rattle.std.specs.Prelude.{⊤, if◌then◌else◌}
+use Rattle.std.specs.Prelude.{if◌then◌else◌}
 use Rattle.std.proofs.lemmas.Grind.{flat_map-append}
 use Rattle.line_config.specs.declared.errors.ReadlineError.{ReadlineError}
 use Rattle.line_editor.specs.LineEndings.{breaks_after}
 use Rattle.line_editor.specs.Redraws.{fresh}
-use Rattle.line_editor.specs.LineRun.{first_line_state}
-use Rattle.keyline.specs.Events.{SessionEvent, Course, Breaks, Keeps, Writes, LinesInOrder, asks_events, end_events, course_after_line, line_course, lines_kept, lines_written, line_play_in, session}
+use Rattle.keyline.specs.Events.{SessionEvent, Course, Breaks, Keeps, Writes, LinesInOrder, end_events, events_of, first_in, asks_events, own_events, step_events, course_after_line, line_course, lines_kept, lines_written, line_play_in, session}
 use Rattle.keyline.specs.Sessions.{Given, LineGiven, SessionState, for_line, setting_in}
-use Rattle.keyline.proofs.EventLemmas.{asks_quiet}
+use Rattle.keyline.specs.Shows.{calls_by_screen}
+use Rattle.line_buffer.specs.declared.layout.Layout.{Layout}
+use Rattle.line_editor.specs.EditSteps.{one}
+use Rattle.line_editor.specs.LineScripts.{Keys, LineAsk, LineState, effect_at, left_at}
+use Rattle.line_editor.specs.Values.{EditStep, Setting}
+use Rattle.line_editor.specs.Values.EditStep.{Draws}
+use Rattle.line_keys.specs.PhraseScripts.{Reads}
+use Rattle.line_screen.specs.ScreenCalls.{Screen, ruler_of}
 
 -- each line is written right after it was kept; these are kept and not yet written
 abbrev Ordered : List (List ℕ) → List SessionEvent → Type 0
-Ordered hand [] = ⊤
+Ordered hand [] = hand ≡ []
 Ordered hand (Keeps line ∷ more) = (hand ≡ []) × Ordered (line ∷ []) more
 Ordered hand (Writes line ∷ more) = (hand ≡ line ∷ []) × Ordered [] more
 Ordered hand (event ∷ more) = Ordered hand more
 
--- these keep and write nothing
-abbrev IsQuiet : List SessionEvent → Type 0
-IsQuiet events = (flat_map lines_kept events ≡ []) × (flat_map lines_written events ≡ [])
+-- what a line asks for keeps and writes nothing
+module _ (s : Screen) (tail : List SessionEvent) (rest : Ordered [] tail) where
+  steps_first : (l : Layout) (steps : List EditStep) (more : List SessionEvent) → Ordered [] more → Ordered [] (step_events s l steps ++ more)
+  steps_first l [] more h = h
+  steps_first l (Draws v marks redraw ∷ steps) more h = steps_first (one (ruler_of s) l (Draws v marks redraw)).layout steps more h
+  steps_first l (_ ∷ steps) more h = steps_first l steps more h
 
-quiet_first : (events tail : List SessionEvent) → IsQuiet events → Ordered [] tail → Ordered [] (events ++ tail)
-quiet_first [] tail quiet rest = rest
-quiet_first (Keeps line ∷ events) tail quiet rest = absurd (cc)
-quiet_first (Writes line ∷ events) tail quiet rest = absurd (cc)
-quiet_first (_ ∷ events) tail quiet rest = quiet_first events tail quiet rest
+  own_first : (a : Setting) (k : LineState) (ask : LineAsk) (more : List SessionEvent) → Ordered [] more → Ordered [] (own_events a k ask ++ more)
+  own_first a k (Keys (Reads item)) more h = h
+  own_first a k _ more h = h
 
-record InOrder (events : List SessionEvent) : Type 0 where
-  ordered : Ordered [] events
-  same : flat_map lines_written events ≡ flat_map lines_kept events
+  asks_first : (a : Setting) (l : Layout) (k : LineState) (asks : List LineAsk) → Ordered [] (asks_events s a l k asks ++ tail)
+  asks_first a l k [] = rest
+  asks_first a l k (ask ∷ asks) =
+      let steps = (effect_at a k ask).steps in
+      let m = (calls_by_screen s l steps).layout in
+      rw (append_assoc (step_events s l steps) _ tail, append_assoc (own_events a k ask) _ tail)
+      (steps_first l steps (own_events a k ask ++ (asks_events s a m (left_at a k ask) asks ++ tail)) (own_first a k ask (asks_events s a m (left_at a k ask) asks ++ tail) (asks_first a m (left_at a k ask) asks)))
 
-behind_quiet : (events tail : List SessionEvent) → IsQuiet events → InOrder tail → InOrder (events ++ tail)
-behind_quiet events tail quiet rest =
-    let part : (f : SessionEvent → List (List ℕ)) → flat_map f events ≡ [] → flat_map f (events ++ tail) ≡ flat_map f tail
-    = λ f none. flat_map-append f events tail ∙ ap (λ b. b ++ flat_map f tail) none in
-    record { ordered = quiet_first events tail quiet rest.ordered; same = part lines_written quiet.1 ∙ rest.same ∙ sym (part lines_kept quiet.0) }
-
-end_first : (o : Result (List ℕ) ReadlineError) (tail : List SessionEvent) → InOrder tail → InOrder (end_events o ++ tail)
-end_first (Ok text) tail rest = record { ordered = (refl, (refl, rest.ordered)); same = ap (λ lines. text ∷ lines) rest.same }
+end_first : (o : Result (List ℕ) ReadlineError) (tail : List SessionEvent) → Ordered [] tail → Ordered [] (end_events o ++ tail)
+end_first (Ok text) tail rest = (refl, (refl, rest))
 end_first (Err e) tail rest = by (breaks_after e)
   where
-    by : (b : Bool) → InOrder ((if b then Breaks ∷ [] else []) ++ tail)
-    by true = record { ordered = rest.ordered; same = rest.same }
+    by : (b : Bool) → Ordered [] ((if b then Breaks ∷ [] else []) ++ tail)
+    by true = rest
     by false = rest
 
-on_line : (later : SessionState → Course ReadlineError) (o : Result (List ℕ) ReadlineError) (y : SessionState) → InOrder (later y).events → InOrder (course_after_line later (o, y)).events
+on_line : (later : SessionState → Course ReadlineError) (o : Result (List ℕ) ReadlineError) (y : SessionState) → Ordered [] (later y).events → Ordered [] (course_after_line later (o, y)).events
 on_line later (Ok text) y rest = rest
-on_line later (Err e) y rest = record { ordered = tt; same = refl }
+on_line later (Err e) y rest = refl
 
-in_order : (n : ℕ) (g : Given) (at : ℕ → LineGiven) (x : SessionState) → InOrder (session n g at x).events
+in_order : (n : ℕ) (g : Given) (at : ℕ → LineGiven) (x : SessionState) → Ordered [] (session n g at x).events
 unfolding session
-in_order zero g at x = record { ordered = tt; same = refl }
+in_order zero g at x = refl
 in_order (suc n) g at x =
     let first = for_line g (at 0) in
     let later : SessionState → Course ReadlineError = session n g (λ line. at (suc line)) in
     let line = line_course (suc n) first x in
-    let y = line.answer.1 in
     let more = (course_after_line later line.answer).events in
-    let a = setting_in first x.history.kept.entries in
     let p = line_play_in (suc n) first x in
-    let l = fresh first.screen.mode in
-    let k = first_line_state a x.ring x.query x.coming in
-    let asks = asks_events first.screen a l k p.asks in
-    let all = behind_quiet asks (end_events p.answer ++ more) (asks_quiet first.screen a l k p.asks)
-    (end_first p.answer more (on_line later line.answer.0 y (in_order n g (λ line. at (suc line)) y))) in
-    let both : InOrder ((asks ++ end_events p.answer) ++ more) = subst InOrder (sym (append_assoc asks (end_events p.answer) more)) all in
-    record { ordered = both.ordered; same = both.same }
+    let s = first.screen in
+    let asks = events_of first x p.asks in
+    subst (λ events. Ordered [] events) (sym (append_assoc asks (end_events p.answer) more))
+    (asks_first s (end_events p.answer ++ more)
+    (end_first p.answer more (on_line later line.answer.0 line.answer.1 (in_order n g (λ line. at (suc line)) line.answer.1)))
+    (setting_in first x.history.kept.entries) (fresh s.mode) (first_in first x) p.asks)
 
 -- ---- what the first of them come to
 
-record Hand (hand : List (List ℕ)) (done : List SessionEvent) : Type 0 where
+record Hand (hand : List (List ℕ)) (done next : List SessionEvent) : Type 0 where
   in_hand : List (List ℕ)
   one : length in_hand ≤ 1
   kept : hand ++ flat_map lines_kept done ≡ flat_map lines_written done ++ in_hand
+  rest : Ordered in_hand next
 
-hand_of : (hand : List (List ℕ)) (done next : List SessionEvent) → length hand ≤ 1 → Ordered hand (done ++ next) → Hand hand done
-hand_of hand [] next one is = record { in_hand = hand; one = one; kept = append-nil hand }
+hand_of : (hand : List (List ℕ)) (done next : List SessionEvent) → length hand ≤ 1 → Ordered hand (done ++ next) → Hand hand done next
+hand_of hand [] next one is = record { in_hand = hand; one = one; kept = append-nil hand; rest = is }
 hand_of hand (Keeps line ∷ done) next one is =
     let r = hand_of (line ∷ []) done next (search arith) is.1 in
-    record { in_hand = r.in_hand; one = r.one; kept = ap (λ lines. lines ++ line ∷ flat_map lines_kept done) is.0 ∙ r.kept }
+    record { in_hand = r.in_hand; one = r.one; kept = ap (λ lines. lines ++ line ∷ flat_map lines_kept done) is.0 ∙ r.kept; rest = r.rest }
 hand_of hand (Writes line ∷ done) next one is =
     let r = hand_of [] done next (search arith) is.1 in
-    record { in_hand = r.in_hand; one = r.one; kept = ap (λ lines. lines ++ flat_map lines_kept done) is.0 ∙ ap (λ lines. line ∷ lines) r.kept }
-hand_of hand (_ ∷ done) next one is = let r = hand_of hand done next one is in record { in_hand = r.in_hand; one = r.one; kept = r.kept }
+    record { in_hand = r.in_hand; one = r.one; kept = ap (λ lines. lines ++ flat_map lines_kept done) is.0 ∙ ap (λ lines. line ∷ lines) r.kept; rest = r.rest }
+hand_of hand (_ ∷ done) next one is = let r = hand_of hand done next one is in record { in_hand = r.in_hand; one = r.one; kept = r.kept; rest = r.rest }
 
 pub lines_in_order : LinesInOrder
 lines_in_order n g at x done next =
     let events = (session n g at x).events in
-    let all = in_order n g at x in (
-      all.same,
+    let at_once = in_order n g at x in
+    let all = hand_of [] events [] (search arith) (subst (λ events. Ordered [] events) (sym (append-nil events)) at_once) in (
+      sym (all.kept ∙ ap (λ hand. flat_map lines_written events ++ hand) all.rest ∙ append-nil (flat_map lines_written events)),
       λ split.
-          let r = hand_of [] done next (search arith) (subst (λ events. Ordered [] events) split all.ordered) in
+          let r = hand_of [] done next (search arith) (subst (λ events. Ordered [] events) split at_once) in
           record {
             in_hand = r.in_hand;
             others = flat_map lines_kept next;

@@ -1,64 +1,198 @@
--- Each phrase is steady.
-use Rattle.std.proofs.Common.{ℕ, cond, zero, suc, ◌<◌, Bool, true, false, List, [], ◌∷◌, ◌++◌, Option, None, Some, refl, arith}
+-- Scripts that play alike on an input with so many keys and pastes, whatever fuel above that they have: each phrase
+-- does.
+use Rattle.std.proofs.Common.{◌≡◌, ℕ, zero, suc, ◌≤◌, Bool, true, false, refl, sym, ap, subst, arith, ◌<◌, Option, None, Some, cond, List, [], ◌∷◌, ◌++◌}
+use Rattle.std.specs.Bool.{⊤}
+use Rattle.script.specs.Scripts.{Script, Ends, Asks, then}
+use Rattle.line_keys.specs.KeyFeeds.{InputItem, InputOf, Key, Paste}
+use Rattle.line_keys.specs.PhraseScripts.{Input, KeyAsk, Reads, KeyScript, PhrasePart, steps, answer_part, needs_if, memory_then, read_upto, with_read, from_key, show_then, keep_then, script_if_answered, reply_script, reply_then, after, input_after_ask, shown_after_ask, and_then, Shows}
+use Rattle.line_keys.specs.Refreshing.{Shown, Ask, Prompted, DoingInsert, DoneInserting}
+use Rattle.line_keys.specs.Replies.{Reply}
+use Rattle.line_keys.specs.declared.key.KeyEvent.{KeyEvent}
 use Rattle.std.specs.Prelude.{ℤ}
-use Rattle.script.specs.Scripts.{Asks}
 use Rattle.line_config.specs.declared.settings.EditMode.{EditMode}
 use Rattle.line_keys.specs.CustomBindings.{Custom}
-use Rattle.line_keys.specs.Commands.{holds_text}
-use Rattle.line_keys.specs.Common.{bound_command, binding_or, command_or, common, common_action, common_done, decision_of, sequence, terminal_command}
-use Rattle.line_keys.specs.Counts.{count_from_key, count_and_key, count_with_key, rest_of_count, rest_of_count_by, count_or_key, rest_of_count_in, how_often, is_plus, prompt_for, prompting}
+use Rattle.line_keys.specs.Commands.{holds_text, flags_of}
+use Rattle.line_keys.specs.Common.{bound_command, binding_or, command_or, common, common_action, common_done, decision_of, terminal_command}
+use Rattle.line_keys.specs.Counts.{count_from_key, count_and_key, count_with_key, rest_of_count, rest_of_count_by, count_or_key, rest_of_count_in, how_often, is_plus, prompt_for, prompting, Counted, count_times, typed_count}
 use Rattle.line_keys.specs.declared.keymap.custom.Followed.{Followed}
 use Rattle.line_keys.specs.declared.keymap.custom.Followed.TheVariants.{Bound, Unbound}
 use Rattle.line_keys.specs.CustomKeys.{Situation, sequence_or, custom_answer, key_sequence, rest_of_sequence, sequence_upto, in_vain, sequence_answer, situation}
-use Rattle.line_keys.specs.Emacs.{after_first_key, emacs_action, emacs_command, emacs_counted, emacs_decided, emacs_done, emacs_phrase, second_command}
-use Rattle.line_keys.specs.KeyFeeds.{Key, Paste}
-use Rattle.line_keys.specs.PhraseScripts.{Input, Shows, Reads, PhrasePart, KeyScript, answer_part, copy_of_command, reply_script, with_read}
-use Rattle.line_keys.specs.Quoting.{is_paste_start, quote_of_paste, quote_of_key, quoted_command, quotes}
+use Rattle.line_keys.specs.Emacs.{after_first_key, emacs_action, emacs_command, emacs_done, emacs_phrase, second_command, move_to_char}
+use Rattle.line_keys.specs.Quoting.{is_paste_start, quote_of_paste, quoted_command, quotes}
 use Rattle.line_keys.specs.Redone.{anew, anew_or}
-use Rattle.line_keys.specs.Refreshing.{Shown, Prompted}
 use Rattle.line_keys.specs.declared.command.Cmd.{Cmd}
-use Rattle.line_keys.specs.declared.key.KeyEvent.{KeyEvent}
-use Rattle.line_keys.specs.Emacs.{move_to_char}
-use Rattle.line_keys.specs.ViSearches.{search_of}
-use Rattle.line_keys.specs.Keys.{char_with, none}
-use Rattle.line_keys.specs.declared.command.Cmd.TheVariants.{Insert, QuotedInsert}
+use Rattle.line_keys.specs.ViSearches.{search_of, search_part, opposite_of, search_movement, search_of_next_key}
+use Rattle.line_keys.specs.Keys.{char_with, none, key_with}
+use Rattle.line_keys.specs.declared.command.Cmd.TheVariants.{Insert, QuotedInsert, Noop, Unknown}
 use Rattle.line_keys.specs.declared.keymap.common.CommonAction as common_actions
 use Rattle.line_keys.specs.declared.keymap.common.CommonAction.TheVariants as commons
 use Rattle.line_keys.specs.declared.keymap.emacs.EmacsAction as emacs_actions
 use Rattle.line_keys.specs.declared.keymap.emacs.EmacsAction.TheVariants as emacses
-use Rattle.keyline.proofs.AlikeScripts.{Next, alike_itself}
-use Rattle.keyline.proofs.SteadyParts.{Plays, Steady, is_key_read, replied_alike, s_and_then, s_answered, s_deciding, s_from_key, s_needing, s_with_read}
+use Rattle.line_buffer.specs.declared.types.Movement.TheVariants.{ViCharSearch, WholeLine}
+use Rattle.line_config.specs.declared.settings.EditMode.TheVariants.{Emacs, Vi}
+use Rattle.line_keys.specs.SameKeys.{same_key}
+use Rattle.line_keys.specs.Modes.{takes_commands}
+use Rattle.line_keys.specs.NextPhrase.{phrase_from}
+use Rattle.line_keys.specs.Vi.{change_part, changes, command_done, command_of, command_table, insert_mode_if, in_mode, insert_done, insert_table, is_new, key_replacement, move_or, command_of_operator, remember_if, insert_part, char_command, vi_command, vi_counted, vi_insert, with_last}
+use Rattle.line_keys.specs.ViMotions.{change, motion_done, motion_of, vi_motion}
+use Rattle.line_keys.specs.ViTables.{action_of, insert_action}
+use Rattle.line_keys.specs.declared.command.InputMode.TheVariants.{Command, Insert}
+use Rattle.line_keys.specs.declared.key.KeyCode.TheVariants.{Char}
+use Rattle.line_keys.specs.declared.keymap.vi.motion.Motion.{Motion}
+use Rattle.line_keys.specs.declared.keymap.vi.motion.Motion.TheVariants.{Go, Seek, Again, Back}
+use Rattle.line_keys.specs.declared.keymap.vi.motion.Search.{Search}
+use Rattle.line_keys.specs.declared.keymap.vi.table.ViAction.{ViAction}
+use Rattle.line_keys.specs.declared.keymap.vi.table.ViAction.TheVariants as action
+use Rattle.line_keys.specs.declared.keymap.vi.table.InsertAction.{InsertAction}
+use Rattle.line_keys.specs.declared.keymap.vi.table.InsertAction.TheVariants as inserting
+use Rattle.line_editor.specs.NextCommand.{begins_group, with_group_begun}
+
+-- what follows an ask, by whether it reads: of no item nothing follows
+abbrev pub Next : Bool → ℕ → (ℕ → Type 0) → Type 0
+Next true zero P = ⊤
+Next true (suc j) P = P j
+Next false k P = P k
+
+abbrev pub Alike : {A : Type 0} {R : A → Type 0} {X : Type 0} → (A → Bool) → ℕ → Script A R X → Script A R X → Type 0
+Alike reads k (Ends x) t = t ≡ Ends x
+Alike {A} {R} {X} reads k (Asks ask f) t = (g : R ask → Script A R X) × (t ≡ Asks ask g) × ((x : R ask) → Next (reads ask) k (λ j. Alike reads j (f x) (g x)))
+
+-- a read takes one from the keys and pastes that come
+pub next_read : (P : ℕ → Type 0) (k n m : ℕ) → k < suc n → k < suc m → ((j : ℕ) → j < n → j < m → P j) → Next true k P
+next_read P zero n m low low' h = tt
+next_read P (suc j) n m low low' h = h j (omega arith) (omega arith)
+
+pub next_all : (b : Bool) (k : ℕ) (P : ℕ → Type 0) → ((j : ℕ) → P j) → Next b k P
+next_all true zero P h = tt
+next_all true (suc j) P h = h j
+next_all false k P h = h k
+
+pub next_map : (b : Bool) (k : ℕ) (P Q : ℕ → Type 0) → ((j : ℕ) → j ≤ k → P j → Q j) → Next b k P → Next b k Q
+next_map true zero P Q h p = tt
+next_map true (suc j) P Q h p = h j (omega arith) p
+next_map false k P Q h p = h k (omega arith) p
+
+pub alike_itself : {A : Type 0} {R : A → Type 0} {X : Type 0} (reads : A → Bool) (k : ℕ) (s : Script A R X) → Alike reads k s s
+alike_itself reads k (Ends x) = refl
+alike_itself {A} {R} {X} reads k (Asks ask f) = (f, refl, λ x. next_all (reads ask) k (λ j. Alike reads j (f x) (f x)) (λ j. alike_itself reads j (f x)))
+
+pub then_alike : {A : Type 0} {R : A → Type 0} {X Y : Type 0} (reads : A → Bool) (k : ℕ) (s t : Script A R X) (next next' : X → Script A R Y)
+    → Alike reads k s t → ((j : ℕ) → j ≤ k → (x : X) → Alike reads j (next x) (next' x)) → Alike reads k (then s next) (then t next')
+then_alike {A} {R} {X} {Y} reads k (Ends x) t next next' is h = subst (λ (u : Script A R X). Alike reads k (next x) (then u next')) (sym is) (h k (omega arith) x)
+then_alike {A} {R} {X} {Y} reads k (Asks ask f) t next next' (g, is, a) h = (
+  (λ x. then (g x) next'),
+  ap (λ (u : Script A R X). then u next') is,
+  λ x. next_map (reads ask) k (λ j. Alike reads j (f x) (g x)) (λ j. Alike reads j (then (f x) next) (then (g x) next'))
+      (λ j less b. then_alike reads j (f x) (g x) next next' b (λ i low. h i (omega arith))) (a x),
+)
+
+-- ---- parts of phrases
+
+abbrev pub is_key_read : KeyAsk → Bool
+is_key_read (Reads item) = true
+is_key_read ask = false
+
+abbrev pub Plays : {X : Type 0} → ℕ → KeyScript X → KeyScript X → Type 0
+Plays = Alike is_key_read
+
+-- its steps play alike by any two amounts of fuel above the keys and pastes to come
+pub record Steady {X : Type 0} (p : PhrasePart X) : Type 0 where
+  pub plays : (k n m : ℕ) → k < n → k < m → Plays k (steps p n) (steps p m)
+
+s_answered : {X : Type 0} (x : X) → Steady (answer_part x)
+unfolding answer_part
+s_answered x = record { plays = λ k n m a b. refl }
+
+s_if : {X : Type 0} {p q : PhrasePart X} (b : Bool) → Steady p → Steady q → Steady (cond b p q)
+s_if true h g = h
+s_if false h g = g
+
+needs_alike : {X : Type 0} (b : Bool) (k : ℕ) (s t : KeyScript X) → Plays k s t → Plays k (needs_if b s) (needs_if b t)
+needs_alike true k s t h = ((λ none. t), refl, λ x. h)
+needs_alike false k s t h = h
+
+s_needing : {X : Type 0} (b : Bool) {p : PhrasePart X} → Steady p → Steady (memory_then b p)
+unfolding memory_then
+s_needing b {p} h = record { plays = λ k n m low low'. needs_alike b k (steps p n) (steps p m) (h.plays k n m low low') }
+
+reads_alike : {Y : Type 0} (item : InputItem) (next : InputOf item → PhrasePart Y) → ((x : InputOf item) → Steady (next x)) → (k n m : ℕ) → k < n → k < m
+    → Plays k (read_upto item next n) (read_upto item next m)
+reads_alike item next h k (suc n) (suc m) low low' =
+    ((λ x. steps (next x) m), refl, λ x. next_read (λ j. Plays j (steps (next x) n) (steps (next x) m)) k n m low low' (λ j. (h x).plays j n m))
+reads_alike item next h k _ _ low low' = absurd (omega arith)
+
+s_with_read : {Y : Type 0} (item : InputItem) {next : InputOf item → PhrasePart Y} → ((x : InputOf item) → Steady (next x)) → Steady (with_read item next)
+unfolding with_read
+s_with_read item {next} h = record { plays = reads_alike item next h }
+
+s_from_key : {X : Type 0} (f : KeyEvent → X) → Steady (from_key f)
+unfolding from_key
+s_from_key f = s_with_read Key (λ k. s_answered (f k))
+
+s_asking : {X : Type 0} (ask : Ask) {next : Shown → PhrasePart X} → ((seen : Shown) → Steady (next seen)) → Steady (show_then ask next)
+unfolding show_then
+s_asking ask {next} h = record { plays = λ k n m low low'. ((λ seen. steps (next seen) m), refl, λ seen. (h seen).plays k n m low low') }
+
+s_becoming : {X : Type 0} (input : Input) {p : PhrasePart X} → Steady p → Steady (keep_then input p)
+unfolding keep_then
+s_becoming input {p} h = record { plays = λ k n m low low'. ((λ none. steps p m), refl, λ none. h.plays k n m low low') }
+
+decided_alike : {X Y : Type 0} (k : ℕ) (next next' : X → KeyScript Y) (o : Option X) → ((x : X) → Plays k (next x) (next' x)) → Plays k (script_if_answered next o) (script_if_answered next' o)
+decided_alike k next next' (Some x) h = h x
+decided_alike k next next' None h = alike_itself is_key_read k (script_if_answered next None)
+
+replied_alike : {X Y : Type 0} (k : ℕ) (next next' : X → KeyScript Y) (reply : Reply X) → ((x : X) → Plays k (next x) (next' x)) → Plays k (reply_script next reply) (reply_script next' reply)
+replied_alike k next next' reply h = needs_alike reply.takes k (script_if_answered next reply.answer) (script_if_answered next' reply.answer) (decided_alike k next next' reply.answer h)
+
+s_deciding : {X Y : Type 0} {next : X → PhrasePart Y} (reply : Reply X) → ((x : X) → Steady (next x)) → Steady (reply_then next reply)
+unfolding reply_then
+s_deciding {next} reply h = record { plays = λ k n m low low'. replied_alike k (λ x. steps (next x) n) (λ x. steps (next x) m) reply (λ x. (h x).plays k n m low low') }
+
+pub after_alike : {X Y : Type 0} (k : ℕ) (next next' : X → Input → Shown → KeyScript Y) (input : Input) (shown : Shown) (s t : KeyScript X) → Plays k s t
+    → ((j : ℕ) → j ≤ k → (x : X) (i : Input) (seen : Shown) → Plays j (next x i seen) (next' x i seen)) → Plays k (after next input shown s) (after next' input shown t)
+after_alike {X} {Y} k next next' input shown (Ends x) t is h = subst (λ (u : KeyScript X). Plays k (next x input shown) (after next' input shown u)) (sym is) (h k (omega arith) x input shown)
+after_alike {X} {Y} k next next' input shown (Asks ask f) t (g, is, a) h = (
+  (λ x. after next' (input_after_ask ask input) (shown_after_ask ask x shown) (g x)),
+  ap (λ (u : KeyScript X). after next' input shown u) is,
+  λ x. next_map (is_key_read ask) k (λ j. Plays j (f x) (g x)) (λ j. Plays j (after next (input_after_ask ask input) (shown_after_ask ask x shown) (f x)) (after next' (input_after_ask ask input) (shown_after_ask ask x shown) (g x)))
+      (λ j less b. after_alike j next next' (input_after_ask ask input) (shown_after_ask ask x shown) (f x) (g x) b (λ i low. h i (omega arith))) (a x),
+)
+
+s_and_then : {X Y : Type 0} (input : Input) (shown : Shown) {p : PhrasePart X} {next : X → Input → Shown → PhrasePart Y} → Steady p
+    → ((x : X) (i : Input) (seen : Shown) → Steady (next x i seen)) → Steady (and_then input shown p next)
+unfolding and_then
+s_and_then input shown {p} {next} h g = record {
+  plays = λ k n m low low'. after_alike k (λ x i seen. steps (next x i seen) n) (λ x i seen. steps (next x i seen) m) input shown (steps p n) (steps p m) (h.plays k n m low low')
+      (λ j less x i seen. (g x i seen).plays j n m (omega arith) (omega arith));
+}
 
 -- ---- counts and sequences
 
 abbrev CountingAlike : (ℤ → KeyEvent → Option ℤ) → ℕ → ℕ → Type 0
 CountingAlike on n m = (c : ℤ) (j : ℕ) → j < n → j < m → Plays j (rest_of_count_in on c n) (rest_of_count_in on c m)
 
-counted_by : (on : ℤ → KeyEvent → Option ℤ) (n m : ℕ) → CountingAlike on n m → (c : ℤ) (key : KeyEvent) (j : ℕ) (o : Option ℤ) → j < n → j < m
+counted_by : (on : ℤ → KeyEvent → Option ℤ) (n m : ℕ) → CountingAlike on n m → (c : ℤ) (key : KeyEvent) (o : Option ℤ) (j : ℕ) → j < n → j < m
     → Plays j (rest_of_count_by (λ d. prompting d (rest_of_count_in on d n)) c key o) (rest_of_count_by (λ d. prompting d (rest_of_count_in on d m)) c key o)
-counted_by on n m h c key j (Some d) low low' = ((λ none. Asks (Shows (Prompted (prompt_for d))) (λ shown. rest_of_count_in on d m)), refl, λ none. ((λ shown. rest_of_count_in on d m), refl, λ shown. h d j low low'))
-counted_by on n m h c key j None low low' = alike_itself is_key_read j (rest_of_count_by (λ d. prompting d (rest_of_count_in on d m)) c key None)
-
-counted_next : (on : ℤ → KeyEvent → Option ℤ) (n m : ℕ) → CountingAlike on n m → (c : ℤ) (key : KeyEvent) (k : ℕ) (o : Option ℤ) → k < suc n → k < suc m
-    → Next true k (λ j. Plays j (rest_of_count_by (λ d. prompting d (rest_of_count_in on d n)) c key o) (rest_of_count_by (λ d. prompting d (rest_of_count_in on d m)) c key o))
-counted_next on n m h c key zero o low low' = tt
-counted_next on n m h c key (suc j) o low low' = counted_by on n m h c key j o (omega arith) (omega arith)
+counted_by on n m h c key (Some d) j low low' = ((λ none. Asks (Shows (Prompted (prompt_for d))) (λ shown. rest_of_count_in on d m)), refl, λ none. ((λ shown. rest_of_count_in on d m), refl, λ shown. h d j low low'))
+counted_by on n m h c key None j low low' = alike_itself is_key_read j (rest_of_count_by (λ d. prompting d (rest_of_count_in on d m)) c key None)
 
 counting_alike : (on : ℤ → KeyEvent → Option ℤ) (n m : ℕ) → CountingAlike on n m
 counting_alike on (suc n) (suc m) c k low low' =
-    ((λ key. rest_of_count_by (λ d. prompting d (rest_of_count_in on d m)) c key (on c key)), refl, λ key. counted_next on n m (counting_alike on n m) c key k (on c key) low low')
+    let next : ℕ → KeyEvent → KeyScript Counted = λ n key. rest_of_count_by (λ d. prompting d (rest_of_count_in on d n)) c key (on c key) in
+    (next m, refl, λ key. next_read (λ j. Plays j (next n key) (next m key)) k n m low low' (counted_by on n m (counting_alike on n m) c key (on c key)))
 counting_alike on _ _ c k low low' = absurd (omega arith)
 
-s_counting : (on : ℤ → KeyEvent → Option ℤ) (c : ℤ) → Steady (rest_of_count on c)
+s_counting : (mode : EditMode) (key : KeyEvent) (o : Option ℤ) → Steady (count_or_key mode key o)
 unfolding rest_of_count
-s_counting on c = λ k n m low low'. ((λ none. Asks (Shows (Prompted (prompt_for c))) (λ shown. rest_of_count_in on c m)), refl, λ none. ((λ shown. rest_of_count_in on c m), refl, λ shown. counting_alike on n m c k low low'))
+s_counting mode key (Some c) = record {
+  plays = λ k n m low low'.
+      let on = count_with_key mode in
+      ((λ none. Asks (Shows (Prompted (prompt_for c))) (λ shown. rest_of_count_in on c m)), refl, λ none. ((λ shown. rest_of_count_in on c m), refl, λ shown. counting_alike on n m c k low low'));
+}
+s_counting mode key None = s_answered (None, key)
 
-s_counting_or : (mode : EditMode) (key : KeyEvent) (o : Option ℤ) → Steady (count_or_key mode key o)
-s_counting_or mode key (Some c) = s_counting (count_with_key mode) c
-s_counting_or mode key None = s_answered (None, key)
-
-pub s_counted_key : (mode : EditMode) (key : KeyEvent) → Steady (count_and_key mode key)
-s_counted_key mode key = s_counting_or mode key (count_from_key mode key)
+s_counted_key : (mode : EditMode) (key : KeyEvent) → Steady (count_and_key mode key)
+s_counted_key mode key = s_counting mode key (count_from_key mode key)
 
 abbrev more_keys : Situation → List KeyEvent → ℕ → KeyEvent → KeyScript Followed
 more_keys s keys n key = reply_script (sequence_or (sequence_upto s (keys ++ key ∷ []) n)) (sequence_answer s (keys ++ key ∷ []))
@@ -71,61 +205,38 @@ on_bound : (s : Situation) (n m : ℕ) → FollowingAlike s n m → (keys : List
 on_bound s n m h keys j low low' (Some cmd) = refl
 on_bound s n m h keys j low low' None = h keys j low low'
 
-key_next : (s : Situation) (n m : ℕ) → FollowingAlike s n m → (keys : List KeyEvent) (key : KeyEvent) (k : ℕ) → k < suc n → k < suc m
-    → Next true k (λ j. Plays j (more_keys s keys n key) (more_keys s keys m key))
-key_next s n m h keys key zero low low' = tt
-key_next s n m h keys key (suc j) low low' =
-    replied_alike j (sequence_or (sequence_upto s (keys ++ key ∷ []) n)) (sequence_or (sequence_upto s (keys ++ key ∷ []) m)) (sequence_answer s (keys ++ key ∷ []))
-    (on_bound s n m h (keys ++ key ∷ []) j (omega arith) (omega arith))
-
 read_on : (s : Situation) (n m : ℕ) → FollowingAlike s n m → (keys : List KeyEvent) (k : ℕ) → k < suc n → k < suc m → (b : Bool)
     → Plays k (cond b (Asks (Reads Key) (more_keys s keys n)) (in_vain keys)) (cond b (Asks (Reads Key) (more_keys s keys m)) (in_vain keys))
-read_on s n m h keys k low low' true = (more_keys s keys m, refl, λ key. key_next s n m h keys key k low low')
+read_on s n m h keys k low low' true =
+    let on = λ (key : KeyEvent) (j : ℕ) (less : j < n) (less' : j < m).
+    (let more = keys ++ key ∷ [] in replied_alike j (sequence_or (sequence_upto s more n)) (sequence_or (sequence_upto s more m)) (sequence_answer s more) (on_bound s n m h more j less less')) in
+    (more_keys s keys m, refl, λ key. next_read (λ j. Plays j (more_keys s keys n key) (more_keys s keys m key)) k n m low low' (on key))
 read_on s n m h keys k low low' false = refl
 
 following_alike : (s : Situation) (n m : ℕ) → FollowingAlike s n m
 following_alike s (suc n) (suc m) keys k low low' = read_on s n m (following_alike s n m) keys k low low' (s.custom.begins keys)
 following_alike s _ _ keys k low low' = absurd (omega arith)
 
-s_following : (s : Situation) (keys : List KeyEvent) → Steady (rest_of_sequence s keys)
-unfolding rest_of_sequence
-s_following s keys = λ k n m low low'. following_alike s n m keys k low low'
-
 s_followed : (s : Situation) (key : KeyEvent) → Steady (key_sequence s key)
-unfolding key_sequence
-s_followed s key = s_needing (s.custom.begins (key ∷ [])) (rest_of_sequence s (key ∷ [])) (s_following s (key ∷ []))
+unfolding key_sequence rest_of_sequence
+s_followed s key = s_needing (s.custom.begins (key ∷ [])) (record { plays = λ k n m. following_alike s n m (key ∷ []) k })
 
 -- ---- both modes
 
-s_granted : (cmd : Cmd) → Steady (copy_of_command cmd)
-s_granted cmd = s_needing (holds_text cmd) (answer_part cmd) (s_answered cmd)
-
-pub s_anew_or : (other : Cmd) (new : Option ℕ) (shown : Shown) (cmd : Cmd) → Steady (anew_or other new shown cmd)
-s_anew_or other new shown cmd = s_granted (anew other new shown cmd)
-
-s_sequence : (s : Situation) (key : KeyEvent) → Steady (sequence s key)
-s_sequence s key = s_and_then s.input s.shown (key_sequence s key) (λ f input shown. answer_part (bound_command f)) (s_followed s key) (λ f input shown. s_answered (bound_command f))
-
--- ---- the tables
+s_anew_or : (other : Cmd) (new : Option ℕ) (shown : Shown) (cmd : Cmd) → Steady (anew_or other new shown cmd)
+s_anew_or other new shown cmd = let copy = anew other new shown cmd in s_needing (holds_text copy) (s_answered copy)
 
 s_pasted : Steady quote_of_paste
-s_pasted = s_with_read Paste (λ text. answer_part (Insert 1 text)) (λ text. s_answered (Insert 1 text))
-
-s_quoted_if : (key : KeyEvent) (start : Bool) → Steady (cond start quote_of_paste (answer_part (quoted_command key)))
-s_quoted_if key true = s_pasted
-s_quoted_if key false = s_answered (quoted_command key)
-
-s_quoting : (on : Bool) → Steady (cond on (with_read Key quote_of_key) (answer_part QuotedInsert))
-s_quoting true = s_with_read Key quote_of_key (λ key. s_quoted_if key (is_paste_start key))
-s_quoting false = s_answered QuotedInsert
+s_pasted = s_with_read Paste (λ text. s_answered (Insert 1 text))
 
 s_common_done : (s : Situation) (key : KeyEvent) (a : Option common_actions.CommonAction) → Steady (common_done s key a)
 s_common_done s key (Some (commons.Give cmd)) = s_answered cmd
 s_common_done s key (Some commons.Paste) = s_pasted
-s_common_done s key (Some commons.Quote) = s_quoting (quotes s.input)
-s_common_done s key None = s_sequence s key
+s_common_done s key (Some commons.Quote) =
+    s_if (quotes s.input) (s_with_read Key (λ key. s_if (is_paste_start key) s_pasted (s_answered (quoted_command key)))) (s_answered QuotedInsert)
+s_common_done s key None = s_and_then s.input s.shown (s_followed s key) (λ f input shown. s_answered (bound_command f))
 
-pub s_common : (s : Situation) (key : KeyEvent) → Steady (common s key)
+s_common : (s : Situation) (key : KeyEvent) → Steady (common s key)
 s_common s key = s_common_done s key (common_action s.input.mode s.shown s.n s.positive key)
 
 s_command_or : (other : PhrasePart Cmd) (o : Option Cmd) → Steady other → Steady (command_or other o)
@@ -136,10 +247,10 @@ s_bound_or : (new : Option ℕ) (s : Situation) (other : PhrasePart Cmd) (o : Op
 s_bound_or new s other (Some cmd) h = s_anew_or cmd new s.shown cmd
 s_bound_or new s other None h = h
 
-pub s_decided : (new : Option ℕ) (s : Situation) (key : KeyEvent) (table : PhrasePart Cmd) → Steady table → Steady (decision_of new s key table)
+s_decided : (new : Option ℕ) (s : Situation) (key : KeyEvent) (table : PhrasePart Cmd) → Steady table → Steady (decision_of new s key table)
 s_decided new s key table h =
-    s_deciding (binding_or new s (command_or table (terminal_command s.shown key))) (custom_answer s key)
-    (λ o. s_bound_or new s (command_or table (terminal_command s.shown key)) o (s_command_or table (terminal_command s.shown key) h))
+    let other = command_or table (terminal_command s.shown key) in
+    s_deciding (custom_answer s key) (λ o. s_bound_or new s other o (s_command_or table (terminal_command s.shown key) h))
 
 -- ---- Emacs
 
@@ -151,13 +262,75 @@ s_after_first_key n positive (Unbound None) = s_from_key (second_command n posit
 s_emacs_done : (s : Situation) (key : KeyEvent) (a : Option emacs_actions.EmacsAction) → Steady (emacs_done s key a)
 s_emacs_done s key (Some (emacses.Give cmd)) = s_answered cmd
 s_emacs_done s key (Some (emacses.Seek search)) = s_from_key (λ next. move_to_char s.n (search_of search) (char_with none next))
-s_emacs_done s key (Some emacses.LeadOn) =
-    s_and_then s.input s.shown (key_sequence s key) (λ f input shown. after_first_key s.n s.positive f) (s_followed s key) (λ f input shown. s_after_first_key s.n s.positive f)
+s_emacs_done s key (Some emacses.LeadOn) = s_and_then s.input s.shown (s_followed s key) (λ f input shown. s_after_first_key s.n s.positive f)
 s_emacs_done s key None = s_common s key
 
-s_emacs_decided : (s : Situation) (key : KeyEvent) → Steady (emacs_decided s key)
-s_emacs_decided s key = s_decided (Some s.n) s key (emacs_command s key) (s_emacs_done s key (emacs_action s.shown s.n s.positive key))
+s_emacs_phrase : (custom : Custom) (input : Input) (shown : Shown) (key : KeyEvent) → Steady (emacs_phrase custom input shown key)
+s_emacs_phrase custom input shown key = s_and_then input shown (s_counted_key input.mode key) (λ f i seen.
+    (let s = situation custom i seen (how_often f.0) (is_plus f.0) in s_decided (Some s.n) s f.1 (emacs_command s f.1) (s_emacs_done s f.1 (emacs_action s.shown s.n s.positive f.1))))
 
-pub s_emacs_phrase : (custom : Custom) (input : Input) (shown : Shown) (key : KeyEvent) → Steady (emacs_phrase custom input shown key)
-s_emacs_phrase custom input shown key = s_and_then input shown (count_and_key input.mode key) (emacs_counted custom) (s_counted_key input.mode key)
-    (λ f i seen. s_emacs_decided (situation custom i seen (how_often f.0) (is_plus f.0)) f.1)
+-- ---- Vi
+
+s_found : (way : Search) (n : ℕ) (input : Input) (o : Option ℕ) → Steady (search_part way n input o)
+s_found way n input (Some c) = s_becoming (record input { search = Some (search_of way c) }) (s_answered (Some (ViCharSearch n (search_of way c))))
+s_found way n input None = s_answered None
+
+s_sought : (way : Search) (n : ℕ) (input : Input) → Steady (search_of_next_key way n input)
+s_sought way n input = s_with_read Key (λ k. s_found way n input (char_with none k))
+
+s_motion_done : (n : ℕ) (input : Input) (m : Option Motion) → Steady (motion_done n input m)
+s_motion_done n input (Some (Go movement)) = s_answered (Some movement)
+s_motion_done n input (Some (Seek search)) = s_sought search n input
+s_motion_done n input (Some Again) = s_answered (search_movement n input.search)
+s_motion_done n input (Some Back) = s_answered (search_movement n (opposite_of input.search))
+s_motion_done n input None = s_answered None
+
+s_vi_motion : (operator : KeyEvent) (n : ℕ) (input : Input) (shown : Shown) → Steady (vi_motion operator n input shown)
+s_vi_motion operator n input shown = s_with_read Key (λ k. s_if (same_key k operator) (s_answered (Some WholeLine))
+    (s_and_then input shown (s_counted_key input.mode k) (λ f i seen. (let times = count_times n f.0 in s_motion_done times i (motion_of (same_key operator change) times f.1)))))
+
+s_remembering : (b : Bool) (cmd : Cmd) (input : Input) → Steady (remember_if b cmd input)
+s_remembering true cmd input = s_needing (holds_text cmd) (s_becoming (with_last cmd input) (s_answered cmd))
+s_remembering false cmd input = s_answered cmd
+
+s_command_done : (new : Option ℕ) (s : Situation) (k : KeyEvent) (a : Option ViAction) → Steady (command_done new s k a)
+s_command_done new s k (Some (action.Give cmd)) = s_answered cmd
+s_command_done new s k (Some (action.Insert cmd)) = s_becoming (in_mode Insert s.input) (s_asking DoingInsert (λ seen. s_answered cmd))
+s_command_done new s k (Some (action.Turn mode cmd)) = s_becoming (in_mode mode s.input) (s_answered cmd)
+s_command_done new s k (Some (action.Operate o)) =
+    let input = insert_mode_if (changes o) s.input in
+    s_becoming input (s_and_then input s.shown (s_vi_motion k s.n input s.shown) (λ m i seen. s_answered (command_of_operator (command_of o) m)))
+s_command_done new s k (Some (action.Search way)) = s_and_then s.input s.shown (s_sought way s.n s.input) (λ m i seen. s_answered (move_or Unknown m))
+s_command_done new s k (Some action.Again) = s_answered (move_or Noop (search_movement s.n s.input.search))
+s_command_done new s k (Some action.Back) = s_answered (move_or Noop (search_movement s.n (opposite_of s.input.search)))
+s_command_done new s k (Some action.Repeat) = s_anew_or Noop new s.shown s.input.last
+s_command_done new s k (Some action.Replace) = s_from_key (key_replacement s.n)
+s_command_done new s k None = s_common s k
+
+s_vi_command : (custom : Custom) (k : KeyEvent) (input : Input) (shown : Shown) → Steady (vi_command custom k input shown)
+unfolding vi_command vi_counted command_table
+s_vi_command custom k input shown = s_and_then input shown (s_counted_key input.mode k) (λ f i seen.
+    (let new = typed_count f.0 in let s = situation custom i seen (how_often f.0) true in
+    s_decided new s f.1 (and_then i seen (command_table new s f.1) change_part)
+    (s_and_then i seen (s_command_done new s f.1 (action_of i.modal_commands s.n f.1)) (λ cmd i seen. s_remembering (flags_of cmd).is_change cmd i))))
+
+s_insert_done : (custom : Custom) (input : Input) (shown : Shown) (k : KeyEvent) (a : Option InsertAction) → Steady (insert_done custom input shown k a)
+s_insert_done custom input shown k (Some (inserting.Give cmd)) = s_answered cmd
+s_insert_done custom input shown k (Some (inserting.Typed c)) = s_answered (char_command input.input_mode c)
+s_insert_done custom input shown k (Some (inserting.Leave cmd)) = s_becoming (in_mode Command input) (s_asking DoneInserting (λ seen. s_answered cmd))
+s_insert_done custom input shown k (Some (inserting.Command c)) =
+    s_becoming (in_mode Command input) (s_asking DoneInserting (s_vi_command custom (key_with (Char c) none) (in_mode Command input)))
+s_insert_done custom input shown k None = s_common (situation custom input shown 1 true) k
+
+s_vi_insert : (custom : Custom) (k : KeyEvent) (input : Input) (shown : Shown) → Steady (vi_insert custom k input shown)
+unfolding vi_insert insert_table
+s_vi_insert custom k input shown =
+    s_decided None (situation custom input shown 0 true) k (and_then input shown (insert_table custom input shown k) insert_part)
+    (s_and_then input shown (s_insert_done custom input shown k (insert_action input.modal_commands shown k)) (λ cmd i seen. s_remembering (is_new cmd i) cmd i))
+
+pub s_phrase_from : (mode : EditMode) (custom : Custom) (input : Input) (shown : Shown) (k : KeyEvent) → Steady (phrase_from mode custom input shown k)
+s_phrase_from Emacs custom input shown k = s_emacs_phrase custom input shown k
+s_phrase_from Vi custom input shown k = s_if (takes_commands input.input_mode) (s_vi_command custom k input shown) (s_vi_insert custom k input shown)
+
+pub s_with_group : (cmd : Cmd) (input : Input) (shown : Shown) → Steady (with_group_begun cmd input shown)
+s_with_group cmd input shown = s_if (begins_group cmd) (s_asking DoingInsert (λ seen. s_answered cmd)) (s_answered cmd)

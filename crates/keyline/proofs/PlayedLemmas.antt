@@ -1,11 +1,8 @@
 -- A session by options, over all that is said of its keys.
 use Rattle.std.proofs.Common.{◌≡◌, ℕ, ◌+◌, ◌<◌, ◌^◌, Bool, false, IsTrue, List, [], ◌∷◌, ◌++◌, Option, refl, sym, ap, subst, ◌∙◌, append-nil, arith}
-use Rattle.std.specs.Prelude.{IfErr, IfOk, IsErr, IsOk, None, OnOk, Result, Ok, Err, is_err}
+use Rattle.std.specs.Prelude.{IsErr, IsOk, None, OnOk, Result, Ok, Err, is_err}
 use Rattle.line_config.specs.Feed.{AlwaysTold, Feed, fresh_feed}
-use Rattle.std.proofs.lemmas.Result.{IfErr-weaker}
 use Rattle.line_config.specs.Adapters.{to_come}
-use Rattle.line_config.specs.declared.adapters.ReadSource.{ReadSource}
-use Rattle.line_config.specs.declared.adapters.WriteSink.{WriteSink}
 use Rattle.line_config.specs.declared.config.Config.{Config}
 use Rattle.line_config.specs.declared.device.Last.{Last}
 use Rattle.line_config.specs.declared.device.Last.TheVariants.{End}
@@ -17,13 +14,12 @@ use Rattle.line_screen.specs.Reading.{count_of_kept}
 use Rattle.keyline.specs.Desks.{DeskReason, GoesShown, desk_feed, session_state_of, work_of}
 use Rattle.keyline.specs.Events.{SessionEvent, Takes, Helped, Draws, Hears, Breaks, Keeps, Writes, session}
 use Rattle.keyline.specs.KnownDevices.{KnownDevices}
-use Rattle.keyline.specs.Program.{EditsBy, given_by, given_to, helper_of, PlaysBytes, PlaysOver, UnopensOver, start_by}
+use Rattle.keyline.specs.Program.{EditsBy, given_by, given_to, helper_of, PlaysBytes, start_by}
 use Rattle.keyline.specs.SessionEffects.{CutSessionEvent, SessionReason, Stands, Work, work}
-use Rattle.keyline.specs.SessionRuns.{LoadRefused, loads}
+use Rattle.keyline.specs.SessionRuns.{loads}
 use Rattle.keyline.specs.Sessions.{Given, SessionState, each}
 use Rattle.keyline.specs.declared.options.Options.{Options}
 use Rattle.keyline.specs.declared.session.Ended.{Ended}
-use Rattle.keyline.specs.declared.session.Unopened.{Unopened}
 use Rattle.keyline.proofs.OpenedLemmas.{given_as, state_first}
 
 below : (most kept bound n : ℕ) → kept ≡ 0 → bound ≡ most + kept → most < n → bound < n
@@ -153,19 +149,3 @@ module _ {F S D L T : Type 0} (text_of : F → Feed) (k : KnownDevices S D L) (h
             why shows writes
             (rw (end.source_is, end.display_is, end.lines_are) (subst (λ (g : Given). DeskReason k g left_desk why) given_is edits.runs.takes.reason));
       }
-
--- ---- settings that are equal
-
-module _ {R K E W T : Type 0} where
-  pub plays_by : {X : Type 0} (known : KnownDevices (ReadSource R K) (WriteSink E) (WriteSink W)) (held : T → List ℕ) (failed : T → Bool) (config config' : Config) (options : Options)
-      (words : Option (List (List ℕ))) (shown wrote old bytes : List ℕ) (last : Last) (r : Result (Ended (ReadSource R K) (WriteSink E) (WriteSink W) T) X) → config ≡ config'
-      → IfOk r (PlaysOver known held failed config options words shown wrote old bytes last) → IfOk r (PlaysOver known held failed config' options words shown wrote old bytes last)
-  plays_by known held failed config config' options words shown wrote old bytes last r same plays =
-      subst (λ (x : Config). IfOk r (PlaysOver known held failed x options words shown wrote old bytes last)) same plays
-
--- a history that doesn't load, by settings that are equal
-pub refused_by : {F R E W T X : Type 0} (feed : F → Feed) (config config' : Config) (old : List ℕ) (keys : R) (display : E) (lines : W) (r : Result X (Unopened F R E W T))
-    → config ≡ config' → IfErr r (UnopensOver feed config old keys display lines) → IfErr r (λ unopened. LoadRefused config' (fresh_feed old End) (feed unopened.history) unopened.why)
-refused_by feed config config' old keys display lines r same refused =
-    IfErr-weaker r (UnopensOver feed config old keys display lines) (λ unopened. LoadRefused config' (fresh_feed old End) (feed unopened.history) unopened.why)
-    (λ unopened u. subst (λ (x : Config). LoadRefused x (fresh_feed old End) (feed unopened.history) unopened.why) same u.fault) refused

@@ -1,22 +1,82 @@
--- A session by two amounts of fuel above the keys and pastes to come is one.
-use Rattle.std.proofs.Common.{◌≡◌, ℕ, zero, suc, ◌<◌, ◌≤◌, Bool, true, false, List, ◌∷◌, ◌++◌, refl, sym, ap, ◌∙◌, arith, Result, Ok, Err}
+-- Lines and sessions by two amounts of fuel above the keys and pastes to come are one.
+use Rattle.std.proofs.Common.{ℕ, zero, suc, ◌<◌, Bool, true, false, List, refl, ap, arith, ◌≡◌, ◌≤◌, ◌∷◌, ◌++◌, sym, ◌∙◌, Result, Ok, Err}
+use Rattle.script.specs.Scripts.{Ends, Asks, then}
+use Rattle.line_editor.specs.LineScripts.{Keys, TurnStart, LineAsk, LineScript, script_of_keys, line_script, meet_script, turn_script, line_script_after, turns_script, Begins, Makes, LineAnswer, LineState, answer_at, turn_start, left_at, line_begun, played_from}
+use Rattle.line_editor.specs.NextCommand.{with_group_begun}
+use Rattle.line_editor.specs.declared.commands.Status.{Status}
+use Rattle.line_editor.specs.declared.commands.Status.TheVariants.{Proceed, Submit}
+use Rattle.line_keys.specs.CustomBindings.{Custom}
+use Rattle.line_keys.specs.KeyFeeds.{Key, InputItem, InputOf, Paste, behind, item_at}
+use Rattle.line_keys.specs.NextPhrase.{phrase_from}
+use Rattle.line_keys.specs.PhraseScripts.{Reads, KeyScript, after, and_then, steps, with_read, Input}
+use Rattle.line_keys.specs.declared.command.Cmd.{Cmd}
+use Rattle.line_keys.specs.declared.key.KeyEvent.{KeyEvent}
 use Rattle.script.specs.Played.{Played, play_with_first_ask, play_after_answer}
-use Rattle.script.specs.Scripts.{Ends, Asks}
 use Rattle.line_config.specs.declared.errors.ReadlineError.{ReadlineError}
 use Rattle.line_config.specs.declared.errors.ReadlineError.TheVariants.{Eof}
-use Rattle.line_editor.specs.LineScripts.{Begins, Keys, Makes, LineAnswer, LineAsk, LineScript, LineState, answer_at, turn_start, left_at, line_begun, line_script, played_from, turn_script, turns_script}
 use Rattle.line_editor.specs.LineRun.{first_line_state}
 use Rattle.line_editor.specs.Values.{Setting}
-use Rattle.line_keys.specs.CustomBindings.{Custom}
 use Rattle.line_keys.specs.Coming.{Coming, Pressed, Pasted, CutOff, Ends as Ended, Refused, coming_after_error, refusal_of}
-use Rattle.line_keys.specs.KeyFeeds.{InputItem, InputOf, Key, Paste, behind, item_at}
-use Rattle.line_keys.specs.PhraseScripts.{Reads, and_then, with_read}
-use Rattle.line_keys.specs.declared.key.KeyEvent.{KeyEvent}
 use Rattle.keyline.specs.Events.{Begins as LineBegins, Course, end_events, events_first, events_of, course_after_line, line_course, line_play_in, session}
 use Rattle.keyline.specs.Sessions.{Given, LineGiven, SessionState, for_line, setting_in, state_after}
 use Rattle.keyline.specs.Fuel.{keys_and_pastes}
-use Rattle.keyline.proofs.AlikeScripts.{Alike, Next}
-use Rattle.keyline.proofs.LineFuel.{is_line_read, line_alike, turn_after}
+use Rattle.line_editor.proofs.ToldLemmas.{PlayedOf, played_each}
+use Rattle.keyline.proofs.PhraseFuel.{Alike, Next, Plays, after_alike, alike_itself, is_key_read, next_map, next_read, s_phrase_from, s_with_group, then_alike}
+use Rattle.line_keys.specs.Refreshing.{Shown}
+
+abbrev is_line_read : LineAsk → Bool
+is_line_read (Keys ask) = is_key_read ask
+is_line_read ask = false
+
+keyed_alike : {X : Type 0} (k : ℕ) (s t : KeyScript X) → Plays k s t → Alike is_line_read k (script_of_keys s) (script_of_keys t)
+keyed_alike k (Ends x) t is = ap script_of_keys is
+keyed_alike {X} k (Asks ask f) t (g, is, h) = (
+  (λ x. script_of_keys (g x)),
+  ap script_of_keys is,
+  λ x. next_map (is_key_read ask) k (λ j. Plays j (f x) (g x)) (λ j. Alike is_line_read j (script_of_keys (f x)) (script_of_keys (g x)))
+      (λ j low a. keyed_alike j (f x) (g x) a) (h x),
+)
+
+-- ---- turns
+
+abbrev TurnsAlike : Custom → ℕ → ℕ → Type 0
+TurnsAlike custom n m = (k : ℕ) → k < n → k < m → Alike is_line_read k (turns_script n custom) (turns_script m custom)
+
+turned : (s t : LineScript (List ℕ)) (k : ℕ) → Alike is_line_read k s t → (status : Status) → Alike is_line_read k (line_script_after s status) (line_script_after t status)
+turned s t k h Proceed = h
+turned s t k h Submit = alike_itself is_line_read k (line_script_after t Submit)
+
+-- what follows a turn's first key
+abbrev keys_after : ℕ → Custom → TurnStart → KeyEvent → KeyScript Cmd
+keys_after n custom at key = after (λ x i seen. steps (with_group_begun x i seen) (suc n)) at.input at.shown (steps (phrase_from at.input.mode custom at.input at.shown key) n)
+
+abbrev turn_after : ℕ → Custom → TurnStart → KeyEvent → LineScript (List ℕ)
+turn_after n custom at key = then (then (script_of_keys (keys_after n custom at key)) meet_script) (line_script_after (turns_script n custom))
+
+key_then : (custom : Custom) (n m : ℕ) → TurnsAlike custom n m → (at : TurnStart) (key : KeyEvent) (j : ℕ) → j < n → j < m → Alike is_line_read j (turn_after n custom at key) (turn_after m custom at key)
+key_then custom n m h at key j low low' =
+    let first : ℕ → KeyScript Cmd = λ n. steps (phrase_from at.input.mode custom at.input at.shown key) n in
+    let group : ℕ → Cmd → Input → Shown → KeyScript Cmd = λ n x i seen. steps (with_group_begun x i seen) (suc n) in
+    let one : ℕ → LineScript Cmd = λ n. script_of_keys (keys_after n custom at key) in
+    then_alike is_line_read j (then (one n) meet_script) (then (one m) meet_script) (line_script_after (turns_script n custom)) (line_script_after (turns_script m custom))
+    (then_alike is_line_read j (one n) (one m) meet_script meet_script
+    (keyed_alike j (keys_after n custom at key) (keys_after m custom at key) (after_alike j (group n) (group m) at.input at.shown (first n) (first m)
+    ((s_phrase_from at.input.mode custom at.input at.shown key).plays j n m low low')
+    (λ i less x input seen. (s_with_group x input seen).plays i (suc n) (suc m) (omega arith) (omega arith))))
+    (λ i less cmd. alike_itself is_line_read i (meet_script cmd)))
+    (λ i less status. turned (turns_script n custom) (turns_script m custom) i (h i (omega arith) (omega arith)) status)
+
+turns_alike : (custom : Custom) (n m : ℕ) → TurnsAlike custom n m
+unfolding turns_script turn_script and_then with_read
+turns_alike custom (suc n) (suc m) k low low' =
+    let later = λ (at : TurnStart) (key : KeyEvent).
+    next_read (λ j. Alike is_line_read j (turn_after n custom at key) (turn_after m custom at key)) k n m low low' (key_then custom n m (turns_alike custom n m) at key) in
+    ((λ at. Asks (Keys (Reads Key)) (turn_after m custom at)), refl, λ at. (turn_after m custom at, refl, later at))
+turns_alike custom _ _ k low low' = absurd (omega arith)
+
+line_alike : (custom : Custom) (n m k : ℕ) → k < n → k < m → Alike is_line_read k (line_script n custom) (line_script m custom)
+unfolding line_script
+line_alike custom n m k low low' = ((λ v. turns_script m custom), refl, λ v. turns_alike custom n m k low low')
 
 -- ---- what a read leaves
 
@@ -69,23 +129,17 @@ module _ (s : Setting) where
 
   -- ---- an accepted line has read a key
 
-  rest_on : {X : Type 0} (ask : LineAsk) (f : LineAnswer ask → LineScript X) (after : LineState) (most : ℕ) (r : Result (LineAnswer ask) ReadlineError) → keys_and_pastes after.coming ≤ most
-      → ((x : LineAnswer ask) → keys_and_pastes (played_from s (f x) after).rest.coming ≤ keys_and_pastes after.coming)
-      → keys_and_pastes (play_after_answer (λ x. played_from s (f x) after) ask after r).rest.coming ≤ most
-  rest_on ask f after most (Ok x) low h = let stays = h x in omega arith
-  rest_on ask f after most (Err e) low h = low
-
   rest_stays : {X : Type 0} (p : LineScript X) (c : LineState) → keys_and_pastes (played_from s p c).rest.coming ≤ keys_and_pastes c.coming
   rest_stays (Ends x) c = omega arith
-  rest_stays (Asks ask f) c =
-      rest_on ask f (left_at s c ask) (keys_and_pastes c.coming) (answer_at s c ask) (left_le c ask) (λ x. rest_stays (f x) (left_at s c ask))
+  rest_stays {X} (Asks ask f) c =
+      let left = left_at s c ask in
+      let low = left_le c ask in
+      played_each (λ (p : PlayedOf s X). keys_and_pastes p.rest.coming ≤ keys_and_pastes c.coming) (λ x. played_from s (f x) left) ask left (λ x. (let more = rest_stays (f x) left in omega arith)) (λ e. low) (answer_at s c ask)
 
   first_key : (f : KeyEvent → LineScript (List ℕ)) (c : LineState) (r : Result KeyEvent ReadlineError) → item_at Key c.coming ≡ r → (text : List ℕ)
-      → (play_after_answer (λ x. played_from s (f x) (left_at s c (Keys (Reads Key)))) (Keys (Reads Key)) (left_at s c (Keys (Reads Key))) r).answer ≡ Ok text
-      → suc (keys_and_pastes (play_after_answer (λ x. played_from s (f x) (left_at s c (Keys (Reads Key)))) (Keys (Reads Key)) (left_at s c (Keys (Reads Key))) r).rest.coming) ≤ keys_and_pastes c.coming
+      → (let left = left_at s c (Keys (Reads Key)) in let p = play_after_answer (λ x. played_from s (f x) left) (Keys (Reads Key)) left r in p.answer ≡ Ok text → suc (keys_and_pastes p.rest.coming) ≤ keys_and_pastes c.coming)
   first_key f c (Ok k) is text ok =
-      let less = read_falls Key c.coming k is in
-      let stays = rest_stays (f k) (left_at s c (Keys (Reads Key))) in omega arith
+      let less = read_falls Key c.coming k is in let stays = rest_stays (f k) (left_at s c (Keys (Reads Key))) in omega arith
   first_key f c (Err e) is text ok = absurd (cc)
 
   line_falls : (n : ℕ) (custom : Custom) (c : LineState) (text : List ℕ) → (played_from s (line_script (suc n) custom) c).answer ≡ Ok text
@@ -93,8 +147,7 @@ module _ (s : Setting) where
   unfolding line_script turns_script turn_script and_then with_read
   line_falls n custom c text ok =
       let drawn = left_at s c (Makes line_begun) in
-      let begun = left_at s drawn Begins in
-      first_key (turn_after n custom (turn_start drawn)) begun (item_at Key c.coming) refl text ok
+      first_key (turn_after n custom (turn_start drawn)) (left_at s drawn Begins) (item_at Key c.coming) refl text ok
 
 -- ---- sessions
 

@@ -1,8 +1,8 @@
 -- Lines one after the other make a session: a line in front of a session, and the line that ends it.
-use Rattle.std.proofs.Common.{◌≡◌, ℕ, zero, suc, ◌<◌, List, [], ◌++◌, refl, sym, ap, subst, append-nil, IsTrue, Result, Ok, Err, IfErr, OnOk, arith}
+use Rattle.std.proofs.Common.{◌≡◌, ℕ, zero, suc, ◌<◌, List, refl, sym, ap, subst, append-nil, IsTrue, Result, Ok, Err, IfErr, OnOk, arith}
 use Rattle.line_config.specs.declared.errors.ReadlineError.{ReadlineError}
 use Rattle.line_config.specs.declared.errors.ReadlineError.TheVariants.{Handler}
-use Rattle.script.proofs.ScriptLaws.{err_in, fault_or, ok_not_err}
+use Rattle.script.proofs.ScriptLaws.{fault_or, ok_not_err}
 use Rattle.line_keys.specs.CustomBindings.{HandlerFails}
 use Rattle.line_screen.specs.ScreenCalls.{sink_of}
 use Rattle.keyline.specs.Desks.{TakesLine, TakesLines, DeskReason, desk_feed, session_state_of, work_of}
@@ -12,7 +12,7 @@ use Rattle.keyline.specs.SessionEffects.{AreDone, Went, Work}
 use Rattle.keyline.specs.Sessions.{Given, LineGiven, SessionState, for_line}
 use Rattle.keyline.specs.Shows.{EachShown}
 use Rattle.keyline.specs.declared.desk.Desk.{Desk}
-use Rattle.keyline.proofs.EventLemmas.{Goes, went_before, went_behind, went_cases, went_not, went_so, went_whole}
+use Rattle.keyline.proofs.EventLemmas.{went_before, went_behind, went_cases, went_not, went_so, went_whole}
 use Rattle.keyline.proofs.ShowCourse.{first_shown, sessions_show}
 
 lower : (a b m : ℕ) → a < b → b < suc m → a < m
@@ -46,45 +46,30 @@ module _ {S H D L : Type 0} (k : KnownDevices S D L) where
       ((result, session_state_of k next) ≡ line.answer) (λ e. result ≡ Err e)
 
   module _ (g : Given) (at : ℕ → LineGiven) (n : ℕ) (now next : Desk S H D L) where
-    abbrev line : Course (Result (List ℕ) ReadlineError × SessionState)
-    line = line_course (suc n) (for_line g (at 0)) (session_state_of k now)
-
     abbrev later : SessionState → Course ReadlineError
     later = session n g (λ line. at (suc line))
 
     -- what such a line's answer leads to
-    abbrev led : Result (List ℕ) ReadlineError × SessionState → Course ReadlineError
-    led answer = events_first line.events (course_after_line later answer)
-
-    abbrev Ends : Course ReadlineError → Work D L → ReadlineError → Type 0
-    Ends c end why = Goes k.shown k.written_in g.config.auto_add_history c.events (work_of k now) end (why ≡ c.answer) (λ e. why ≡ e)
-
-    abbrev Whole : Result (List ℕ) ReadlineError → Type 0
-    Whole result = (result, session_state_of k next) ≡ line.answer
+    abbrev Leads : Work D L → ReadlineError → Result (List ℕ) ReadlineError × SessionState → Type 0
+    Leads end why answer =
+        let c = events_first (line_course (suc n) (for_line g (at 0)) (session_state_of k now)).events (course_after_line later answer) in
+        Went k.shown k.written_in g.config.auto_add_history c.events (work_of k now) end (why ≡ c.answer) (λ e. why ≡ e)
 
     -- a line that was accepted, and a session after it
     line_on : (said : List ℕ) → LineComes (for_line g (at 0)) (suc n) now next (Ok said)
         → (end : Work D L) (why : ReadlineError) → Onwards k n g (λ line. at (suc line)) next end why → Onwards k (suc n) g at now end why
     unfolding session
-    line_on said w end why r =
-        let rest = later (session_state_of k next) in
-        went_cases k.shown k.written_in g.config.auto_add_history (Whole (Ok said)) (λ e. Ok said ≡ Err e) line.events (work_of k now) (work_of k next) w
-        (λ done whole. subst (λ answer. Ends (led answer) end why) whole
-        (went_behind k.shown k.written_in g.config.auto_add_history (why ≡ rest.answer) (λ e. why ≡ e) line.events rest.events (work_of k now) (work_of k next) end done r))
-        (λ cut. went_not k.shown k.written_in g.config.auto_add_history (λ e. Ok said ≡ Err e) (λ e is. ok_not_err said e is) line.events (work_of k now) (work_of k next) cut)
+    line_on said w end why r = went_cases w (λ done whole. subst (Leads end why) whole (went_behind done r)) (λ cut. went_not (λ e is. ok_not_err said e is) cut)
 
     -- a line that wasn't
     line_off : (e : ReadlineError) → LineComes (for_line g (at 0)) (suc n) now next (Err e) → Onwards k (suc n) g at now (work_of k next) e
     unfolding session
     line_off e w =
-        let adds = g.config.auto_add_history in
-        let more = (course_after_line later line.answer).events in
-        went_cases k.shown k.written_in adds (Whole (Err e)) (λ why. err_in (List ℕ) e ≡ Err why) line.events (work_of k now) (work_of k next) w
-        (λ done whole. subst (λ answer. Ends (led answer) (work_of k next) e) whole
-        (went_whole k.shown k.written_in adds (e ≡ e) (λ why. e ≡ why) (line.events ++ []) (work_of k now) (work_of k next)
-        (subst (λ events. AreDone k.shown k.written_in adds events (work_of k now) (work_of k next)) (sym (append-nil line.events)) done) refl))
-        (λ cut. went_before k.shown k.written_in adds (e ≡ (course_after_line later line.answer).answer) (λ why. e ≡ why) line.events more (work_of k now) (work_of k next)
-        (went_so k.shown k.written_in adds ⊥ (λ why. err_in (List ℕ) e ≡ Err why) (λ why. e ≡ why) (λ why is. ap (fault_or e) is) line.events (work_of k now) (work_of k next) cut))
+        let line = line_course (suc n) (for_line g (at 0)) (session_state_of k now) in
+        went_cases w
+        (λ done whole. subst (Leads (work_of k next) e) whole
+        (went_whole (subst (λ events. AreDone k.shown k.written_in g.config.auto_add_history events (work_of k now) (work_of k next)) (sym (append-nil line.events)) done) refl))
+        (λ cut. went_before (course_after_line later line.answer).events (went_so (λ why is. ap (fault_or e) is) cut))
 
   module _ (g : Given) (at at' : ℕ → LineGiven) (first now next : Desk S H D L) (h h' : Given) (result : Result (List ℕ) ReadlineError)
       (before : Onward k g at at' first now) (given : IsTrue (desk_feed k now).told → h ≡ for_line g (at' 0)) (line : TakesLine k h h' now next result) where

@@ -1,4 +1,4 @@
--- The display over a session's events.
+-- The display over a session's events, and over a command and a turn.
 use Rattle.std.proofs.Common.{◌≡◌, ℕ, zero, suc, ◌≤◌, Bool, true, false, List, [], ◌∷◌, ◌++◌, map, Option, None, Some, Result, Ok, Err, refl, sym, ap, ◌∙◌, subst, append_assoc, append-nil, arith, if◌then◌else◌}
 use Rattle.std.specs.List.{filter, flat_map}
 use Rattle.std.specs.Prelude.{⊤}
@@ -7,19 +7,19 @@ use Rattle.line_buffer.specs.declared.layout.Layout.{Layout}
 use Rattle.line_config.specs.declared.errors.ReadlineError.{ReadlineError}
 use Rattle.line_editor.specs.RenderCalls.{Marks}
 use Rattle.line_editor.specs.LineEndings.{breaks_after}
-use Rattle.line_editor.specs.Leads.{BeginShows, EndShows, LeadsAlong}
+use Rattle.line_editor.specs.Leads.{BeginShows, EndShows, LeadsAlong, CommandLeads, TurnLeads}
 use Rattle.line_editor.specs.LineScripts.{Begins as TurnBegins, Keys, LineAsk, LineState, effect_at, left_at}
 use Rattle.line_editor.specs.ModalCommands.{modal_seen, sight_in_mode}
 use Rattle.line_editor.specs.Modal.{Modal}
 use Rattle.line_editor.specs.Redraws.{calls_of_redraw, fresh}
 use Rattle.line_editor.specs.LineRun.{first_line_state}
-use Rattle.line_editor.specs.Sights.{Sight, no_sight, sight, sight_all, sight_drawn, sight_with, FitsAll}
+use Rattle.line_editor.specs.Sights.{Sight, no_sight, sight, sight_all, sight_drawn, sight_with, FitsAll, Turns, sight_of, info_after}
 use Rattle.line_editor.specs.EditSteps.{one}
-use Rattle.line_editor.specs.Values.{EditStep, Setting, Value, shown_marks}
+use Rattle.line_editor.specs.Values.{EditStep, Setting, Value, shown_marks, Effect}
 use Rattle.line_editor.specs.declared.modal_state.Standing.{Standing}
 use Rattle.line_editor.specs.declared.modal_state.Standing.TheVariants.{Searches}
 use Rattle.line_editor.specs.Values.EditStep.{Draws as DrawStep}
-use Rattle.line_editor.proofs.LineLeads.{lines_lead}
+use Rattle.line_editor.proofs.LineLeads.{lines_lead, turn_leads}
 use Rattle.line_keys.specs.InputStates.{new_input}
 use Rattle.line_keys.specs.PhraseScripts.{Reads}
 use Rattle.line_screen.specs.ScreenCalls.{Screen, bytes_of, ruler_of}
@@ -30,8 +30,12 @@ use Rattle.line_screen.specs.Laws.{widths}
 use Rattle.line_screen.proofs.LawLemmas.{start_is_empty, shown_is_meant, line_ends_anywhere, ended_line_stays}
 use Rattle.keyline.specs.Events.{SessionEvent, Course, Begins, Draws, Rests, Breaks, all_of, asks_events, end_events, events_of, course_after_line, line_course, own_events, line_play_in, session, step_events}
 use Rattle.keyline.specs.Sessions.{Given, LineGiven, SessionState, for_line, setting_in}
-use Rattle.keyline.specs.Shows.{picture, place_in, view_in, DisplayHolds, LowAll, top_by, top_drawn, top_after, next_top, above_by, above_drawn, above_after, calls_by_screen, bytes_for, Face, face, blank, face_with_drawing, face_on_new_row, below, IsAtRest, BlankIsAtRest, HasMeaning, MomentShown, EachShown, SessionsShow}
+use Rattle.keyline.specs.Shows.{picture, place_in, view_in, DisplayHolds, LowAll, top_by, top_drawn, top_after, next_top, above_by, above_drawn, above_after, calls_by_screen, bytes_for, Face, face, blank, face_with_drawing, face_on_new_row, below, IsAtRest, BlankIsAtRest, HasMeaning, MomentShown, EachShown, SessionsShow, Lead, sight_behind, CommandsShow, TurnsShow}
 use Rattle.keyline.proofs.ShowSteps.{fresh_holds, step}
+use Rattle.line_editor.specs.Commands.{effect}
+use Rattle.line_editor.proofs.CommandsLead.{commands_lead}
+use Rattle.line_keys.specs.declared.command.Cmd.{Cmd}
+use Rattle.line_keys.specs.declared.command.Cmd.TheVariants.{Interrupt}
 
 pub all_of_map : {A : Type 0} (f : A → List ℕ) (xs : List A) → all_of (map f xs) ≡ flat_map f xs
 all_of_map f [] = refl
@@ -228,3 +232,27 @@ first_shown (_ ∷ done) others f h = first_shown done others f h
 pub lines_show : (n : ℕ) (g : Given) (x : SessionState) (f : Face) → IsAtRest f → EachShown f (line_course n g x).events
 lines_show n g x f rest =
     first_shown (line_course n g x).events [] f (course_shown n g x [] (λ f after. tt) f rest)
+
+-- ---- a command, and a turn
+
+-- steps that lead from one sight to the other
+shown_by : (s : Screen) → 2 ≤ s.columns → s.columns ≤ 1000 → (own : List ℕ) (x y : Sight) (xs : List EditStep) → Turns own x xs y → Lead s x xs y
+shown_by s low high own x y xs t bytes over top l h rows =
+    subst (DisplayHolds s (bytes ++ bytes_for s l xs) (above_after xs over) (top_after xs top) (calls_by_screen s l xs).layout) t.leads
+    (steps s low high own bytes over top l x xs h t.fits rows)
+
+command_turns : (cmd : Cmd) (a : Setting) (v : Value) (info : Option (List ℕ)) (e : Effect) → CommandLeads cmd a v e
+    → Turns a.prompt (sight_of a v info) e.steps (sight_behind cmd (sight_of a e.value (info_after e.steps info)))
+command_turns Interrupt a v info e h = h info
+command_turns _ a v info e h = h info
+
+pub commands_show : CommandsShow
+commands_show s low high m cmd a v info =
+    let e : Effect = effect m cmd a v in
+    shown_by s low high a.prompt (sight_of a v info) (sight_behind cmd (sight_of a e.value (info_after e.steps info))) e.steps (command_turns cmd a v info e (commands_lead m cmd a v))
+
+pub turns_show : TurnsShow
+turns_show s low high n a custom k info status is =
+    let x = modal_seen k.modal a k.value info in
+    let t : TurnLeads a x info _ _ _ = turn_leads n a custom k info in
+    shown_by s low high a.prompt x _ _ (t.leads status is)

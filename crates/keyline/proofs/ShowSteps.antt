@@ -1,20 +1,28 @@
 -- A step leads from what is shown before it to what is to be shown after it.
-use Rattle.std.proofs.Common.{◌≡◌, ◌≢◌, ℕ, zero, suc, ◌+◌, ◌-◌, ◌==◌, not, ◌<◌, ◌≤◌, inl, inr, nat_lt, nat_le, Bool, true, false, List, [], ◌∷◌, ◌++◌, take, drop, take_all, ap₂, length, length-append, map, Option, Some, None, is_some, encode_utf8, refl, sym, ap, ◌∙◌, subst, append_assoc, append-nil, arith, if◌then◌else◌}
-use Rattle.std.specs.Prelude.{slice_range, replicate}
-use Rattle.std.specs.List.{filter, flat_map}
-use Rattle.std.proofs.lemmas.Bool.{and_from, and_parts, not-true, eqb-true, lt-ltb, ltb-true}
-use Rattle.std.proofs.lemmas.Bool.Decides.{nat_tests}
+use Rattle.std.proofs.Common.{◌≡◌, ℕ, ◌==◌, ◌&&◌, ◌||◌, Bool, true, false, List, [], ◌∷◌, ◌++◌, length, Option, None, refl, sym, ap, ◌∙◌, append-nil, ◌≢◌, ◌+◌, ◌-◌, not, ◌<◌, ◌≤◌, inl, inr, nat_lt, nat_le, take, drop, take_all, ap₂, length-append, map, Some, is_some, encode_utf8, subst, append_assoc, arith, if◌then◌else◌}
+use Rattle.std.specs.Prelude.{chars, encode_utf8, slice_range}
+use Rattle.std.specs.Str.{is_utf8}
+use Rattle.std.proofs.Math.Bool.{or-true}
+use Rattle.std.proofs.lemmas.Bool.{and_from, and_parts, eqb-true, not-true, lt-ltb, ltb-true}
 use Rattle.std.proofs.lemmas.List.Folds.{list_all-append}
-use Rattle.std.proofs.lemmas.Str.{encode_ascii}
-use Rattle.line_buffer.specs.Cells.{same_cell, origin}
+use Rattle.std.proofs.lemmas.Str.{IsUtf8-encode, IsUtf8-from_ascii, is_utf8-from_IsUtf8, chars-IsAscii, chars-encodes, chars-nil, encode_ascii}
 use Rattle.line_buffer.specs.Printable.{is_printable, is_plain, is_plain_byte, at_simple_end}
+use Rattle.line_editor.specs.Characters.{is_apart, stands_apart, starts_apart, begins_apart}
+use Rattle.line_editor.specs.RenderCalls.{Marks, Call}
+use Rattle.line_editor.specs.SharedStyles.{styles_to}
+use Rattle.line_editor.specs.Sights.{Sight, SameStyles, TakenFits, ErasedFits, TakenOutFits, RewrittenFits, DrawnFromFits, PartSpans, drawn_spans, sight_with, sight_as, no_sight, sight, TypedFits, AppendedFits, PutInFits, Fits}
+use Rattle.line_editor.proofs.CharacterRanges.{plain_apart}
+use Rattle.line_editor.proofs.KillLemmas.{plain_low}
+use Rattle.line_screen.proofs.ApartLemmas.{apart_scalar}
+use Rattle.line_screen.proofs.Items.{all_plain}
+use Rattle.std.specs.List.{filter, flat_map}
+use Rattle.std.proofs.lemmas.Bool.Decides.{nat_tests}
+use Rattle.line_buffer.specs.Cells.{same_cell, origin}
 use Rattle.line_buffer.specs.declared.layout.Layout.{Layout}
 use Rattle.line_buffer.specs.declared.layout.Position.{Position}
-use Rattle.line_editor.specs.RenderCalls.{Call, Marks}
 use Rattle.line_editor.specs.RenderCalls.Call.{Draw, Move, Write, Beep, ClearScreen, MoveAndClearToEol, InsertChar, MoveAndDelete, Append, DrawRest, Help, WriteOver}
 use Rattle.line_editor.specs.Redraws.{RedrawCalls, info_text, fresh, layout_of, full, nothing_asked, move_call, column_on, column_back, cell_on, char_call, append_call, erase_call, put_in_short, taken_out_short, rest_call, fits_in_row, may_type, may_take, may_erase, may_put_in, may_take_out, write_over_call, may_write_over}
 use Rattle.line_editor.specs.Redraws.Redraw.{Drawn, Moved, Typed, Appended, Taken, Erased, PutIn, TakenOut, DrawnFrom, Bared, ToEnd, Beeped, Cleared, Rewritten}
-use Rattle.line_editor.specs.Sights.{Sight, PartSpans, SameStyles, drawn_spans, sight_with, sight_as, no_sight, sight, TypedFits, AppendedFits, TakenFits, ErasedFits, PutInFits, TakenOutFits, DrawnFromFits, Fits, RewrittenFits}
 use Rattle.line_editor.specs.EditSteps.{one}
 use Rattle.line_editor.specs.Values.{shown_marks, EditStep}
 use Rattle.line_editor.specs.Values.EditStep.{Draws, Helped}
@@ -25,44 +33,97 @@ use Rattle.line_screen.specs.Display.{Placed}
 use Rattle.line_screen.specs.Drawing.{DrawnItem, row_break, text_items, place_after}
 use Rattle.line_screen.specs.Laws.{widths, TellsView}
 use Rattle.line_screen.specs.Measure.{measure_of, position_within_limit}
-use Rattle.line_screen.specs.StyledTexts.{first_styles, byte_styles}
-use Rattle.line_screen.specs.Styles.{numbers}
-use Rattle.line_editor.specs.SharedStyles.{span_styles, styles_to}
-use Rattle.line_help.specs.Paints.{plain}
-use Rattle.line_help.specs.declared.helpers.style.Span.{Span}
+use Rattle.line_screen.specs.StyledTexts.{first_styles}
 use Rattle.line_screen.proofs.Fitting.{items_fit, fit_append, after_inside}
 use Rattle.line_screen.proofs.LawLemmas.{calls_lead, place_is_free, measures_go_on}
-use Rattle.line_screen.proofs.Items.{all_plain}
+use Rattle.line_screen.proofs.KeptStyles.{kept_styles}
 use Rattle.line_screen.proofs.Leading.{line_cursor, line_end, line_finish, plain_parts, over_again}
 use Rattle.line_screen.proofs.ListLemmas.{filter_none, list_all_true}
 use Rattle.line_screen.proofs.ShortLemmas.{typing_leads, appending_leads, killing_leads, erasing_leads, putting_in_leads, taking_out_leads, drawing_rest_leads, part_above, writing_over_leads}
-use Rattle.std.proofs.lemmas.List.{take_at, drop_at, take-map, map-append}
-use Rattle.keyline.proofs.RestFits.{taken_fits, erased_fits, taken_out_fits, rewritten_fits}
+use Rattle.std.proofs.lemmas.List.{take_at, drop_at}
 use Rattle.keyline.specs.Shows.{picture, place_in, view_in, DisplayHolds, Low, LowStep, top_by, above_by}
 
--- the styles of a line's front as a screen has them
-map_replicate : {A B : Type 0} (f : A → B) (n : ℕ) (x : A) → map f (replicate n x) ≡ replicate n (f x)
-map_replicate f zero x = refl
-map_replicate f (suc n) x = ap (λ xs. f x ∷ xs) (map_replicate f n x)
+-- ---- where no cluster lies over a place
 
-styles_of_bytes : (spans : List Span) → byte_styles (map span_of spans) ≡ map numbers (span_styles spans)
-styles_of_bytes [] = refl
-styles_of_bytes (x ∷ spans) =
-    ap₂ (λ a b. a ++ b) (sym (map_replicate numbers x.len x.style)) (styles_of_bytes spans) ∙ sym (map-append numbers (replicate x.len x.style) (span_styles spans))
+plain_utf8 : (text : List ℕ) → is_plain text ≡ true → is_utf8 text ≡ true
+plain_utf8 text h = is_utf8-from_IsUtf8 text (IsUtf8-from_ascii text (plain_low text h))
 
-first_styles_of : (n : ℕ) (spans : List Span) → first_styles n (map span_of spans) ≡ map numbers (styles_to n spans)
-first_styles_of n spans =
-    ap₂ (λ a b. take n (a ++ b)) (styles_of_bytes spans) (sym (map_replicate numbers n plain))
-    ∙ ap (take n) (sym (map-append numbers (span_styles spans) (replicate n plain))) ∙ take-map numbers n (span_styles spans ++ replicate n plain)
+begins : (text rest : List ℕ) → is_utf8 rest ≡ true → is_utf8 text ≡ true → starts_apart text (chars rest) ≡ true → begins_apart text rest ≡ true
+begins text rest h k starts = and_from (is_utf8 rest) (is_utf8 text && starts_apart text (chars rest)) h (and_from (is_utf8 text) (starts_apart text (chars rest)) k starts)
+
+plain_starts : (text rest : List ℕ) → is_plain text ≡ true → is_plain rest ≡ true → starts_apart text rest ≡ true
+plain_starts text [] h k = refl
+plain_starts text (c ∷ rest) h k = by_test (c == 10) (and_parts (is_plain_byte c) (is_plain rest) k).0
+  where
+    by_test : (b : Bool) → (b || is_printable c) ≡ true → (b || stands_apart text c) ≡ true
+    by_test true p = refl
+    by_test false p = plain_apart text c h p
+
+plain_begins : (text rest : List ℕ) → is_plain text ≡ true → is_plain rest ≡ true → begins_apart text rest ≡ true
+plain_begins text rest h k = begins text rest (plain_utf8 rest k) (plain_utf8 text h) (ap (starts_apart text) (chars-IsAscii rest (plain_low rest k)) ∙ plain_starts text rest h k)
+
+none_begins : (text : List ℕ) → is_utf8 text ≡ true → begins_apart text [] ≡ true
+none_begins text h = begins text [] (plain_utf8 [] refl) h (ap (starts_apart text) chars-nil)
+
+char_begins : (text : List ℕ) (c : ℕ) → stands_apart text c ≡ true → begins_apart text (encode_utf8 c) ≡ true
+char_begins text c h =
+    let parts = and_parts (is_utf8 text) _ h in
+    let scalar = apart_scalar c (and_parts (is_apart c) _ parts.1).0 in
+    let one : chars (encode_utf8 c) ≡ c ∷ [] = ap chars (sym (append-nil (encode_utf8 c))) ∙ chars-encodes (c ∷ []) (and_from _ true scalar refl) in
+    begins text (encode_utf8 c) (is_utf8-from_IsUtf8 (encode_utf8 c) (IsUtf8-encode c scalar)) parts.0 (ap (starts_apart text) one ∙ ap (λ b. (c == 10) || b) h ∙ or-true (c == 10))
+
+-- ---- each short way
+
+module _ (x : Sight) (m : Option Marks) (prompt text : List ℕ) (at : ℕ) (k : SameStyles x m prompt text at) where
+  rest_fits : (from : ℕ) (before gone rest : List ℕ) → prompt ≡ x.prompt → x.line ≡ before ++ gone → text ≡ before ++ rest → from ≡ length before
+      → begins_apart before gone ≡ true → begins_apart before rest ≡ true → DrawnFromFits x m prompt from text at None
+  rest_fits from before gone rest prompt_is whole text_is from_is gone_apart rest_apart = record {
+    before = before;
+    gone = gone;
+    rest = rest;
+    whole = whole;
+    text_is = text_is;
+    from_is = from_is;
+    gone_apart = gone_apart;
+    rest_apart = rest_apart;
+    prompt_is = prompt_is;
+    same_styles = ap (styles_to from) (k.still ∙ sym k.unstyled);
+    prompt_styles = k.same_prompt;
+  }
+
+  plain_fits : (from : ℕ) (before gone rest : List ℕ) → prompt ≡ x.prompt → x.line ≡ before ++ gone → text ≡ before ++ rest → from ≡ length before
+      → is_plain before ≡ true → is_plain gone ≡ true → is_plain rest ≡ true → DrawnFromFits x m prompt from text at None
+  plain_fits from before gone rest prompt_is whole text_is from_is first last new = rest_fits from before gone rest prompt_is whole text_is from_is (plain_begins before gone first last) (plain_begins before rest first new)
+
+  both_plain : (before gone : List ℕ) → x.line ≡ before ++ gone → is_plain x.line ≡ true → (is_plain before ≡ true) × (is_plain gone ≡ true)
+  both_plain before gone whole plain = and_parts (is_plain before) (is_plain gone) (sym (list_all-append is_plain_byte before gone) ∙ ap is_plain (sym whole) ∙ plain)
+
+  taken_fits : (count : ℕ) → TakenFits x prompt count text at → DrawnFromFits x m prompt at text at None
+  taken_fits count t =
+      let parts = and_parts (at == length text) (is_plain text) t.end in
+      plain_fits at text t.killed [] t.prompt_is t.whole (sym (append-nil text)) (eqb-true at (length text) parts.0) parts.1 (all_plain t.killed t.printable) refl
+
+  erased_fits : (c : ℕ) → ErasedFits x prompt c text at → DrawnFromFits x m prompt at text at None
+  erased_fits c t =
+      rest_fits at text (encode_utf8 c) [] t.prompt_is t.whole (sym (append-nil text)) t.end (char_begins text c t.apart) (none_begins text (and_parts (is_utf8 text) _ t.apart).0)
+
+  taken_out_fits : (count : ℕ) → TakenOutFits x prompt count text at → DrawnFromFits x m prompt at text at None
+  taken_out_fits count t =
+      let parts = both_plain t.before (t.killed ++ t.rest) t.whole t.plain in
+      let rest = (and_parts (is_plain t.killed) (is_plain t.rest) (sym (list_all-append is_plain_byte t.killed t.rest) ∙ parts.1)).1 in
+      plain_fits at t.before (t.killed ++ t.rest) t.rest t.prompt_is t.whole t.text_is t.at parts.0 parts.1 rest
+
+  rewritten_fits : (from upto : ℕ) → RewrittenFits x prompt from upto text at → DrawnFromFits x m prompt from text at None
+  rewritten_fits from upto t =
+      let parts = both_plain t.before (t.gone ++ t.rest) t.whole t.plain in
+      let rest = (and_parts (is_plain t.gone) (is_plain t.rest) (sym (list_all-append is_plain_byte t.gone t.rest) ∙ parts.1)).1 in
+      plain_fits from t.before (t.gone ++ t.rest) (t.letters ++ t.rest) t.prompt_is t.whole t.text_is t.from_is parts.0 parts.1
+      (list_all-append is_plain_byte t.letters t.rest ∙ and_from (is_plain t.letters) (is_plain t.rest) (all_plain t.letters t.printable) rest)
 
 same_if : (a b : Position) → same_cell a b ≡ true → a ≡ b
 same_if a b h =
     let parts = and_parts (a.col == b.col) (a.row == b.row) h in
     ap (λ c. let p : Position = record { col = c; row = a.row } in p) (eqb-true a.col b.col parts.0) ∙ ap (λ r. let p : Position = record { col = b.col; row = r } in p) (eqb-true a.row b.row parts.1)
-
-no_text : (info : Option (List ℕ)) → is_some info ≡ false → info_text info ≡ []
-no_text None h = refl
-no_text (Some x) h = cc
 
 no_info : (info : Option (List ℕ)) → is_some info ≡ false → info ≡ None
 no_info None h = refl
@@ -84,6 +145,22 @@ not_above_first p = grind (arith, nat_tests)
 
 none_above_first : (xs : List Placed) → filter (above 0) xs ≡ []
 none_above_first xs = filter_none (above 0) xs (list_all_true (λ p. not (above 0 p)) not_above_first xs)
+
+-- the rest of a line behind what was put in, or taken out; and what replaced other characters
+put_in_rest : (x : Sight) (prompt : List ℕ) (c : ℕ) (text : List ℕ) (at : ℕ) → (t : PutInFits x prompt c text at) → drop at text ≡ t.rest
+put_in_rest x prompt c text at t =
+    let count = length-append t.before (c ∷ []) in
+    ap₂ drop t.behind (t.text_is ∙ sym (append_assoc t.before (c ∷ []) t.rest)) ∙ drop_at (t.before ++ c ∷ []) t.rest (length t.before + 1) (omega arith)
+
+taken_out_rest : (x : Sight) (prompt : List ℕ) (count : ℕ) (text : List ℕ) (at : ℕ) → (t : TakenOutFits x prompt count text at) → drop at text ≡ t.rest
+taken_out_rest x prompt count text at t = ap₂ drop t.at t.text_is ∙ drop_at t.before t.rest (length t.before) refl
+
+pub rewritten_letters : (x : Sight) (prompt : List ℕ) (from upto : ℕ) (text : List ℕ) (at : ℕ) → (t : RewrittenFits x prompt from upto text at) → slice_range text from upto ≡ t.letters
+rewritten_letters x prompt from upto text at t =
+    let first = t.from_is in
+    let last = t.upto_is in
+    let count : upto - from ≡ length t.letters = omega arith in
+    ap₂ take count (ap₂ drop t.from_is t.text_is ∙ drop_at t.before (t.letters ++ t.rest) (length t.before) refl) ∙ take_at t.letters t.rest (length t.letters) refl
 
 module _ (s : Screen) (low : 2 ≤ s.columns) (high : s.columns ≤ 1000) where
   some : 1 ≤ s.columns
@@ -217,94 +294,15 @@ module _ (s : Screen) (low : 2 ≤ s.columns) (high : s.columns ≤ 1000) where
   end_is_cursor v none end = line_finish s.columns (widths s) v none ∙ sym (line_cursor s.columns (widths s) v end)
 
   tells : (bytes : List ℕ) (over : List Placed) (top : ℕ) (l : Layout) (x : Sight) → DisplayHolds s bytes over top l x → TellsView s l (view_in s top x)
-  tells bytes over top l x h = record { cursor = h.cursor; finish = h.finish; info = λ none. no_text x.info (sym h.info_is ∙ none) }
-
-  -- without information, after the session's own prompt
-  abbrev bare_sight : PartSpans → List ℕ → List ℕ → ℕ → Sight
-  bare_sight spans prompt text at = record { prompt = prompt; line = text; place = at; info = None; given = true; ended = false; spans = spans }
-
-  -- nothing stands after the line
-  nothing_after : (bytes : List ℕ) (over : List Placed) (top : ℕ) (l : Layout) (x : Sight) → DisplayHolds s bytes over top l x → not l.has_info ≡ true → x.info ≡ None
-  nothing_after bytes over top l x h none = no_info x.info (sym h.info_is ∙ not-true l.has_info none)
-
-  bare_is : (m : Option Marks) (x : Sight) (prompt text : List ℕ) (at : ℕ) (line : List ℕ) (place : ℕ) → SameStyles x m prompt text at → x.info ≡ None → prompt ≡ x.prompt → text ≡ line → at ≡ place
-      → sight_as m prompt text at None ≡ bare_sight x.spans x.prompt line place
-  bare_is m x prompt text at line place k none prompt_is text_is place_is =
-      ap (λ spans. bare_sight spans prompt text at) (k.same none)
-      ∙ ap (λ p. bare_sight x.spans p text at) prompt_is ∙ ap (λ t. bare_sight x.spans x.prompt t at) text_is ∙ ap (bare_sight x.spans x.prompt line) place_is
-
-  no_styles_in : (x : Sight) → x.spans.line ≡ [] → (picture x).styles.line ≡ []
-  no_styles_in x none = ap (map span_of) none
-
-  -- a call that leads to a bare line, and changes nothing of the layout but cursor and end
-  short_holds : (bytes : List ℕ) (over : List Placed) (top : ℕ) (m : Option Marks) (l : Layout) (x : Sight) (prompt text : List ℕ) (at : ℕ) (line : List ℕ) (place : ℕ) (call : Call) (cursor end : Position)
-      → DisplayHolds s bytes over top l x → x.given ≡ true → not l.has_info ≡ true → SameStyles x m prompt text at → prompt ≡ x.prompt → text ≡ line → at ≡ place
-      → (let y = bare_sight x.spans x.prompt line place in
-      LeadsView s.columns (widths s) (view_in s top x) call (record { shown = picture y; top = top; place = cursor }) → call ≢ ClearScreen
-      → cursor ≡ cursor_of s.columns (widths s) (picture y) → end ≡ finish_of s.columns (widths s) (picture y)
-      → DisplayHolds s (bytes ++ flat_map (bytes_of s) (call ∷ [])) over top (record l { cursor = cursor; end = end }) (sight_as m prompt text at None))
-  short_holds bytes over top m l x prompt text at line place call cursor end h given free k prompt_is text_is place_is leads other cursor_is end_is =
-      let y = bare_sight x.spans x.prompt line place in
-      let there : View = record { shown = picture y; top = top; place = cursor } in
-      let new = bytes ++ flat_map (bytes_of s) (call ∷ []) in
-      let now = record l { cursor = cursor; end = end } in
-      let done : DisplayHolds s new over top now y = record {
-        good = subst (λ p. Good s.columns (widths s) new over (record { shown = picture y; top = top; place = p })) cursor_is (one_led bytes over (view_in s top x) there call h.good leads refl other);
-        cursor = cursor_is;
-        finish = end_is;
-        prompt_size = h.prompt_size;
-        info_is = not-true l.has_info free;
-        given_is = h.given_is ∙ given;
-      } in
-      subst (DisplayHolds s new over top now) (sym (bare_is m x prompt text at line place k (nothing_after bytes over top l x h free) prompt_is text_is place_is)) done
-
-  -- or the line drawn whole
-  abbrev Shows : List ℕ → List Placed → ℕ → Sight → RedrawCalls → Type 0
-  Shows bytes over top y q = DisplayHolds s (bytes ++ flat_map (bytes_of s) q.calls) over top q.layout y
-
-  short_or : (bytes : List ℕ) (over : List Placed) (top : ℕ) (m : Option Marks) (l : Layout) (x : Sight) (prompt text : List ℕ) (at : ℕ) (short : RedrawCalls) (b : Bool) → DisplayHolds s bytes over top l x
-      → (let y = sight_as m prompt text at None in Low s y → (b ≡ true → Shows bytes over top y short) → Shows bytes over top y (if b then short else full (ruler_of s) m l prompt true text at None))
-  short_or bytes over top m l x prompt text at short true h rows holds = holds refl
-  short_or bytes over top m l x prompt text at short false h rows holds = drawn_holds bytes over top m l x prompt true text at None h.good h.cursor rows
-
-  typed_holds : (bytes : List ℕ) (over : List Placed) (top : ℕ) (m : Option Marks) (l : Layout) (x : Sight) (prompt : List ℕ) (c : ℕ) (text : List ℕ) (at : ℕ) → DisplayHolds s bytes over top l x
-      → x.given ≡ true → x.ended ≡ false → TypedFits x prompt c text at → SameStyles x m prompt text at → may_type (ruler_of s) l ≡ true → Shows bytes over top (sight_as m prompt text at None) (char_call l c)
-  typed_holds bytes over top m l x prompt c text at h given unended t k e =
-      let letter = and_parts (is_printable c) (at_simple_end true x.line x.place) t.typed in
-      let last : x.place ≡ length x.line = eqb-true x.place (length x.line) (and_parts (x.place == length x.line) _ letter.1).0 in
-      let line = x.line ++ c ∷ [] in
-      let y = bare_sight x.spans x.prompt line (x.place + 1) in
-      let to = column_on l.cursor in
-      let there : View = record { shown = picture y; top = top; place = to } in
-      let leads = typing_leads s low high l (view_in s top x) c (tells bytes over top l x h) (place_if x unended) (no_styles_in x k.unstyled) t.typed e in
-      let cursor_is : to ≡ cursor_of s.columns (widths s) (picture y) = typed_place (view_in s top x) there c leads in
-      let end : y.place ≡ length line = let count = length-append x.line (c ∷ []) in omega arith in
-      subst (λ xs. DisplayHolds s (bytes ++ flat_map (bytes_of s) (Write xs ∷ [])) over top (char_call l c).layout (sight_as m prompt text at None)) (sym (encode_ascii c (small c letter.0)))
-      (short_holds bytes over top m l x prompt text at line (x.place + 1) (Write (c ∷ [])) to to h given (and_parts (not l.has_info) (fits_in_row s.columns l.cursor) e).0 k t.prompt_is t.text_is t.behind
-      leads (λ e. cc) cursor_is (cursor_is ∙ sym (end_is_cursor (picture y) refl end)))
-
-  -- ---- a character apart from the line's end
-
-  appended_holds : (bytes : List ℕ) (over : List Placed) (top : ℕ) (m : Option Marks) (l : Layout) (x : Sight) (prompt : List ℕ) (c : ℕ) (text : List ℕ) (at : ℕ) → DisplayHolds s bytes over top l x
-      → x.given ≡ true → x.ended ≡ false → AppendedFits x prompt c text at → SameStyles x m prompt text at → (let y = sight_as m prompt text at None in Low s y → not l.has_info ≡ true → Shows bytes over top y (append_call (ruler_of s) l c))
-  appended_holds bytes over top m l x prompt c text at h given unended t k rows free =
-      let tail = encode_utf8 c in
-      let line = x.line ++ tail in
-      let same = bare_is m x prompt text at line (length line) k (nothing_after bytes over top l x h free) t.prompt_is t.text_is t.behind in
-      let low_y : Low s (bare_sight x.spans x.prompt line (length line)) = subst (Low s) same rows in
-      let to = measure_of s.mode s.tab s.columns tail l.cursor in
-      let leads = appending_leads s low high l (view_in s top x) c (tells bytes over top l x h) (place_if x unended) (no_styles_in x k.unstyled) t.at t.apart (not-true l.has_info free) low_y.cursor in
-      short_holds bytes over top m l x prompt text at line (length line) (Append tail l.cursor) to to h given free k t.prompt_is t.text_is t.behind leads.0 (λ e. cc) leads.1 leads.2
+  tells bytes over top l x h = record { cursor = h.cursor; finish = h.finish; info = λ none. ap info_text (no_info x.info (sym h.info_is ∙ none)) }
 
   -- ---- the rest of a line, and what stands after it
 
-  same_line : (m : Option Marks) (prompt text : List ℕ) (at : ℕ) (info : List ℕ) → (drawn_spans m true [] text at info).line ≡ (drawn_spans m true prompt text at info).line
-  same_line None prompt text at info = refl
-  same_line (Some m) prompt text at info = refl
-
-  same_info : (m : Option Marks) (prompt text : List ℕ) (at : ℕ) (info : List ℕ) → (drawn_spans m true [] text at info).info ≡ (drawn_spans m true prompt text at info).info
-  same_info None prompt text at info = refl
-  same_info (Some m) prompt text at info = refl
+  -- the prompt's text has no part in the styles of what stands after it
+  same_parts : (m : Option Marks) (prompt text : List ℕ) (at : ℕ) (info : List ℕ)
+      → (let alone = drawn_spans m true [] text at info in let spans = drawn_spans m true prompt text at info in (alone.line ≡ spans.line) × (alone.info ≡ spans.info))
+  same_parts None prompt text at info = (refl, refl)
+  same_parts (Some m) prompt text at info = (refl, refl)
 
   abbrev rest_given : Option Marks → Sight → List ℕ → ℕ → Option (List ℕ) → Styles
   rest_given m x text at info = with_line_styles (styles_of x.spans) (line_styles m text at (info_text info))
@@ -315,15 +313,15 @@ module _ (s : Screen) (low : 2 ≤ s.columns) (high : s.columns ≤ 1000) where
       let spans = drawn_spans m true prompt text at (info_text info) in
       let alone = drawn_spans m true [] text at (info_text info) in
       ap (λ p. styles_of (record { prompt = p; line = alone.line; info = alone.info })) (sym t.prompt_styles)
-      ∙ ap (λ p. styles_of (record { prompt = spans.prompt; line = p; info = alone.info })) (same_line m prompt text at (info_text info))
-      ∙ ap (λ p. styles_of (record { prompt = spans.prompt; line = spans.line; info = p })) (same_info m prompt text at (info_text info))
+      ∙ ap (λ p. styles_of (record { prompt = spans.prompt; line = p; info = alone.info })) (same_parts m prompt text at (info_text info)).0
+      ∙ ap (λ p. styles_of (record { prompt = spans.prompt; line = spans.line; info = p })) (same_parts m prompt text at (info_text info)).1
 
   rest_same_styles : (m : Option Marks) (x : Sight) (prompt : List ℕ) (from : ℕ) (text : List ℕ) (at : ℕ) (info : Option (List ℕ)) → DrawnFromFits x m prompt from text at info
       → first_styles from (line_styles m text at (info_text info)).line ≡ first_styles from (styles_of x.spans).line
   rest_same_styles m x prompt from text at info t =
       let spans = drawn_spans m true prompt text at (info_text info) in
-      ap (λ p. first_styles from (map span_of p)) (same_line m prompt text at (info_text info))
-      ∙ first_styles_of from spans.line ∙ ap (map numbers) t.same_styles ∙ sym (first_styles_of from x.spans.line)
+      ap (λ p. first_styles from (map span_of p)) (same_parts m prompt text at (info_text info)).0
+      ∙ kept_styles from spans.line x.spans.line t.same_styles
 
   drawn_from_is : (m : Option Marks) (x : Sight) (prompt : List ℕ) (from : ℕ) (text : List ℕ) (at : ℕ) (info : Option (List ℕ)) → DrawnFromFits x m prompt from text at info
       → (let v : Picture = record { prompt = x.prompt; line = text; place = at; info = info_text info; styles = rest_given m x text at info } in v ≡ picture (sight_as m prompt text at info))
@@ -364,151 +362,189 @@ module _ (s : Screen) (low : 2 ≤ s.columns) (high : s.columns ≤ 1000) where
         given_is = refl;
       }
 
-  -- or the line drawn from a place on
-  short_or_rest : (bytes : List ℕ) (over : List Placed) (top : ℕ) (m : Option Marks) (l : Layout) (x : Sight) (prompt : List ℕ) (from : ℕ) (text : List ℕ) (at : ℕ) (short : RedrawCalls) (b : Bool) → DisplayHolds s bytes over top l x
-      → DrawnFromFits x m prompt from text at None
-      → (let y = sight_as m prompt text at None in Low s y → (b ≡ true → Shows bytes over top y short) → Shows bytes over top y (if b then short else rest_call (ruler_of s) m l from text at None))
-  short_or_rest bytes over top m l x prompt from text at short true h t rows holds = holds refl
-  short_or_rest bytes over top m l x prompt from text at short false h t rows holds = drawn_from_holds bytes over top m l x prompt from text at None h t rows
+  -- ---- one call, where the line alone is shown behind the session's own prompt; or the line drawn whole
 
-  -- ---- a kill at the line's end
+  -- without information, after the session's own prompt
+  abbrev bare_sight : PartSpans → List ℕ → List ℕ → ℕ → Sight
+  bare_sight spans prompt text at = record { prompt = prompt; line = text; place = at; info = None; given = true; ended = false; spans = spans }
 
   killed_place : (a b : View) (old new : Position) → LeadsView s.columns (widths s) a (MoveAndClearToEol old new) b → b.place ≡ cursor_of s.columns (widths s) b.shown
   killed_place a b old new f =
       let k = f.2 in
       ap (λ (x : View). x.place) k.view ∙ k.place_is ∙ ap (λ (x : View). cursor_of s.columns (widths s) x.shown) (sym k.view)
 
-  taken_holds : (bytes : List ℕ) (over : List Placed) (top : ℕ) (m : Option Marks) (l : Layout) (x : Sight) (prompt : List ℕ) (count : ℕ) (text : List ℕ) (at : ℕ) → DisplayHolds s bytes over top l x
-      → x.given ≡ true → TakenFits x prompt count text at → SameStyles x m prompt text at → may_take l count ≡ true → Shows bytes over top (sight_as m prompt text at None) (erase_call l count)
-  taken_holds bytes over top m l x prompt count text at h given t k e =
-      let w = view_in s top x in
-      let y = bare_sight x.spans x.prompt text (length text) in
-      let ends = and_parts (at == length text) (is_plain text) t.end in
-      let to = column_back (length t.killed) l.end in
-      let there : View = record { shown = picture y; top = top; place = to } in
-      let leads = killing_leads s low high l w text t.killed (tells bytes over top l x h) h.good.inside (no_styles_in x k.unstyled) t.whole ends.1 t.printable (subst (λ n. may_take l n ≡ true) t.count_is e) in
-      let cursor_is : to ≡ cursor_of s.columns (widths s) (picture y) = killed_place w there w.place to leads in
-      subst (λ n. Shows bytes over top (sight_as m prompt text at None) (erase_call l n)) (sym t.count_is)
-      (short_holds bytes over top m l x prompt text at text (length text) (MoveAndClearToEol l.cursor to) to to h given (and_parts (not l.has_info) _ e).0 k t.prompt_is refl (eqb-true at (length text) ends.0)
-      (subst (λ p. LeadsView s.columns (widths s) w (MoveAndClearToEol p to) there) (sym h.cursor) leads) (λ e. cc) cursor_is (cursor_is ∙ sym (end_is_cursor (picture y) refl refl)))
+  module _ (bytes : List ℕ) (over : List Placed) (top : ℕ) (m : Option Marks) (l : Layout) (x : Sight) (h : DisplayHolds s bytes over top l x) (prompt text : List ℕ) (at : ℕ) where
+    abbrev old : View
+    old = view_in s top x
 
-  -- ---- a character apart, deleted at the line's end
+    abbrev now : Sight
+    now = sight_as m prompt text at None
 
-  erased_holds : (bytes : List ℕ) (over : List Placed) (top : ℕ) (m : Option Marks) (l : Layout) (x : Sight) (prompt : List ℕ) (c : ℕ) (text : List ℕ) (at : ℕ) → DisplayHolds s bytes over top l x
-      → x.given ≡ true → ErasedFits x prompt c text at → SameStyles x m prompt text at → (let y = sight_as m prompt text at None in Low s y → may_erase (ruler_of s) l c ≡ true
-      → Shows bytes over top y (erase_call l (measure_of s.mode s.tab s.columns (encode_utf8 c) origin).col))
-  erased_holds bytes over top m l x prompt c text at h given t k rows e =
-      let w = view_in s top x in
-      let free = (and_parts (not l.has_info) _ e).0 in
-      let to = column_back (measure_of s.mode s.tab s.columns (encode_utf8 c) origin).col l.end in
-      let y = bare_sight x.spans x.prompt text (length text) in
-      let same = bare_is m x prompt text at text (length text) k (nothing_after bytes over top l x h free) t.prompt_is refl t.end in
-      let there : View = record { shown = picture y; top = top; place = to } in
-      let leads = erasing_leads s low high l w text c (tells bytes over top l x h) (no_styles_in x k.unstyled) t.whole t.apart e (inside_cursor y (subst (Low s) same rows)).row in
-      let cursor_is : to ≡ cursor_of s.columns (widths s) (picture y) = killed_place w there w.place to leads in
-      short_holds bytes over top m l x prompt text at text (length text) (MoveAndClearToEol l.cursor to) to to h given free k t.prompt_is refl t.end
-      (subst (λ p. LeadsView s.columns (widths s) w (MoveAndClearToEol p to) there) (sym h.cursor) leads) (λ e. cc) cursor_is (cursor_is ∙ sym (end_is_cursor (picture y) refl refl))
+    abbrev Shows : RedrawCalls → Type 0
+    Shows q = DisplayHolds s (bytes ++ flat_map (bytes_of s) q.calls) over top q.layout now
 
-  -- ---- a character put in
+    short_or : (short : RedrawCalls) (b : Bool) → Low s now → (b ≡ true → Shows short) → Shows (if b then short else full (ruler_of s) m l prompt true text at None)
+    short_or short true rows holds = holds refl
+    short_or short false rows holds = drawn_holds bytes over top m l x prompt true text at None h.good h.cursor rows
 
-  put_in_rest : (x : Sight) (prompt : List ℕ) (c : ℕ) (text : List ℕ) (at : ℕ) → (t : PutInFits x prompt c text at) → drop at text ≡ t.rest
-  put_in_rest x prompt c text at t =
-      let count = length-append t.before (c ∷ []) in
-      ap₂ drop t.behind (t.text_is ∙ sym (append_assoc t.before (c ∷ []) t.rest)) ∙ drop_at (t.before ++ c ∷ []) t.rest (length t.before + 1) (omega arith)
+    -- or the line drawn from a place on
+    short_or_rest : (from : ℕ) (short : RedrawCalls) (b : Bool) → DrawnFromFits x m prompt from text at None → Low s now → (b ≡ true → Shows short) → Shows (if b then short else rest_call (ruler_of s) m l from text at None)
+    short_or_rest from short true t rows holds = holds refl
+    short_or_rest from short false t rows holds = drawn_from_holds bytes over top m l x prompt from text at None h t rows
 
-  put_in_holds : (bytes : List ℕ) (over : List Placed) (top : ℕ) (m : Option Marks) (l : Layout) (x : Sight) (prompt : List ℕ) (c : ℕ) (text : List ℕ) (at : ℕ) → DisplayHolds s bytes over top l x
-      → x.given ≡ true → x.ended ≡ false → PutInFits x prompt c text at → SameStyles x m prompt text at → may_put_in (ruler_of s) l (drop at text) ≡ true
-      → Shows bytes over top (sight_as m prompt text at None) (put_in_short (ruler_of s) l c (drop at text))
-  put_in_holds bytes over top m l x prompt c text at h given unended t k e =
-      let rest_is = put_in_rest x prompt c text at t in
-      let line = t.before ++ c ∷ t.rest in
-      let cursor = cell_on s.columns l.cursor in
-      let end = cell_on s.columns l.end in
-      let leads = putting_in_leads s low high l (view_in s top x) t.before t.rest c (tells bytes over top l x h) (place_if x unended) (no_styles_in x k.unstyled) t.plain t.printable t.whole t.at
-      (subst (λ r. may_put_in (ruler_of s) l r ≡ true) rest_is e) in
-      subst (λ r. Shows bytes over top (sight_as m prompt text at None) (put_in_short (ruler_of s) l c r)) (sym rest_is)
-      (short_holds bytes over top m l x prompt text at line (length t.before + 1) (InsertChar c t.rest l.cursor cursor end) cursor end h given (and_parts (not l.has_info) _ e).0 k t.prompt_is t.text_is t.behind
-      leads.0 (λ e. cc) leads.1 leads.2)
+    module _ (given : x.given ≡ true) (k : SameStyles x m prompt text at) where
+      no_styles : (picture x).styles.line ≡ []
+      no_styles = ap (map span_of) k.unstyled
 
-  -- ---- characters taken out
+      bare_is : (line : List ℕ) (place : ℕ) → not l.has_info ≡ true → prompt ≡ x.prompt → text ≡ line → at ≡ place → now ≡ bare_sight x.spans x.prompt line place
+      bare_is line place free prompt_is text_is place_is =
+          ap (λ spans. bare_sight spans prompt text at) (k.same (no_info x.info (sym h.info_is ∙ not-true l.has_info free)))
+          ∙ ap (λ p. bare_sight x.spans p text at) prompt_is ∙ ap (λ t. bare_sight x.spans x.prompt t at) text_is ∙ ap (bare_sight x.spans x.prompt line) place_is
 
-  taken_out_rest : (x : Sight) (prompt : List ℕ) (count : ℕ) (text : List ℕ) (at : ℕ) → (t : TakenOutFits x prompt count text at) → drop at text ≡ t.rest
-  taken_out_rest x prompt count text at t = ap₂ drop t.at t.text_is ∙ drop_at t.before t.rest (length t.before) refl
+      -- a call that leads to a bare line, and changes nothing of the layout but cursor and end
+      short_holds : (line : List ℕ) (place : ℕ) (call : Call) (cursor end : Position) → not l.has_info ≡ true → prompt ≡ x.prompt → text ≡ line → at ≡ place
+          → (let y = bare_sight x.spans x.prompt line place in LeadsView s.columns (widths s) old call (record { shown = picture y; top = top; place = cursor }) → call ≢ ClearScreen
+          → cursor ≡ cursor_of s.columns (widths s) (picture y) → end ≡ finish_of s.columns (widths s) (picture y)
+          → DisplayHolds s (bytes ++ flat_map (bytes_of s) (call ∷ [])) over top (record l { cursor = cursor; end = end }) now)
+      short_holds line place call cursor end free prompt_is text_is place_is leads other cursor_is end_is =
+          let y = bare_sight x.spans x.prompt line place in
+          let new = bytes ++ flat_map (bytes_of s) (call ∷ []) in
+          let layout = record l { cursor = cursor; end = end } in
+          let good = one_led bytes over old (record { shown = picture y; top = top; place = cursor }) call h.good leads refl other in
+          let done : DisplayHolds s new over top layout y = record {
+            good = subst (λ p. Good s.columns (widths s) new over (record { shown = picture y; top = top; place = p })) cursor_is good;
+            cursor = cursor_is;
+            finish = end_is;
+            prompt_size = h.prompt_size;
+            info_is = not-true l.has_info free;
+            given_is = h.given_is ∙ given;
+          } in
+          subst (DisplayHolds s new over top layout) (sym (bare_is line place free prompt_is text_is place_is)) done
 
-  taken_out_holds : (bytes : List ℕ) (over : List Placed) (top : ℕ) (m : Option Marks) (l : Layout) (x : Sight) (prompt : List ℕ) (count : ℕ) (text : List ℕ) (at : ℕ) → DisplayHolds s bytes over top l x
-      → x.given ≡ true → TakenOutFits x prompt count text at → SameStyles x m prompt text at
-      → (let y = sight_as m prompt text at None in let cell = measure_of s.mode s.tab s.columns (take at text) l.prompt_size in Low s y → may_take_out (ruler_of s) l cell count (drop at text) ≡ true
-      → Shows bytes over top y (taken_out_short l cell count (drop at text)))
-  taken_out_holds bytes over top m l x prompt count text at h given t k rows e =
-      let w = view_in s top x in
-      let cell = measure_of s.mode s.tab s.columns (take at text) l.prompt_size in
-      let free = (and_parts (not l.has_info) _ e).0 in
-      let line = t.before ++ t.rest in
-      let y = bare_sight x.spans x.prompt line (length t.before) in
-      let low_y : Low s y = subst (Low s) (bare_is m x prompt text at line (length t.before) k (nothing_after bytes over top l x h free) t.prompt_is t.text_is t.at) rows in
-      let cell_is : cell ≡ cursor_of s.columns (widths s) (picture y) =
-      ap₂ (measure_of s.mode s.tab s.columns) (ap₂ take t.at t.text_is) h.prompt_size ∙ (measures_go_on s some (picture y)).0 low_y.cursor in
-      let cut : take (length t.before) line ≡ take (length t.before) t.before = take_at t.before t.rest (length t.before) refl ∙ sym (take_all (length t.before) t.before (omega arith)) in
-      let at_is : cell ≡ cursor_of s.columns (widths s) (with_text w.shown t.before (length t.before)) =
-      cell_is ∙ ap (λ xs. place_after s.columns (text_of x.prompt ++ text_of xs) origin) cut in
-      let gone = length t.killed in
-      let end = column_back gone l.end in
-      let there : View = record { shown = picture y; top = top; place = cell } in
-      let rest_is = taken_out_rest x prompt count text at t in
-      let may : may_take_out (ruler_of s) l cell gone t.rest ≡ true =
-      subst (λ n. may_take_out (ruler_of s) l cell n t.rest ≡ true) t.count_is (subst (λ r. may_take_out (ruler_of s) l cell count r ≡ true) rest_is e) in
-      let leads = taking_out_leads s low high l w t.before t.killed t.rest cell (tells bytes over top l x h) h.good.inside (no_styles_in x k.unstyled) t.plain t.whole t.printable at_is may (inside_finish y low_y).row in
-      let shown : ℕ → List ℕ → Type 0 = λ n r. Shows bytes over top (sight_as m prompt text at None) (taken_out_short l cell n r) in
-      subst (shown count) (sym rest_is) (subst (λ n. shown n t.rest) (sym t.count_is)
-      (short_holds bytes over top m l x prompt text at line (length t.before) (MoveAndDelete l.cursor cell gone t.rest end) cell end h given free k t.prompt_is t.text_is t.at
-      (subst (λ p. LeadsView s.columns (widths s) w (MoveAndDelete p cell gone t.rest end) there) (sym h.cursor) leads.0) (λ e. cc) leads.1 leads.2))
+      -- ---- a character at the line's end
 
-  -- ---- characters replaced by as many
+      typed_holds : (c : ℕ) → x.ended ≡ false → TypedFits x prompt c text at → may_type (ruler_of s) l ≡ true → Shows (char_call l c)
+      typed_holds c unended t e =
+          let letter = and_parts (is_printable c) (at_simple_end true x.line x.place) t.typed in
+          let last : x.place ≡ length x.line = eqb-true x.place (length x.line) (and_parts (x.place == length x.line) _ letter.1).0 in
+          let line = x.line ++ c ∷ [] in
+          let y = bare_sight x.spans x.prompt line (x.place + 1) in
+          let to = column_on l.cursor in
+          let leads = typing_leads s low high l old c (tells bytes over top l x h) (place_if x unended) no_styles t.typed e in
+          let cursor_is : to ≡ cursor_of s.columns (widths s) (picture y) = typed_place old (record { shown = picture y; top = top; place = to }) c leads in
+          let end : y.place ≡ length line = let count = length-append x.line (c ∷ []) in omega arith in
+          subst (λ xs. DisplayHolds s (bytes ++ flat_map (bytes_of s) (Write xs ∷ [])) over top (char_call l c).layout now) (sym (encode_ascii c (small c letter.0)))
+          (short_holds line (x.place + 1) (Write (c ∷ [])) to to (and_parts (not l.has_info) (fits_in_row s.columns l.cursor) e).0 t.prompt_is t.text_is t.behind leads (λ e. cc) cursor_is (cursor_is ∙ sym (end_is_cursor (picture y) refl end)))
 
-  pub rewritten_letters : (x : Sight) (prompt : List ℕ) (from upto : ℕ) (text : List ℕ) (at : ℕ) → (t : RewrittenFits x prompt from upto text at) → slice_range text from upto ≡ t.letters
-  rewritten_letters x prompt from upto text at t =
-      let first = t.from_is in
-      let last = t.upto_is in
-      let count : upto - from ≡ length t.letters = omega arith in
-      ap₂ take count (ap₂ drop t.from_is t.text_is ∙ drop_at t.before (t.letters ++ t.rest) (length t.before) refl) ∙ take_at t.letters t.rest (length t.letters) refl
+      -- apart from the line's end
+      appended_holds : (c : ℕ) → x.ended ≡ false → AppendedFits x prompt c text at → Low s now → not l.has_info ≡ true → Shows (append_call (ruler_of s) l c)
+      appended_holds c unended t rows free =
+          let tail = encode_utf8 c in
+          let line = x.line ++ tail in
+          let low_y : Low s (bare_sight x.spans x.prompt line (length line)) = subst (Low s) (bare_is line (length line) free t.prompt_is t.text_is t.behind) rows in
+          let to = measure_of s.mode s.tab s.columns tail l.cursor in
+          let leads = appending_leads s low high l old c (tells bytes over top l x h) (place_if x unended) no_styles t.at t.apart (not-true l.has_info free) low_y.cursor in
+          short_holds line (length line) (Append tail l.cursor) to to free t.prompt_is t.text_is t.behind leads.0 (λ e. cc) leads.1 leads.2
 
-  rewritten_holds : (bytes : List ℕ) (over : List Placed) (top : ℕ) (m : Option Marks) (l : Layout) (x : Sight) (prompt : List ℕ) (from upto : ℕ) (text : List ℕ) (at : ℕ) → DisplayHolds s bytes over top l x
-      → x.given ≡ true → RewrittenFits x prompt from upto text at → SameStyles x m prompt text at
-      → (let y = sight_as m prompt text at None in
-      let cell = measure_of s.mode s.tab s.columns (take from text) l.prompt_size in
-      let letters = slice_range text from upto in
-      Low s y → may_write_over (ruler_of s) l cell (length letters) ≡ true → Shows bytes over top y (write_over_call l letters cell (measure_of s.mode s.tab s.columns (take at text) l.prompt_size)))
-  rewritten_holds bytes over top m l x prompt from upto text at h given t k rows e =
-      let w = view_in s top x in
-      let measure = measure_of s.mode s.tab s.columns in
-      let cell = measure (take from text) l.prompt_size in
-      let cursor = measure (take at text) l.prompt_size in
-      let free = (and_parts (not l.has_info) _ e).0 in
-      let tail = t.letters ++ t.rest in
-      let line = t.before ++ tail in
-      let y = bare_sight x.spans x.prompt line at in
-      let low_y : Low s y = subst (Low s) (bare_is m x prompt text at line at k (nothing_after bytes over top l x h free) t.prompt_is t.text_is refl) rows in
-      -- the cells of the letters and of the cursor
-      let cursor_is : cursor ≡ cursor_of s.columns (widths s) (picture y) = ap₂ measure (ap (take at) t.text_is) h.prompt_size ∙ (measures_go_on s some (picture y)).0 low_y.cursor in
-      let parts = plain_parts s.columns (widths s) (picture x) t.before (t.gone ++ t.rest) t.whole t.plain in
-      let rest_plain = (and_parts (is_plain t.gone) (is_plain t.rest) (sym (list_all-append is_plain_byte t.gone t.rest) ∙ parts.1)).1 in
-      let tail_plain : is_plain tail ≡ true = list_all-append is_plain_byte t.letters t.rest ∙ and_from (is_plain t.letters) (is_plain t.rest) (all_plain t.letters t.printable) rest_plain in
-      let start = with_text w.shown t.before (length t.before) in
-      let begins : cursor_of s.columns (widths s) start ≡ line_end s.columns (widths s) w.shown t.before = line_cursor s.columns (widths s) start refl in
-      let above_end = part_above s.columns (widths s) w.shown t.before tail at parts.0 tail_plain in
-      let row = ap (λ p. p.row) begins in
-      let fewer = low_y.finish in
-      let first : take from text ≡ take (length t.before) t.before =
-      ap₂ take t.from_is t.text_is ∙ take_at t.before tail (length t.before) refl ∙ sym (take_all (length t.before) t.before (omega arith)) in
-      let cell_is : cell ≡ cursor_of s.columns (widths s) start = ap₂ measure first h.prompt_size ∙ (measures_go_on s some start).0 (omega arith) in
-      let letters_are = rewritten_letters x prompt from upto text at t in
-      let inside : Inside s.columns cursor = subst (Inside s.columns) (sym cursor_is) (inside_cursor y low_y) in
-      let there : View = record { shown = picture y; top = top; place = cursor } in
-      let leads = writing_over_leads s low high l w t.before t.gone t.letters t.rest at cell cursor (tells bytes over top l x h) (no_styles_in x k.unstyled) t.plain t.whole t.as_many t.gone_printable t.printable cell_is
-      (subst (λ xs. may_write_over (ruler_of s) l cell (length xs) ≡ true) letters_are e) inside (inside_finish y low_y).row in
-      subst (λ xs. Shows bytes over top (sight_as m prompt text at None) (write_over_call l xs cell cursor)) (sym letters_are)
-      (short_holds bytes over top m l x prompt text at line at (WriteOver t.letters l.cursor cell cursor) cursor l.end h given free k t.prompt_is t.text_is refl
-      (subst (λ p. LeadsView s.columns (widths s) w (WriteOver t.letters p cell cursor) there) (sym h.cursor) leads.0) (λ e. cc) cursor_is (h.finish ∙ sym leads.1))
+      -- ---- a kill at the line's end
+
+      taken_holds : (count : ℕ) → TakenFits x prompt count text at → may_take l count ≡ true → Shows (erase_call l count)
+      taken_holds count t e =
+          let y = bare_sight x.spans x.prompt text (length text) in
+          let ends = and_parts (at == length text) (is_plain text) t.end in
+          let to = column_back (length t.killed) l.end in
+          let there : View = record { shown = picture y; top = top; place = to } in
+          let leads = killing_leads s low high l old text t.killed (tells bytes over top l x h) h.good.inside no_styles t.whole ends.1 t.printable (subst (λ n. may_take l n ≡ true) t.count_is e) in
+          let cursor_is : to ≡ cursor_of s.columns (widths s) (picture y) = killed_place old there old.place to leads in
+          subst (λ n. Shows (erase_call l n)) (sym t.count_is)
+          (short_holds text (length text) (MoveAndClearToEol l.cursor to) to to (and_parts (not l.has_info) _ e).0 t.prompt_is refl (eqb-true at (length text) ends.0)
+          (subst (λ p. LeadsView s.columns (widths s) old (MoveAndClearToEol p to) there) (sym h.cursor) leads) (λ e. cc) cursor_is (cursor_is ∙ sym (end_is_cursor (picture y) refl refl)))
+
+      -- a character apart, deleted there
+      erased_holds : (c : ℕ) → ErasedFits x prompt c text at → Low s now → may_erase (ruler_of s) l c ≡ true → Shows (erase_call l (measure_of s.mode s.tab s.columns (encode_utf8 c) origin).col)
+      erased_holds c t rows e =
+          let free = (and_parts (not l.has_info) _ e).0 in
+          let to = column_back (measure_of s.mode s.tab s.columns (encode_utf8 c) origin).col l.end in
+          let y = bare_sight x.spans x.prompt text (length text) in
+          let there : View = record { shown = picture y; top = top; place = to } in
+          let leads = erasing_leads s low high l old text c (tells bytes over top l x h) no_styles t.whole t.apart e (inside_cursor y (subst (Low s) (bare_is text (length text) free t.prompt_is refl t.end) rows)).row in
+          let cursor_is : to ≡ cursor_of s.columns (widths s) (picture y) = killed_place old there old.place to leads in
+          short_holds text (length text) (MoveAndClearToEol l.cursor to) to to free t.prompt_is refl t.end
+          (subst (λ p. LeadsView s.columns (widths s) old (MoveAndClearToEol p to) there) (sym h.cursor) leads) (λ e. cc) cursor_is (cursor_is ∙ sym (end_is_cursor (picture y) refl refl))
+
+      -- ---- a character put in
+
+      put_in_holds : (c : ℕ) → x.ended ≡ false → PutInFits x prompt c text at → may_put_in (ruler_of s) l (drop at text) ≡ true → Shows (put_in_short (ruler_of s) l c (drop at text))
+      put_in_holds c unended t e =
+          let rest_is = put_in_rest x prompt c text at t in
+          let cursor = cell_on s.columns l.cursor in
+          let end = cell_on s.columns l.end in
+          let leads = putting_in_leads s low high l old t.before t.rest c (tells bytes over top l x h) (place_if x unended) no_styles t.plain t.printable t.whole t.at
+          (subst (λ r. may_put_in (ruler_of s) l r ≡ true) rest_is e) in
+          subst (λ r. Shows (put_in_short (ruler_of s) l c r)) (sym rest_is)
+          (short_holds (t.before ++ c ∷ t.rest) (length t.before + 1) (InsertChar c t.rest l.cursor cursor end) cursor end (and_parts (not l.has_info) _ e).0 t.prompt_is t.text_is t.behind leads.0 (λ e. cc) leads.1 leads.2)
+
+      -- ---- characters taken out
+
+      taken_out_holds : (count : ℕ) → TakenOutFits x prompt count text at → Low s now
+          → (let cell = measure_of s.mode s.tab s.columns (take at text) l.prompt_size in may_take_out (ruler_of s) l cell count (drop at text) ≡ true → Shows (taken_out_short l cell count (drop at text)))
+      taken_out_holds count t rows e =
+          let cell = measure_of s.mode s.tab s.columns (take at text) l.prompt_size in
+          let free = (and_parts (not l.has_info) _ e).0 in
+          let line = t.before ++ t.rest in
+          let y = bare_sight x.spans x.prompt line (length t.before) in
+          let low_y : Low s y = subst (Low s) (bare_is line (length t.before) free t.prompt_is t.text_is t.at) rows in
+          let cell_is : cell ≡ cursor_of s.columns (widths s) (picture y) =
+          ap₂ (measure_of s.mode s.tab s.columns) (ap₂ take t.at t.text_is) h.prompt_size ∙ (measures_go_on s some (picture y)).0 low_y.cursor in
+          let cut : take (length t.before) line ≡ take (length t.before) t.before = take_at t.before t.rest (length t.before) refl ∙ sym (take_all (length t.before) t.before (omega arith)) in
+          let at_is : cell ≡ cursor_of s.columns (widths s) (with_text old.shown t.before (length t.before)) =
+          cell_is ∙ ap (λ xs. place_after s.columns (text_of x.prompt ++ text_of xs) origin) cut in
+          let gone = length t.killed in
+          let end = column_back gone l.end in
+          let there : View = record { shown = picture y; top = top; place = cell } in
+          let rest_is = taken_out_rest x prompt count text at t in
+          let may : may_take_out (ruler_of s) l cell gone t.rest ≡ true =
+          subst (λ n. may_take_out (ruler_of s) l cell n t.rest ≡ true) t.count_is (subst (λ r. may_take_out (ruler_of s) l cell count r ≡ true) rest_is e) in
+          let leads = taking_out_leads s low high l old t.before t.killed t.rest cell (tells bytes over top l x h) h.good.inside no_styles t.plain t.whole t.printable at_is may (inside_finish y low_y).row in
+          subst (λ r. Shows (taken_out_short l cell count r)) (sym rest_is) (subst (λ n. Shows (taken_out_short l cell n t.rest)) (sym t.count_is)
+          (short_holds line (length t.before) (MoveAndDelete l.cursor cell gone t.rest end) cell end free t.prompt_is t.text_is t.at
+          (subst (λ p. LeadsView s.columns (widths s) old (MoveAndDelete p cell gone t.rest end) there) (sym h.cursor) leads.0) (λ e. cc) leads.1 leads.2))
+
+      -- ---- characters replaced by as many
+
+      rewritten_holds : (from upto : ℕ) → RewrittenFits x prompt from upto text at → Low s now
+          → (let cell = measure_of s.mode s.tab s.columns (take from text) l.prompt_size in let letters = slice_range text from upto in
+          may_write_over (ruler_of s) l cell (length letters) ≡ true → Shows (write_over_call l letters cell (measure_of s.mode s.tab s.columns (take at text) l.prompt_size)))
+      rewritten_holds from upto t rows e =
+          let measure = measure_of s.mode s.tab s.columns in
+          let cell = measure (take from text) l.prompt_size in
+          let cursor = measure (take at text) l.prompt_size in
+          let free = (and_parts (not l.has_info) _ e).0 in
+          let tail = t.letters ++ t.rest in
+          let line = t.before ++ tail in
+          let y = bare_sight x.spans x.prompt line at in
+          let low_y : Low s y = subst (Low s) (bare_is line at free t.prompt_is t.text_is refl) rows in
+          -- the cells of the letters and of the cursor
+          let cursor_is : cursor ≡ cursor_of s.columns (widths s) (picture y) = ap₂ measure (ap (take at) t.text_is) h.prompt_size ∙ (measures_go_on s some (picture y)).0 low_y.cursor in
+          let parts = plain_parts s.columns (widths s) (picture x) t.before (t.gone ++ t.rest) t.whole t.plain in
+          let rest_plain = (and_parts (is_plain t.gone) (is_plain t.rest) (sym (list_all-append is_plain_byte t.gone t.rest) ∙ parts.1)).1 in
+          let tail_plain : is_plain tail ≡ true = list_all-append is_plain_byte t.letters t.rest ∙ and_from (is_plain t.letters) (is_plain t.rest) (all_plain t.letters t.printable) rest_plain in
+          let start = with_text old.shown t.before (length t.before) in
+          let begins : cursor_of s.columns (widths s) start ≡ line_end s.columns (widths s) old.shown t.before = line_cursor s.columns (widths s) start refl in
+          let above_end = part_above s.columns (widths s) old.shown t.before tail at parts.0 tail_plain in
+          let row = ap (λ p. p.row) begins in
+          let fewer = low_y.finish in
+          let first : take from text ≡ take (length t.before) t.before =
+          ap₂ take t.from_is t.text_is ∙ take_at t.before tail (length t.before) refl ∙ sym (take_all (length t.before) t.before (omega arith)) in
+          let cell_is : cell ≡ cursor_of s.columns (widths s) start = ap₂ measure first h.prompt_size ∙ (measures_go_on s some start).0 (omega arith) in
+          let letters_are = rewritten_letters x prompt from upto text at t in
+          let inside : Inside s.columns cursor = subst (Inside s.columns) (sym cursor_is) (inside_cursor y low_y) in
+          let there : View = record { shown = picture y; top = top; place = cursor } in
+          let leads = writing_over_leads s low high l old t.before t.gone t.letters t.rest at cell cursor (tells bytes over top l x h) no_styles t.plain t.whole t.as_many t.gone_printable t.printable cell_is
+          (subst (λ xs. may_write_over (ruler_of s) l cell (length xs) ≡ true) letters_are e) inside (inside_finish y low_y).row in
+          subst (λ xs. Shows (write_over_call l xs cell cursor)) (sym letters_are)
+          (short_holds line at (WriteOver t.letters l.cursor cell cursor) cursor l.end free t.prompt_is t.text_is refl
+          (subst (λ p. LeadsView s.columns (widths s) old (WriteOver t.letters p cell cursor) there) (sym h.cursor) leads.0) (λ e. cc) cursor_is (h.finish ∙ sym leads.1))
 
   -- ---- no call, also if the session's own prompt stands
 
@@ -545,39 +581,40 @@ module _ (s : Screen) (low : 2 ≤ s.columns) (high : s.columns ≤ 1000) where
       ap (measure_of s.mode s.tab s.columns (take at text)) h.prompt_size ∙ ap (λ t. measure_of s.mode s.tab s.columns (take at t) (measure_of s.mode s.tab s.columns x.prompt origin)) fits ∙ measured.0 rows.cursor in
       goes_if bytes over top l x at false cursor (same_cell l.cursor cursor) h is (inside_cursor y rows) refl
   step own bytes over top l x (Draws v m (Typed prompt c text at)) h fits rows =
-      short_or bytes over top (shown_marks v m) l x prompt text at (char_call l c) (may_type (ruler_of s) l) h rows (typed_holds bytes over top (shown_marks v m) l x prompt c text at h fits.0 fits.2 fits.3 fits.4)
+      let marks = shown_marks v m in
+      short_or bytes over top marks l x h prompt text at (char_call l c) (may_type (ruler_of s) l) rows (typed_holds bytes over top marks l x h prompt text at fits.0 fits.4 c fits.2 fits.3)
   step own bytes over top l x (Draws v m (Appended prompt c text at)) h fits rows =
       let marks = shown_marks v m in
       let short = append_call (ruler_of s) l c in
-      subst (Shows bytes over top (sight_as marks prompt text at None)) (sym (if_none l.has_info (full (ruler_of s) marks l prompt true text at None) short))
-      (short_or bytes over top marks l x prompt text at short (not l.has_info) h rows (appended_holds bytes over top marks l x prompt c text at h fits.0 fits.2 fits.3 fits.4 rows))
+      subst (Shows bytes over top marks l x h prompt text at) (sym (if_none l.has_info (full (ruler_of s) marks l prompt true text at None) short))
+      (short_or bytes over top marks l x h prompt text at short (not l.has_info) rows (appended_holds bytes over top marks l x h prompt text at fits.0 fits.4 c fits.2 fits.3 rows))
   step own bytes over top l x (Draws v m (Taken prompt count true text at)) h fits rows =
       let marks = shown_marks v m in
-      short_or_rest bytes over top marks l x prompt at text at (erase_call l count) (may_take l count) h (taken_fits x marks prompt text at fits.3 count fits.2) rows
-      (taken_holds bytes over top marks l x prompt count text at h fits.0 fits.2 fits.3)
+      short_or_rest bytes over top marks l x h prompt text at at (erase_call l count) (may_take l count) (taken_fits x marks prompt text at fits.3 count fits.2) rows (taken_holds bytes over top marks l x h prompt text at fits.0 fits.3 count fits.2)
   step own bytes over top l x (Draws v m (Taken prompt count false text at)) h fits rows =
-      short_or bytes over top (shown_marks v m) l x prompt text at (erase_call l count) (may_take l count) h rows (taken_holds bytes over top (shown_marks v m) l x prompt count text at h fits.0 fits.2 fits.3)
+      let marks = shown_marks v m in
+      short_or bytes over top marks l x h prompt text at (erase_call l count) (may_take l count) rows (taken_holds bytes over top marks l x h prompt text at fits.0 fits.3 count fits.2)
   step own bytes over top l x (Draws v m (Erased prompt c text at)) h fits rows =
       let marks = shown_marks v m in
-      short_or_rest bytes over top marks l x prompt at text at (erase_call l (measure_of s.mode s.tab s.columns (encode_utf8 c) origin).col) (may_erase (ruler_of s) l c) h
-      (erased_fits x marks prompt text at fits.3 c fits.2) rows (erased_holds bytes over top marks l x prompt c text at h fits.0 fits.2 fits.3 rows)
+      short_or_rest bytes over top marks l x h prompt text at at (erase_call l (measure_of s.mode s.tab s.columns (encode_utf8 c) origin).col) (may_erase (ruler_of s) l c)
+      (erased_fits x marks prompt text at fits.3 c fits.2) rows (erased_holds bytes over top marks l x h prompt text at fits.0 fits.3 c fits.2 rows)
   step own bytes over top l x (Draws v m (PutIn prompt c text at)) h fits rows =
+      let marks = shown_marks v m in
       let rest = drop at text in
-      short_or bytes over top (shown_marks v m) l x prompt text at (put_in_short (ruler_of s) l c rest) (may_put_in (ruler_of s) l rest) h rows
-      (put_in_holds bytes over top (shown_marks v m) l x prompt c text at h fits.0 fits.2 fits.3 fits.4)
+      short_or bytes over top marks l x h prompt text at (put_in_short (ruler_of s) l c rest) (may_put_in (ruler_of s) l rest) rows (put_in_holds bytes over top marks l x h prompt text at fits.0 fits.4 c fits.2 fits.3)
   step own bytes over top l x (Draws v m (TakenOut prompt count text at)) h fits rows =
       let marks = shown_marks v m in
       let rest = drop at text in
       let cell = measure_of s.mode s.tab s.columns (take at text) l.prompt_size in
-      short_or_rest bytes over top marks l x prompt at text at (taken_out_short l cell count rest) (may_take_out (ruler_of s) l cell count rest) h
-      (taken_out_fits x marks prompt text at fits.3 count fits.2) rows (taken_out_holds bytes over top marks l x prompt count text at h fits.0 fits.2 fits.3 rows)
+      short_or_rest bytes over top marks l x h prompt text at at (taken_out_short l cell count rest) (may_take_out (ruler_of s) l cell count rest)
+      (taken_out_fits x marks prompt text at fits.3 count fits.2) rows (taken_out_holds bytes over top marks l x h prompt text at fits.0 fits.3 count fits.2 rows)
   step own bytes over top l x (Draws v m (DrawnFrom prompt from text at info)) h fits rows = drawn_from_holds bytes over top (shown_marks v m) l x prompt from text at info h fits.2 rows
   step own bytes over top l x (Draws v m (Rewritten prompt from upto text at)) h fits rows =
       let marks = shown_marks v m in
       let cell = measure_of s.mode s.tab s.columns (take from text) l.prompt_size in
       let letters = slice_range text from upto in
-      short_or_rest bytes over top marks l x prompt from text at (write_over_call l letters cell (measure_of s.mode s.tab s.columns (take at text) l.prompt_size)) (may_write_over (ruler_of s) l cell (length letters)) h
-      (rewritten_fits x marks prompt text at fits.3 from upto fits.2) rows (rewritten_holds bytes over top marks l x prompt from upto text at h fits.0 fits.2 fits.3 rows)
+      short_or_rest bytes over top marks l x h prompt text at from (write_over_call l letters cell (measure_of s.mode s.tab s.columns (take at text) l.prompt_size)) (may_write_over (ruler_of s) l cell (length letters))
+      (rewritten_fits x marks prompt text at fits.3 from upto fits.2) rows (rewritten_holds bytes over top marks l x h prompt text at fits.0 fits.3 from upto fits.2 rows)
   step own bytes over top l x (Draws v m (Bared prompt text at)) h fits rows = bared_if bytes over top (shown_marks v m) l x prompt text at l.default_prompt h (h.given_is ∙ fits)
   step own bytes over top l x (Draws v m ToEnd) h fits rows = goes_if bytes over top l x x.place true l.end (same_cell l.cursor l.end) h h.finish (inside_finish x (record { finish = rows.finish; cursor = rows.cursor })) refl
   step own bytes over top l x (Draws v m Beeped) h fits rows = same_holds bytes over top l x Beep h refl (λ e. cc)

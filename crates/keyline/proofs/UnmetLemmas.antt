@@ -1,5 +1,5 @@
 -- Where the setting is off, a script goes as it does without the requests that meet a command.
-use Rattle.std.proofs.Common.{◌≡◌, List, ◌∷◌, ◌++◌, Result, Ok, Err, refl, sym, ap, ◌∙◌, subst}
+use Rattle.std.proofs.Common.{◌≡◌, List, ◌++◌, Result, Ok, Err, refl, sym, ap, ◌∙◌, subst}
 use Rattle.line_buffer.specs.declared.layout.Layout.{Layout}
 use Rattle.script.specs.Played.{Played, play_after_answer}
 use Rattle.script.specs.Scripts.{Ends, Asks}

@@ -21,7 +21,7 @@ use Rattle.line_screen.proofs.LawLemmas.{cells_are_shown}
 use Rattle.line_screen.proofs.Leading.{shown_styled}
 use Rattle.keyline.specs.Shows.{picture}
 use Rattle.keyline_c.specs.Laws.{LookAlike, SameLinesLookAlike, StyledAlike, last_drawing, sight_in}
-use Rattle.keyline_c.proofs.LastLemmas.{ShownBy, last_shows, line_shown, place_shown}
+use Rattle.keyline_c.proofs.LastLemmas.{last_shows, line_shown, place_shown}
 
 -- ---- cells without styles
 
@@ -68,27 +68,20 @@ cells_bare columns wide v row col =
 other_row : (top row : ℕ) (p : Placed) → row < top → above top p ≡ false → (p.row == row) ≡ false
 other_row top row p low h = grind (arith, nat_tests)
 
-kept_if : (top row col : ℕ) (p : Placed) (ps : List Placed) → row < top → cell_at ps row col ≡ cell_at (filter (above top) ps) row col → (b : Bool) → above top p ≡ b
-    → tested p col (p.row == row) (cell_at ps row col) ≡ cell_at (cond b (p ∷ filter (above top) ps) (filter (above top) ps)) row col
-kept_if top row col p ps low ih true e = ap (tested p col (p.row == row)) ih
-kept_if top row col p ps low ih false e = ap (λ b. tested p col b (cell_at ps row col)) (other_row top row p low e) ∙ ih
+-- what is found in a row by a test of each cluster
+module _ {X : Type 0} (f : List Placed → ℕ → ℕ → X) (test : Placed → ℕ → Bool → X → X) (first : (row col : ℕ) (p : Placed) (ps : List Placed) → f (p ∷ ps) row col ≡ test p col (p.row == row) (f ps row col))
+    (other : (p : Placed) (col : ℕ) (x : X) → test p col false x ≡ x) (top row col : ℕ) (low : row < top) where
+  kept_if : (p : Placed) (ps : List Placed) → f ps row col ≡ f (filter (above top) ps) row col → (b : Bool) → above top p ≡ b
+      → test p col (p.row == row) (f ps row col) ≡ f (cond b (p ∷ filter (above top) ps) (filter (above top) ps)) row col
+  kept_if p ps ih true e = ap (test p col (p.row == row)) ih ∙ sym (first row col p (filter (above top) ps))
+  kept_if p ps ih false e = ap (λ b. test p col b (f ps row col)) (other_row top row p low e) ∙ other p col (f ps row col) ∙ ih
 
-cells_above : (top row col : ℕ) → row < top → (ps : List Placed) → cell_at ps row col ≡ cell_at (filter (above top) ps) row col
-cells_above top row col low [] = refl
-cells_above top row col low (p ∷ ps) = kept_if top row col p ps low (cells_above top row col low ps) (above top p) refl
+  found_above : (ps : List Placed) → f ps row col ≡ f (filter (above top) ps) row col
+  found_above [] = refl
+  found_above (p ∷ ps) = first row col p ps ∙ kept_if p ps (found_above ps) (above top p) refl
 
--- the same of styles
 abbrev styled : Placed → ℕ → Bool → List ℕ → List ℕ
 styled p col b rest = if b && (nat_le p.col col && nat_lt col (p.col + p.width)) then p.style else rest
-
-style_if : (top row col : ℕ) (p : Placed) (ps : List Placed) → row < top → style_at ps row col ≡ style_at (filter (above top) ps) row col → (b : Bool) → above top p ≡ b
-    → styled p col (p.row == row) (style_at ps row col) ≡ style_at (cond b (p ∷ filter (above top) ps) (filter (above top) ps)) row col
-style_if top row col p ps low ih true e = ap (styled p col (p.row == row)) ih
-style_if top row col p ps low ih false e = ap (λ b. styled p col b (style_at ps row col)) (other_row top row p low e) ∙ ih
-
-styles_above : (top row col : ℕ) → row < top → (ps : List Placed) → style_at ps row col ≡ style_at (filter (above top) ps) row col
-styles_above top row col low [] = refl
-styles_above top row col low (p ∷ ps) = style_if top row col p ps low (styles_above top row col low ps) (above top p) refl
 
 -- ---- all cells
 
@@ -107,11 +100,8 @@ same_cursor columns wide v w same = rw (same.prompt, same.line, same.place) refl
 
 same_picture : (v w : Picture) → SameTexts v w → v.styles ≡ w.styles → v ≡ w
 same_picture v w same styles =
-    ap (λ p. let q : Picture = record v { prompt = p } in q) same.prompt
-    ∙ ap (λ p. let q : Picture = record v { prompt = w.prompt; line = p } in q) same.line
-    ∙ ap (λ p. let q : Picture = record v { prompt = w.prompt; line = w.line; place = p } in q) same.place
-    ∙ ap (λ p. let q : Picture = record v { prompt = w.prompt; line = w.line; place = w.place; info = p } in q) same.info
-    ∙ ap (λ p. let q : Picture = record w { styles = p } in q) styles
+    let is : (let q : Picture = record { prompt = v.prompt; line = v.line; place = v.place; info = v.info; styles = v.styles } in q)
+    ≡ (let q : Picture = record { prompt = w.prompt; line = w.line; place = w.place; info = w.info; styles = w.styles } in q) = cc in is
 
 module _ (s : Screen) (top : ℕ) (over : List Placed) (v w : Picture) (d e : Display) where
   abbrev wide : Widths
@@ -133,7 +123,7 @@ module _ (s : Screen) (top : ℕ) (over : List Placed) (v w : Picture) (d e : Di
 
   alike : SameTexts v w → Shows s.columns wide v top d → Shows s.columns wide w top e → filter (above top) d.placed ≡ over → filter (above top) e.placed ≡ over → LookAlike d e
   alike texts h k same too = record {
-    cells = by_rows cell_at (λ row col low ps. cells_above top row col low ps) same too
+    cells = by_rows cell_at (found_above cell_at tested (λ row col p ps. refl) (λ p col x. refl) top) same too
         (λ row col. (cells_are_shown s v top d h row col).0 ∙ sym (cells_bare s.columns wide v row col)
         ∙ ap (λ items. cell_at (bare_lay s.columns items origin) row col) (same_items wide v w texts)
         ∙ cells_bare s.columns wide w row col ∙ sym (cells_are_shown s w top e k row col).0);
@@ -142,7 +132,7 @@ module _ (s : Screen) (top : ℕ) (over : List Placed) (v w : Picture) (d e : Di
 
   styled_alike : v ≡ w → Shows s.columns wide v top d → Shows s.columns wide w top e → filter (above top) d.placed ≡ over → filter (above top) e.placed ≡ over → StyledAlike d e
   styled_alike texts h k same too =
-      by_rows style_at (λ row col low ps. styles_above top row col low ps) same too
+      by_rows style_at (found_above style_at styled (λ row col p ps. refl) (λ p col x. refl) top) same too
       (λ row col. (cells_are_shown s v top d h row col).1 ∙ ap (λ u. style_at (cells_of s.columns wide u) row col) texts ∙ sym (cells_are_shown s w top e k row col).1)
 
 -- ---- two lines
@@ -153,13 +143,6 @@ one_display : (s : Screen) (before bytes again : List ℕ) (c : Option (List ℕ
 one_display s before bytes again c d e is too means mean =
     let same : bytes ≡ again = (let both : Some bytes ≡ Some again = sym is ∙ too in cc) in
     let one : Some d ≡ Some e = sym means ∙ ap (λ xs. meaning s.columns (widths s).cluster (before ++ xs)) same ∙ mean in cc
-
-shown_alike : (s : Screen) (before one two : List ℕ) (over : List Placed) (top : ℕ) (x y : Sight) → (a : ShownBy s before one over top x) → (b : ShownBy s before two over top y)
-    → SameTexts (picture x) (picture y) → LookAlike a.display b.display × (x.spans ≡ y.spans → StyledAlike a.display b.display)
-shown_alike s before one two over top x y a b same = (
-  alike s top over (picture x) (picture y) a.display b.display same a.shows b.shows a.over_is b.over_is,
-  λ spans. styled_alike s top over (picture x) (picture y) a.display b.display (same_picture (picture x) (picture y) same (ap styles_of spans)) a.shows b.shows a.over_is b.over_is,
-)
 
 module _ (held : VecSink → List ℕ) where
   pub same_lines_look_alike : SameLinesLookAlike held
@@ -178,4 +161,7 @@ module _ (held : VecSink → List ℕ) where
         place = place_shown held n g x left w one.seen ∙ same.place ∙ sym (place_shown held n g y other v two.seen);
         info = ap info_text same.info;
       } in
-      subst (λ z. Alike z e) first (subst (λ z. Alike one.shown.display z) second (shown_alike s before one.bytes two.bytes over top seen too one.shown two.shown texts))
+      subst (λ z. Alike z e) first (subst (λ z. Alike one.shown.display z) second ((
+        alike s top over (picture seen) (picture too) one.shown.display two.shown.display texts one.shown.shows two.shown.shows one.shown.over_is two.shown.over_is,
+        λ spans. styled_alike s top over (picture seen) (picture too) one.shown.display two.shown.display (same_picture (picture seen) (picture too) texts (ap styles_of spans)) one.shown.shows two.shown.shows one.shown.over_is two.shown.over_is,
+      )))

@@ -1,22 +1,17 @@
 -- Keys of the caller's own: rows, their keys, and what is bound.
-use Rattle.std.proofs.Common.{◌≡◌, ◌≢◌, ◌∙◌, ◌||◌, inl, inr, Bool, true, false, ℕ, suc, ◌+◌, ◌-◌, ◌≤◌, List, [], ◌∷◌, ◌++◌, length, take, drop, refl, sym, ap, subst, arith, append_assoc}
-use Rattle.std.specs.Prelude.{Option, Some, None, Result, Ok, Err, cond, if◌then◌else◌, is_some, nat_lt, option_map}
-use Rattle.std.specs.List.{list_any, position, position_or_len}
+use Rattle.std.proofs.Common.{◌≡◌, ◌≢◌, ◌∙◌, inl, inr, Bool, true, false, ℕ, suc, ◌+◌, ◌-◌, ◌≤◌, List, [], ◌∷◌, ◌++◌, length, take, drop, refl, sym, ap, subst, arith, append_assoc}
+use Rattle.std.specs.Prelude.{Option, Some, None, Result, Ok, Err, cond, nat_lt, option_map}
+use Rattle.std.specs.List.{position, position_or_len}
 use Rattle.std.proofs.lemmas.Bool.{ltb-false}
 use Rattle.std.proofs.lemmas.List.{drop_all, take_all, take_rest}
 use Rattle.line_config.specs.declared.errors.ReadlineError.{ReadlineError}
 use Rattle.line_config.specs.declared.errors.ReadlineError.TheVariants.{PasteOutOfPlace}
 use Rattle.script.proofs.ScriptLaws.{ok_not_err}
-use Rattle.line_keys.specs.Bound.{find, map_with, same_event}
 use Rattle.line_keys.specs.Coming.{Coming, Pressed, Pasted, CutOff, Ends, Refused, key_at, behind_key, refusal_of}
 use Rattle.line_keys.specs.KeyFeeds.{ReadAs}
 use Rattle.line_keys.specs.KeyFeeds.InputItem.{Key}
-use Rattle.line_keys.specs.Events.{normal_event}
-use Rattle.line_keys.specs.declared.events.Event.{Event}
-use Rattle.line_keys.specs.declared.events.Event.TheVariants.{KeySeq}
 use Rattle.line_keys.specs.declared.key.KeyEvent.{KeyEvent}
-use Rattle.keyline_c.specs.Asks.{in_front, is_event, is_zero, keys_alone, none_more, rows_of}
-use Rattle.keyline_c.specs.declared.asking.Asking.{Asking}
+use Rattle.keyline_c.specs.Asks.{in_front, is_zero, keys_alone, none_more, rows_of}
 
 -- ---- the keys of a row
 
@@ -109,37 +104,3 @@ cut_none (byte ∷ bytes) some is =
     let long : length text ≤ place text = ltb-false (place text) (length text) (lost (place text) (nat_lt (place text) (length text)) is) in
     cut byte bytes ∙ (ap (λ (x : List ℕ). x ∷ rows_of (drop (place text + 1) text)) (take_all (place text) text long)
     ∙ ap (λ (x : List ℕ). text ∷ rows_of x) (drop_all (place text + 1) text (omega (arith, long))))
-
--- ---- what is bound
-
-pub put_one : (e named : Event) (asking : Asking) (o : Option Asking) → is_some (if same_event named e then Some asking else o) ≡ (same_event named e || is_some o)
-put_one e named asking o = by (same_event named e)
-  where
-    by : (b : Bool) → is_some (if b then Some asking else o) ≡ (b || is_some o)
-    by true = refl
-    by false = refl
-
--- the keys of a row are bound
-pub row_bound : (e : Event) (keys : List KeyEvent) (row : Option (List KeyEvent)) (asking : Asking) (old new : List (Event × Asking)) → Some keys ≡ row
-    → find e new ≡ map_with (normal_event (KeySeq keys)) asking (λ o. find o old) e → is_some (find e new) ≡ (is_event e row || is_some (find e old))
-row_bound e keys row asking old new is put = rw (put, sym is) (put_one e (normal_event (KeySeq keys)) asking (find e old))
-
-pub row_passed : (e : Event) (row : Option (List KeyEvent)) (bound : Bool) → None ≡ row → bound ≡ (is_event e row || bound)
-row_passed e row bound is = rw (sym is) refl
-
-or_moved : (a b c : Bool) → (a || (b || c)) ≡ ((b || a) || c)
-or_moved true true c = refl
-or_moved true false c = refl
-or_moved false true c = refl
-or_moved false false c = refl
-
--- a row more is bound
-pub one_row : (all a : Bool) (P : List ℕ → Bool) (row : List ℕ) (rows rows' : List (List ℕ)) (b : Bool) → all ≡ (a || list_any P rows) → rows ≡ row ∷ rows' → b ≡ (P row || a) → all ≡ (b || list_any P rows')
-one_row all a P row rows rows' b is cut more = rw (is, cut, more) (or_moved a (P row) (list_any P rows'))
-
-or_false : (a : Bool) → (a || false) ≡ a
-or_false true = refl
-or_false false = refl
-
-pub all_bound : (all a : Bool) (P : List ℕ → Bool) (rest : List ℕ) → all ≡ (a || list_any P (rows_of rest)) → rest ≡ [] → a ≡ all
-all_bound all a P rest is none = rw (is, none) (sym (or_false a))

@@ -1,5 +1,5 @@
--- What a program draws anew shows the open line.
-use Rattle.std.proofs.Common.{◌≡◌, inr, ℕ, ◌≤◌, true, false, List, [], ◌++◌, Option, Some, Result, Err, refl, sym, ap, ◌∙◌, subst, append-nil}
+-- What a program draws anew shows the open line; and what is kept of a drawing is known from what it shows.
+use Rattle.std.proofs.Common.{◌≡◌, inr, ℕ, ◌≤◌, true, false, List, [], ◌++◌, Option, Some, Result, Err, refl, sym, ap, ◌∙◌, subst, append-nil, is_some}
 use Rattle.std.specs.Prelude.{string_bytes}
 use Rattle.std.specs.List.{filter, flat_map}
 use Rattle.std.proofs.lemmas.Grind.{flat_map-append}
@@ -18,23 +18,27 @@ use Rattle.line_editor.proofs.LineLeads.{lines_lead}
 use Rattle.line_editor.proofs.ToldLemmas.{rest_along}
 use Rattle.line_keys.specs.Coming.{answer_map}
 use Rattle.line_keys.specs.InputStates.{new_input}
-use Rattle.line_screen.specs.ScreenCalls.{Screen}
-use Rattle.line_screen.specs.Chain.{Shows, above, cursor_of}
+use Rattle.line_screen.specs.ScreenCalls.{Screen, ruler_of}
+use Rattle.line_screen.specs.Chain.{Shows, above, cursor_of, finish_of}
 use Rattle.line_screen.specs.Display.{Display, Placed, meaning}
 use Rattle.line_screen.specs.Laws.{widths}
-use Rattle.line_screen.proofs.LawLemmas.{shown_is_meant}
+use Rattle.line_screen.proofs.LawLemmas.{shown_is_meant, start_is_empty}
 use Rattle.keyline.proofs.EventLemmas.{asks_bytes}
 use Rattle.keyline.specs.Events.{asks_events, bytes_drawn, end_events, line_course, line_play_in}
 use Rattle.keyline.specs.SessionLaws.{steps_in}
 use Rattle.keyline.specs.Sessions.{Given, SessionState, setting_in}
 use Rattle.keyline.specs.Shows.{DisplayHolds, IsAtRest, LowAll, bytes_for, face, picture, place_in, view_in}
-use Rattle.keyline_c.specs.Laws.{IsOpenAt, LastDrawingsShow, drawing_start, layout_in, last_drawing, marks_in, sight_in}
-use Rattle.keyline_c.specs.Lines.{line_at_end, value_first}
+use Rattle.keyline_c.specs.Laws.{IsOpenAt, LastDrawingsShow, drawing_start, layout_in, last_drawing, marks_in, sight_in, SameLinesGoOnAlike}
+use Rattle.keyline_c.specs.Lines.{value_first}
 use Rattle.keyline_c.specs.Statuses.{status_of_ending, is_open}
 use Rattle.keyline_c.specs.CallSteps.{open_place, open_text}
 use Rattle.keyline_c.specs.declared.line.Left.{Left}
 use Rattle.keyline_c.proofs.AnewLemmas.{Anew, anew_last}
 use Rattle.keyline_c.proofs.OpenLemmas.{At, IsOfPhrase, Seen, in_phrase, line_ends, walk}
+use Rattle.line_buffer.specs.Cells.{origin}
+use Rattle.line_buffer.specs.declared.layout.GraphemeClusterMode.{GraphemeClusterMode}
+use Rattle.line_buffer.specs.declared.layout.TabStops.{TabStops}
+use Rattle.line_screen.specs.Measure.{measure_of}
 
 -- a line continues only if an error of a phrase cut it, which draws nothing
 pub record CutShort {X : Type 0} (o : Result X ReadlineError) : Type 0 where
@@ -117,7 +121,7 @@ module _ (held : VecSink → List ℕ) where
   pub is_cut : (n : ℕ) (g : Given) (x : SessionState) (left : Left) → IsOpenAt held n g x left → CutShort (line_play_in n g x).answer
   is_cut n g x left w = subst CutShort w.reads.outcome_is (cut_short string_bytes left.outcome w.continues)
 
-  pub stands_open : (n : ℕ) (g : Given) (x : SessionState) (left : Left) → IsOpenAt held n g x left → left.open_line ≡ Some (line_at_end n g x)
+  pub stands_open : (n : ℕ) (g : Given) (x : SessionState) (left : Left) → IsOpenAt held n g x left → left.open_line ≡ Some (line_play_in n g x).rest.value.line
   stands_open n g x left w = open_so left.outcome (value_first g x) (line_play_in n g x).rest.value left.open_line w.continues w.reads.line_is
 
   -- what is shown is the open line
@@ -164,3 +168,53 @@ module _ (held : VecSink → List ℕ) where
         h.last,
         record { display = h.shown.display; means = h.shown.means; shows = subst (λ v. Shows s.columns (widths s) v top h.shown.display) same h.shown.shows; over_is = h.shown.over_is },
       )
+
+-- ---- what is kept of a drawing
+
+abbrev layout_for : Screen → Sight → Layout
+layout_for s x = record {
+  grapheme_cluster_mode = s.mode;
+  prompt_size = measure_of s.mode s.tab s.columns x.prompt origin;
+  default_prompt = x.given;
+  cursor = place_in s x;
+  end = finish_of s.columns (widths s) (picture x);
+  has_info = is_some x.info;
+  tab_stops = (ruler_of s).tabs;
+}
+
+layout_is : (s : Screen) (bytes : List ℕ) (over : List Placed) (top : ℕ) (l : Layout) (x : Sight) → DisplayHolds s bytes over top l x → ◌≡◌ {A = Option TabStops × GraphemeClusterMode} (l.tab_stops, l.grapheme_cluster_mode) ((ruler_of s).tabs, s.mode)
+    → l ≡ layout_for s x
+layout_is s bytes over top l x h is =
+    let tabs : l.tab_stops ≡ (ruler_of s).tabs = ap (λ m. m.0) is in
+    let mode : l.grapheme_cluster_mode ≡ s.mode = ap (λ m. m.1) is in
+    let of_fields : (let q : Layout = record {
+      grapheme_cluster_mode = l.grapheme_cluster_mode;
+      prompt_size = l.prompt_size;
+      default_prompt = l.default_prompt;
+      cursor = l.cursor;
+      end = l.end;
+      has_info = l.has_info;
+      tab_stops = l.tab_stops;
+    } in q) ≡ layout_for s x = cc in
+    of_fields
+
+-- no layout depends on styles
+alike : (s : Screen) (x y : Sight) → x.prompt ≡ y.prompt → x.line ≡ y.line → x.place ≡ y.place → x.info ≡ y.info → x.given ≡ y.given → x.ended ≡ y.ended → layout_for s x ≡ layout_for s y
+alike s x y prompt line place info given ended = rw (prompt, line, place, info, given, ended) refl
+
+module _ (held : VecSink → List ℕ) where
+  pub same_lines_go_on_alike : SameLinesGoOnAlike held
+  same_lines_go_on_alike n g x y left other w v same given screen =
+      let s = g.screen in
+      let low = screen.least in
+      let high = screen.most in
+      let one : StandsAnew n g x low high = stands_anew n g x low high (is_cut held n g x left w) w.low in
+      let two : StandsAnew n g y low high = stands_anew n g y low high (is_cut held n g y other v) v.low in
+      let a = one.anew in
+      let b = two.anew in
+      let text = line_shown held n g x left w one.seen ∙ same.text ∙ sym (line_shown held n g y other v two.seen) in
+      let place = place_shown held n g x left w one.seen ∙ same.place ∙ sym (place_shown held n g y other v two.seen) in
+      let start = start_is_empty s low high in
+      layout_is s _ _ _ (layout_in n g x) (sight_in n g x) (a.holds [] [] 0 start) a.measure_is
+      ∙ alike s (sight_in n g x) (sight_in n g y) same.prompt text place same.info given (one.seen.rests ∙ sym two.seen.rests)
+      ∙ sym (layout_is s _ _ _ (layout_in n g y) (sight_in n g y) (b.holds [] [] 0 start) b.measure_is)

@@ -1,7 +1,7 @@
--- What `run` leaves, and then the line's end.
+-- What `run` leaves, and then the line's end; and a line of valid arguments.
 use Rattle.std.proofs.Common.{◌≡◌, inl, inr, ℕ, Bool, true, false, List, [], ◌∷◌, ◌++◌, Option, None, length, ◌+◌, arith, Result, Ok, Err, refl, sym, ap, ◌∙◌, subst, IsTrue}
 use Rattle.std.specs.List.{flat_map}
-use Rattle.std.specs.Prelude.{⊤, IsErrAnd, String, if◌then◌else◌, string_bytes}
+use Rattle.std.specs.Prelude.{⊤, IsErrAnd, String, if◌then◌else◌, string_bytes, Bool, true, false, Option, ◌==◌}
 use Rattle.std.proofs.lemmas.Grind.{flat_map-append}
 use Rattle.std.specs.Global.{Global}
 use Rattle.line_config.specs.Feed.{Feed}
@@ -35,15 +35,22 @@ use Rattle.line_screen.specs.Reading.{count_of_kept}
 use Rattle.line_screen.specs.Drawing.{break_if}
 use Rattle.line_screen.specs.declared.reading.reader.KeyReader.{KeyReader}
 use Rattle.line_screen.specs.declared.renderer.ScreenRenderer.{ScreenRenderer}
-use Rattle.keyline.specs.Program.{EditHelper, edit_helping, given_with, helper_of}
+use Rattle.keyline.specs.Program.{EditHelper, edit_helping, given_with, helper_of, config_of}
 use Rattle.keyline.specs.declared.options.Options.{Options}
 use Rattle.keyline.specs.Events.{Breaks, SessionEvent, asks_events, bytes_drawn, end_events, line_course, line_play_in}
 use Rattle.keyline.specs.SessionEffects.{EndIsDrawn, breaks}
 use Rattle.keyline.specs.Sessions.{coming_from, Given, SessionState, given_of, history_after, screen_by, setting_in, state_over}
 use Rattle.keyline.proofs.EventLemmas.{Whole, line_went, went_not}
-use Rattle.keyline.proofs.OpenedLemmas.{given_as}
-use Rattle.keyline_c.specs.Lines.{IsWant, LeftBy, ReadsLine}
+use Rattle.keyline_c.specs.Lines.{IsWant, LeftBy, ReadsLine, ReadsKeys, last_of}
 use Rattle.keyline_c.specs.declared.line.Left.{Left}
+use Rattle.line_config.specs.declared.settings.HistoryDuplicates.TheVariants.{AlwaysAdd}
+use Rattle.line_keys.specs.declared.events.Event.{Event}
+use Rattle.keyline.specs.SessionRuns.{history_loaded_from}
+use Rattle.keyline_c.specs.Asks.{AreAsked, custom_by_asking}
+use Rattle.keyline_c.specs.Meant.{AreMeant, AreValid, settings_by, whole, words_in}
+use Rattle.keyline_c.specs.Slots.{IsRingOf}
+use Rattle.keyline_c.specs.declared.asking.Asking.{Asking}
+use Rattle.keyline_c.specs.declared.export.KeylineOptions.{KeylineOptions}
 
 wanting : (failed : Bool) (hook : Type 0) (e : ReadlineError) → reason_of failed hook e → IsWant e
 wanting failed hook Memory is = inl refl
@@ -120,16 +127,13 @@ module _ {H K T : Type 0} (held waits : VecSink → List ℕ) (failed : VecSink 
           let y = line_stage (surface ran.out runs.layout) (line_state runs.value runs.input ring' runs.modal feed'.coming) in
           elim (line_went held unwritten true (tt {0}) history waits failed (screen_of old) setting (line_script n custom) first y (outcome_of ran) refl (runs.goes told n b)) [
             | inl w ↦ inl (left_whole n runs.value runs.input runs.modal runs.layout runs.line_is w)
-            | inr cut ↦ inr (went_not held unwritten true (λ e. (outcome_of ran ≡ Err e) × reason_of true ⊤ e)
-                (λ e is. wants left.outcome e (ap (answer_map string_bytes) outcome_is ∙ is.0) (wanting true ⊤ e is.1)) _ _ _ cut)
+            | inr cut ↦ inr (went_not (λ e is. wants left.outcome e (ap (answer_map string_bytes) outcome_is ∙ is.0) (wanting true ⊤ e is.1)) cut)
           ];
     }
 
 -- a reader that keeps no byte reads no more than its source has
 pub bound_at : (kept : Option ℕ) (count : ℕ) (keys : List ℕ) → kept ≡ None → count ≡ length keys → count + count_of_kept kept ≡ length keys
-bound_at kept count keys none is =
-    let zero_more : length keys + count_of_kept None ≡ length keys = search arith in
-    ap (λ k. count + count_of_kept k) none ∙ (ap (λ n. n + count_of_kept None) is ∙ zero_more)
+bound_at kept count keys none is = rw (none, is) (search arith)
 
 -- the same by the settings and the options of the line
 pub line_read : {K T : Type 0} (held waits : VecSink → List ℕ) (failed : VecSink → Bool) (config : Config) (options : Options) (words : Option (List (List ℕ))) (keys : List ℕ) (last : Last) (custom bound_to : Custom) (prompt : List ℕ)
@@ -144,12 +148,29 @@ pub line_read : {K T : Type 0} (held waits : VecSink → List ℕ) (failed : Vec
     → ReadsLine held (given_with config bound_to options words) (state_over ring [] history options.mode keys last) (length keys) left
 line_read held waits failed config options words keys last custom bound_to prompt helper old display ring ring' query query' history history' feed feed' ran F reader left runs told ends fresh adds custom_is prompt_is helper_is screen_is coming_is bound_is none a open_is b d e rest_is left_is =
     let read = reads_line held waits failed edit_helping config custom prompt helper old display ring ring' query query' history history' feed feed' ran F reader left ends fresh adds a open_is b d e rest_is left_is runs told in
-    let given_is : given_of config custom prompt (screen_of old) (edit_helping helper) ≡ given_with config bound_to options words =
-    given_as config config bound_to custom (string_bytes options.prompt) prompt (screen_by config options.columns) (screen_of old) (helper_of config options words) helper
-    refl custom_is prompt_is screen_is helper_is in
-    let on : List ℕ → Given → Coming → ℕ → Type 0 = λ query g c n. ReadsLine held g (record { ring = ring; query = query; history = history; coming = c }) n left in
-    let at : Given → Coming → ℕ → Type 0 = on query in
-    subst (λ query. on query (given_with config bound_to options words) (coming_from options.mode keys last) (length keys)) none
-    (subst (λ g. at g (coming_from options.mode keys last) (length keys)) given_is
-    (subst (λ c. at (given_of config custom prompt (screen_of old) (edit_helping helper)) c (length keys)) coming_is
-    (subst (λ n. at (given_of config custom prompt (screen_of old) (edit_helping helper)) feed.coming n) bound_is read)))
+    rw (none, custom_is, prompt_is, helper_is, screen_is, coming_is, bound_is) at read
+
+-- ---- a line of valid arguments
+
+-- an accepted line is added to the history
+pub adds_lines : (options : KeylineOptions) (chosen : Options) → (settings_by options (config_of chosen)).auto_add_history ≡ true
+adds_lines options chosen = by (options.entries == 0)
+  where
+    by : (none : Bool) → (if none then config_of chosen else record (config_of chosen) { max_history_size = options.entries; history_duplicates = AlwaysAdd }).auto_add_history ≡ true
+    by true = refl
+    by false = refl
+
+module _ (options : KeylineOptions) (prompt words history kills ends : List ℕ) (valid : AreValid options prompt words history kills ends) where
+  -- a line of what words, history and ring are meant
+  pub keys_read : (held : VecSink → List ℕ) (keys asks : List ℕ) (left : Left) (chosen : Options) (config : Config) (bindings : List (Event × Asking)) (ring : Ring) (given : Option (List (List ℕ))) (filed : Filed) (shown : List ℕ)
+      → shown ≡ prompt → AreMeant options shown chosen → config ≡ settings_by options (config_of chosen) → IsRingOf kills ends options.place ring → given ≡ words_in words → filed ≡ history_loaded_from config (whole history) → AreAsked chosen.mode asks bindings
+      → ReadsLine held (given_with config (custom_by_asking bindings) chosen given) (state_over ring [] filed chosen.mode keys (last_of options.ended)) (length keys) left
+      → ReadsKeys options prompt words history kills ends held keys asks left
+  keys_read held keys asks left chosen config bindings ring given filed shown is_prompt meant is_config held_by is_given is_filed asked reads = record {
+    valid = record { mode_is = valid.mode_is; columns_are = valid.columns_are; prompt_is = valid.prompt_is; words_are = valid.words_are; history_is = valid.history_is; ring_is = (ring, held_by) };
+    chosen = chosen;
+    bindings = bindings;
+    are_asked = asked;
+    meant = rw is_prompt at meant;
+    reads = rw (is_filed, is_given, is_config) at reads;
+  }

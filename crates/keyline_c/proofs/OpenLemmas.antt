@@ -1,7 +1,6 @@
 -- A line that continues ends within a phrase, and shows its value there.
-use Rattle.std.proofs.Common.{◌≡◌, inl, inr, ℕ, zero, suc, ◌≤◌, ◌==◌, Bool, true, false, List, [], ◌∷◌, ◌++◌, length, Option, None, Some, Result, Ok, Err, refl, sym, ap, ◌∙◌, subst, append_assoc, append-nil, true≢false, if◌then◌else◌}
+use Rattle.std.proofs.Common.{◌≡◌, inl, inr, ℕ, zero, suc, ◌≤◌, ◌==◌, Bool, true, false, List, [], ◌∷◌, ◌++◌, length, Option, None, Some, Result, Ok, Err, refl, sym, ◌∙◌, subst, append_assoc, append-nil, true≢false, if◌then◌else◌}
 use Rattle.std.specs.Prelude.{⊤}
-use Rattle.std.specs.List.{flat_map}
 use Rattle.std.proofs.lemmas.Grind.{flat_map-append}
 use Rattle.line_buffer.specs.declared.layout.Layout.{Layout}
 use Rattle.script.specs.Played.{Played, play_with_first_ask, play_after_answer}
@@ -189,11 +188,6 @@ low_later : (s : Screen) (x : Sight) (xs ys : List EditStep) → LowAll s x (xs 
 low_later s x [] ys h = h
 low_later s x (r ∷ xs) ys h = low_later s (sight x r) xs ys h.1
 
-bytes_both : (s : Screen) (l : Layout) (xs ys : List EditStep) → bytes_for s l (xs ++ ys) ≡ bytes_for s l xs ++ bytes_for s (calls_by_screen s l xs).layout ys
-bytes_both s l xs ys =
-    ap (λ (q : _). flat_map (bytes_of s) q.calls) (asked_both (ruler_of s) l xs ys)
-    ∙ flat_map-append (bytes_of s) (calls_by_screen s l xs).calls (calls_by_screen s (calls_by_screen s l xs).layout ys).calls
-
 module _ (s : Screen) (low : 2 ≤ s.columns) (high : s.columns ≤ 1000) (a : Setting) where
   -- within a phrase they show the value by themselves
   pub record At (b : Bool) (bytes : List ℕ) (l : Layout) (x : Sight) (k : LineState) : Type 0 where
@@ -241,16 +235,7 @@ module _ (s : Screen) (low : 2 ≤ s.columns) (high : s.columns ≤ 1000) (a : S
       let first = (effect_at a k ask).steps in
       let left = left_at a k ask in
       let rest = steps_along a left asks in
-      let m = (calls_by_screen s l first).layout in
-      let y = sight_all x first in
-      let b' = in_keys b ask in
+      let m = calls_by_screen s l first in
       let here = one_ask ask k b bytes l x at leads.0 (low_first s x first rest rows) leads.1 in
-      let on = walk o asks left b' (bytes ++ bytes_for s l first) m y here leads.2 (low_later s x first rest rows) in
-      let end = in_phrase b' asks in
-      let j = left_along a left asks in
-      let one : At end ((bytes ++ bytes_for s l first) ++ bytes_for s m rest) (calls_by_screen s m rest).layout (sight_all x (first ++ rest)) j =
-      subst (λ z. At end ((bytes ++ bytes_for s l first) ++ bytes_for s m rest) (calls_by_screen s m rest).layout z j) (sym (sight_both x first rest)) on in
-      let two : At end ((bytes ++ bytes_for s l first) ++ bytes_for s m rest) (calls_by_screen s l (first ++ rest)).layout (sight_all x (first ++ rest)) j =
-      subst (λ z. At end ((bytes ++ bytes_for s l first) ++ bytes_for s m rest) z (sight_all x (first ++ rest)) j) (sym (ap (λ (q : _). q.layout) (asked_both (ruler_of s) l first rest))) one in
-      subst (λ z. At end z (calls_by_screen s l (first ++ rest)).layout (sight_all x (first ++ rest)) j)
-      (append_assoc bytes (bytes_for s l first) (bytes_for s m rest) ∙ ap (λ z. bytes ++ z) (sym (bytes_both s l first rest))) two
+      let on = walk o asks left (in_keys b ask) (bytes ++ bytes_for s l first) m.layout (sight_all x first) here leads.2 (low_later s x first rest rows) in
+      rw (sight_both x first rest, asked_both (ruler_of s) l first rest, flat_map-append (bytes_of s) m.calls (calls_by_screen s m.layout rest).calls, ← append_assoc bytes (bytes_for s l first) (bytes_for s m.layout rest)) on

@@ -1,16 +1,29 @@
--- Texts that are laid out one after the other.
-use Rattle.std.proofs.Common.{◌≡◌, ◌∙◌, ◌↔◌, Bool, true, false, true≢false, IsTrue, ℕ, zero, suc, ◌+◌, ◌-◌, ◌<◌, ◌≤◌, List, [], ◌∷◌, ◌++◌, length, take, drop, get_or, map, refl, sym, ap, subst, slice_index_or, append_assoc, arith}
+-- Texts that are laid out one after the other, and the slots of a ring.
+use Rattle.std.proofs.Common.{◌≡◌, ◌∙◌, ℕ, zero, suc, ◌+◌, List, [], ◌∷◌, ◌++◌, length, map, ap, sym, subst, arith, ◌↔◌, Bool, true, false, true≢false, IsTrue, ◌-◌, ◌<◌, ◌≤◌, take, drop, get_or, refl, slice_index_or, append_assoc}
+use Rattle.std.proofs.lemmas.List.{length-append, map-append, take_more, append-nil, length-take-le, drop_at, take_at}
+use Rattle.std.proofs.lemmas.List.Elements.{All-append}
 use Rattle.std.specs.List.{All, flat_map, slice_range}
-use Rattle.std.specs.Prelude.{Option, Some, None, IsSome}
 use Rattle.std.specs.Str.{IsUtf8}
+use Rattle.std.specs.Prelude.{Option, Some, None, IsSome}
 use Rattle.std.proofs.Math.Seq.{take-add, take-length}
 use Rattle.std.proofs.lemmas.Grind.{flat_map-append}
-use Rattle.std.proofs.lemmas.List.Elements.{All-append}
-use Rattle.std.proofs.lemmas.List.{take_more, map-append, append-nil, length-append, length-take-le, drop_at, take_at}
 use Rattle.line_record.specs.Ring.{Ring, ring_of}
 use Rattle.keyline.specs.declared.session.TheConstants.{KILL_RING_SIZE}
-use Rattle.keyline_c.proofs.RingLemmas.{one_is}
 use Rattle.keyline_c.specs.Slots.{AreLaidOut, HasRing, IsSlot, SlotMeans, IsRingOf, ends_behind}
+
+pub one_is : (text : List ℕ) → IsUtf8 text → All IsUtf8 (text ∷ [])
+one_is text is zero d inside = is
+one_is text is (suc k) d inside = absurd (omega (arith, inside))
+
+-- a slot more
+pub slot_more : {X : Type 0} (bytes : X → List ℕ) (slots new : List X) (one : X) (text : List ℕ) → new ≡ slots ++ one ∷ [] → bytes one ≡ text → map bytes new ≡ map bytes slots ++ text ∷ []
+slot_more bytes slots new one text is text_is = ap (map bytes) is ∙ (map-append bytes slots (one ∷ []) ∙ ap (λ t. map bytes slots ++ t ∷ []) text_is)
+
+pub one_more : {X : Type 0} (slots new : List X) (one : X) (i : ℕ) → new ≡ slots ++ one ∷ [] → length slots ≡ i → length new ≡ i + 1
+one_more slots new one i is count = ap (λ (x : List _). length x) is ∙ omega (arith, length-append slots (one ∷ []), count)
+
+pub texts_more : (slots new : List (List ℕ)) (text : List ℕ) → new ≡ slots ++ text ∷ [] → All IsUtf8 slots → IsUtf8 text → All IsUtf8 new
+texts_more slots new text is all one = subst (All IsUtf8) (sym is) (All-append IsUtf8 slots (text ∷ []) all (one_is text one))
 
 abbrev own : List ℕ → List ℕ
 own text = text
@@ -96,32 +109,17 @@ slots_count slots texts ends h = ap (λ (x : List ℕ). length x) h.ends_are ∙
 
 -- each of them, and where the last one ends
 slot_stands : (slots : List (List ℕ)) (texts ends : List ℕ) (i : ℕ) → AreLaidOut slots texts ends → i < length ends → StandsAt texts (slice_index_or (0 ∷ ends) i 0) (slice_index_or ends i 0) (slice_index_or slots i [])
-slot_stands slots texts ends i h inside =
-    subst (λ (x : List ℕ). StandsAt x (slice_index_or (0 ∷ ends) i 0) (slice_index_or ends i 0) (slice_index_or slots i [])) (sym h.texts_are)
-    (subst (λ (x : List ℕ). StandsAt (flat_map own slots) (slice_index_or (0 ∷ x) i 0) (slice_index_or x i 0) (slice_index_or slots i [])) (sym h.ends_are)
-    (slot_behind [] slots i (omega (arith, inside, slots_count slots texts ends h))))
+slot_stands slots texts ends i h inside = let count = slots_count slots texts ends h in rw (h.texts_are, h.ends_are) (slot_behind [] slots i (omega (arith, inside, count)))
 
 pub slots_end : (slots : List (List ℕ)) (texts ends : List ℕ) → AreLaidOut slots texts ends → slice_index_or (0 ∷ ends) (length ends) 0 ≡ length texts
-slots_end slots texts ends h =
-    let last : slice_index_or (0 ∷ ends_behind 0 slots) (length slots) 0 ≡ length (flat_map own slots) = ends_at 0 slots ∙ omega arith in
-    ap (λ n. slice_index_or (0 ∷ ends) n 0) (slots_count slots texts ends h)
-    ∙ (ap (λ (x : List ℕ). slice_index_or (0 ∷ x) (length slots) 0) h.ends_are ∙ (last ∙ ap (λ (x : List ℕ). length x) (sym h.texts_are)))
+slots_end slots texts ends h = rw (h.texts_are, h.ends_are, ends_count 0 slots) (ends_at 0 slots ∙ omega arith)
 
--- what a ring has at a place
-pub slot_of : (texts ends : List ℕ) (place i start : ℕ) (ring : Ring) → IsRingOf texts ends place ring → i < length ends → start ≡ slice_index_or (0 ∷ ends) i 0
-    → IsSlot texts start (slice_index_or ends i 0) (slice_index_or ring.slots i [])
-slot_of texts ends place i start ring h inside at =
-    let s = subst (λ (n : ℕ). StandsAt texts n (slice_index_or ends i 0) (slice_index_or ring.slots i [])) (sym at) (slot_stands ring.slots texts ends i h.laid_out inside) in
-    record {
-      in_order = s.on;
-      inside = s.inside;
-      slot_is = sym s.slot_is;
-      utf8 = h.utf8 i [] (omega (arith, inside, slots_count ring.slots texts ends h.laid_out));
-    }
-
--- a slot that a ring has is there
+-- a slot that a ring has at a place is there
 pub is_there : (texts ends : List ℕ) (place i start : ℕ) → HasRing texts ends place → i < length ends → start ≡ slice_index_or (0 ∷ ends) i 0 → (slot : List ℕ) × IsSlot texts start (slice_index_or ends i 0) slot
-is_there texts ends place i start (ring, h) inside at = (slice_index_or ring.slots i [], slot_of texts ends place i start ring h inside at)
+is_there texts ends place i start (ring, h) inside is =
+    let s = slot_stands ring.slots texts ends i h.laid_out inside in
+    let utf8 = h.utf8 i [] (omega (arith, inside, slots_count ring.slots texts ends h.laid_out)) in
+    rw is (slice_index_or ring.slots i [], record { in_order = s.on; inside = s.inside; slot_is = sym s.slot_is; utf8 = utf8 })
 
 -- so a text that is looked for where one stands is given
 pub slot_given : {X : Type 0} (texts : List ℕ) (from to : ℕ) (copied : Option X → Option (List ℕ)) → copied None ≡ None → (o : Option X) → SlotMeans texts from to (copied o) → (slot : List ℕ) × IsSlot texts from to slot → IsSome o

@@ -12,7 +12,7 @@ use Rattle.keyline_c.specs.declared.export.KeylineWants.{KeylineWants}
 use Rattle.keyline_c.specs.declared.line.Left.{Left}
 use Rattle.keyline_c.specs.declared.ring.Slots.{Slots}
 use Rattle.keyline_c.specs.declared.status.CallStatus.{CallStatus}
-use Rattle.keyline_c.specs.declared.status.CallStatus.TheVariants.{More, Argument, Room, Memory, Asked}
+use Rattle.keyline_c.specs.declared.status.CallStatus.TheVariants.{More, Room, Memory, Asked}
 
 -- ---- the end of a line
 
@@ -62,44 +62,31 @@ module _ (held : VecSink → List ℕ) (sent keys : ℕ) (wants : KeylineWants) 
   ended Asked result some other h = absurd (true≢false other)
   ended _ result some other h = h
 
-  again : (A : Type 0) (e : CallStatus) → GivesEnd held sent keys wants left old new step step' {A = A} (Err e) → GivesEnd held sent keys wants left old new step step' {A = CallStatus} (Err e)
-  again A Memory h = h
-  again A Argument h = h
-  again A Room h = record { slots = h.slots; are_slots = h.are_slots; step_is = h.step_is; texts = h.texts }
-  again A _ h = absurd h.texts
-
   pub end_so : (A : Type 0) (done : A) (status : CallStatus) → status ≡ status_of_ending left.outcome → status ≢ Memory → is_open status ≡ false → GivesEnd held sent keys wants left old new step step' (Ok done)
       → Gives held sent keys wants left old new step step' (Ok status)
   end_so A done status is some other h =
-      let end : GivesEnd held sent keys wants left old new step step' (Ok status) = record { slots = h.slots; are_slots = h.are_slots; step_is = h.step_is; texts = h.texts } in
-      (is, subst (λ s. GivesBy held sent keys wants left old new step step' s (Ok status)) is (ended status (Ok status) some other end))
+      (is, subst (λ s. GivesBy held sent keys wants left old new step step' s (Ok status)) is (ended status (Ok status) some other h))
 
   pub end_not_so : (A : Type 0) (status e : CallStatus) (result : Result CallStatus CallStatus) → status ≡ status_of_ending left.outcome → status ≢ Memory → is_open status ≡ false → GivesEnd held sent keys wants left old new step step' {A = A} (Err e)
       → IsErrAnd result (λ x. x ≡ e) → Gives held sent keys wants left old new step step' result
   end_not_so A status e (Ok x) is some other h refused = absurd refused
   end_not_so A status e (Err x) is some other h refused =
       subst (λ y. Gives held sent keys wants left old new step step' (Err y)) (sym refused)
-      (tt, subst (λ s. GivesBy held sent keys wants left old new step step' s (Err e)) is (ended status (Err e) some other (again A e h)))
+      (tt, subst (λ s. GivesBy held sent keys wants left old new step step' s (Err e)) is (ended status (Err e) some other h))
 
   open_by : (status : CallStatus) (result : Result CallStatus CallStatus) → is_open status ≡ true → GivesOpen held sent keys wants left old new step step' result → GivesBy held sent keys wants left old new step step' status result
   open_by More result more h = h
   open_by Asked result more h = h
   open_by _ result more h = absurd (true≢false (sym more))
 
-  open_again : (A : Type 0) (e : CallStatus) → GivesOpen held sent keys wants left old new step step' {A = A} (Err e) → GivesOpen held sent keys wants left old new step step' {A = CallStatus} (Err e)
-  open_again A Argument h = h
-  open_again A Room h = record { step_is = h.step_is; texts = h.texts }
-  open_again A _ h = absurd h.texts
-
   pub open_so : (A : Type 0) (done : A) (status : CallStatus) → status ≡ status_of_ending left.outcome → is_open status ≡ true → GivesOpen held sent keys wants left old new step step' (Ok done)
       → Gives held sent keys wants left old new step step' (Ok status)
   open_so A done status is more h =
-      let so : GivesOpen held sent keys wants left old new step step' (Ok status) = record { step_is = h.step_is; texts = h.texts } in
-      (is, subst (λ s. GivesBy held sent keys wants left old new step step' s (Ok status)) is (open_by status (Ok status) more so))
+      (is, subst (λ s. GivesBy held sent keys wants left old new step step' s (Ok status)) is (open_by status (Ok status) more h))
 
   pub open_not_so : (A : Type 0) (status e : CallStatus) (result : Result CallStatus CallStatus) → status ≡ status_of_ending left.outcome → is_open status ≡ true → GivesOpen held sent keys wants left old new step step' {A = A} (Err e)
       → IsErrAnd result (λ x. x ≡ e) → Gives held sent keys wants left old new step step' result
   open_not_so A status e (Ok x) is more h refused = absurd refused
   open_not_so A status e (Err x) is more h refused =
       subst (λ y. Gives held sent keys wants left old new step step' (Err y)) (sym refused)
-      (tt, subst (λ s. GivesBy held sent keys wants left old new step step' s (Err e)) is (open_by status (Err e) more (open_again A e h)))
+      (tt, subst (λ s. GivesBy held sent keys wants left old new step step' s (Err e)) is (open_by status (Err e) more h))

@@ -65,29 +65,29 @@ module _ (held : VecSink → List ℕ) (sent keys : ℕ) (wants : KeylineWants) 
 
   -- for a line that is still open its lengths and the cursor's place are reported, and its texts
   -- are returned or one doesn't fit
-  pub record TellsOpen {A : Type 0} (result : Result A CallStatus) : Type 0 where
+  pub record TellsOpen (Puts : BufferTexts → Type 0) : Type 0 where
     pub step_is : step' ≡ with_lengths (texts_open held sent left) (with_open held keys left step)
-    pub texts : GivesTexts (texts_wanted wants (texts_open held sent left)) old new result
+    pub texts : Puts (texts_wanted wants (texts_open held sent left))
 
   -- or more was sent than there is
   abbrev pub GivesOpen : {A : Type 0} → Result A CallStatus → Type 0
   GivesOpen (Err Argument) = (length (held left.display) < sent) × NothingDone
-  GivesOpen result = TellsOpen result
+  GivesOpen result = TellsOpen (λ given. GivesTexts given old new result)
 
   -- for a line that has ended all lengths are reported, and its texts are returned or one doesn't
   -- fit
-  pub record TellsEnd {A : Type 0} (result : Result A CallStatus) : Type 0 where
+  pub record TellsEnd (Puts : BufferTexts → Type 0) : Type 0 where
     pub slots : Slots
     pub are_slots : AreSlots left.ring slots
     pub step_is : step' ≡ with_lengths (texts_left held sent left slots)
         (with_end held keys left slots step)
-    pub texts : GivesTexts (texts_wanted wants (texts_left held sent left slots)) old new result
+    pub texts : Puts (texts_wanted wants (texts_left held sent left slots))
 
   -- or memory runs out for that, or more was sent than there is
   abbrev pub GivesEnd : {A : Type 0} → Result A CallStatus → Type 0
   GivesEnd (Err Memory) = TakesMemory left × NothingDone
   GivesEnd (Err Argument) = (length (held left.display) < sent) × NothingDone
-  GivesEnd result = TellsEnd result
+  GivesEnd result = TellsEnd (λ given. GivesTexts given old new result)
 
   -- by how it ended
   abbrev pub GivesBy : CallStatus → Result CallStatus CallStatus → Type 0

@@ -1,7 +1,6 @@
 -- A line of the keys so far: its arguments and its result.
 use Rattle.std.specs.Prelude.{◌≡◌, ◌⊎◌, ℕ, ◌<◌, Bool, if◌then◌else◌, List, [], Result, IsErrAnd, length, string_bytes}
 use Rattle.std.specs.List.{flat_map}
-use Rattle.line_buffer.specs.Line.{Line}
 use Rattle.line_config.specs.declared.device.Last.{Last}
 use Rattle.line_config.specs.declared.device.Last.TheVariants.{End, Failed}
 use Rattle.line_config.specs.declared.errors.ReadlineError.{ReadlineError}
@@ -31,10 +30,6 @@ last_of ended = if ended then End else Failed
 -- memory ran out: for the line, for its display bytes, or for its helper
 abbrev pub IsWant : ReadlineError → Type 0
 IsWant e = (e ≡ Memory) ⊎ ((e ≡ Display) ⊎ (e ≡ Helper))
-
--- the line as it stands at its end, or where the keys end
-abbrev pub line_at_end : ℕ → Given → SessionState → Line
-line_at_end n g x = (line_play_in n g x).rest.value.line
 
 -- the value at which it begins
 abbrev pub value_first : Given → SessionState → Value

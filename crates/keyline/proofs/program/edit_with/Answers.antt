@@ -1,6 +1,6 @@
 use Rattle.std.proofs.Common.{◌≡◌, ◌∙◌, []}
 use Rattle.std.proofs.lemmas.Result.{MatchResult-at_ok}
-use Rattle.keyline.proofs.EditLemmas.{edited, none_bound}
+use Rattle.keyline.proofs.OpenedLemmas.{edited, none_bound}
 use Rattle.keyline.proofs.program.edit_with.Goals as goal
 
 pub returns-clause-edits : goal.returns-clause-edits

@@ -1,6 +1,6 @@
 use Rattle.std.proofs.Common.{sym, subst, true, ◌≡◌}
 use Rattle.line_config.specs.declared.config.Config.{Config}
-use Rattle.keyline_c.proofs.ArgumentLemmas.{adds_lines, keys_read}
+use Rattle.keyline_c.proofs.LineLemmas.{adds_lines, keys_read}
 use Rattle.keyline_c.proofs.export.play.Goals as goal
 
 pub read_line-requires-clause-adds : goal.read_line-requires-clause-adds

@@ -1,5 +1,5 @@
 use Rattle.keyline_c.proofs.AlikeLemmas.{same_lines_look_alike}
-use Rattle.keyline_c.proofs.LayoutLemmas.{same_lines_go_on_alike}
+use Rattle.keyline_c.proofs.LastLemmas.{same_lines_go_on_alike}
 use Rattle.keyline_c.proofs.laws.same_lines.Goals as goal
 
 pub returns : goal.returns

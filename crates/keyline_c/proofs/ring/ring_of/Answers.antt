@@ -3,8 +3,7 @@ use Rattle.std.proofs.lemmas.List.{length-map}
 use Rattle.std.specs.Prelude.{option_copied, string_bytes}
 use Rattle.keyline.specs.declared.session.TheConstants.{KILL_RING_SIZE}
 use Rattle.keyline_c.specs.Slots.{AreLaidOut, IsSlot, SlotMeans}
-use Rattle.keyline_c.proofs.SlotLemmas.{is_there, laid_to, slots_count, slots_end, slot_given, ring_stands}
-use Rattle.keyline_c.proofs.RingLemmas.{one_more, slot_more, texts_more}
+use Rattle.keyline_c.proofs.SlotLemmas.{is_there, laid_to, one_more, ring_stands, slot_given, slot_more, slots_count, slots_end, texts_more}
 use Rattle.keyline_c.proofs.ring.ring_of.Goals as goal
 
 pub unwrap-text-requires : goal.unwrap-text-requires

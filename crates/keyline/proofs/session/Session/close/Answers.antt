@@ -1,7 +1,7 @@
 -- Whether the history was saved is what `save_if` answered.
 use Rattle.std.proofs.Common.{ap, ◌∙◌, rules}
 use Rattle.keyline.specs.Endings.{ending_of}
-use Rattle.keyline.proofs.Unread.{unread_at_end}
+use Rattle.keyline.proofs.OpenedLemmas.{unread_at_end}
 use Rattle.keyline.proofs.session.Session.close.Goals as goal
 
 pub returns : goal.returns

@@ -4,15 +4,15 @@ use Rattle.line_help.proofs.RowLemmas.{none_read}
 use Rattle.line_screen.specs.ScreenCalls.{screen_of, sink_of}
 use Rattle.keyline.specs.SessionRuns.{Unopens}
 use Rattle.keyline.specs.Sessions.{coming_from}
-use Rattle.keyline.proofs.EditLemmas.{loaded_where}
 use Rattle.keyline.proofs.LinesLemmas.{along}
 use Rattle.keyline.proofs.session.Session.open.Goals as goal
 
 pub returns-clause-desk : goal.returns-clause-desk
 returns-clause-desk g c =
     let feed = g.S.Source.feed in
+    let begun = c.in-Ok-begin.ensures.ok.history in
     record {
-      loaded = loaded_where _ _ _ (λ always. always c.begin.new.source) c.in-Ok-begin.ensures.ok.history;
+      loaded = record { whole = λ always. begun.whole (always c.begin.new.source); history_is = λ always. begun.history_is (always c.begin.new.source) };
       ring = c.in-Ok-begin.ensures.ok.ring;
       query = c.new-4.ensures.bytes;
       coming = c.new-2.ensures.coming c.requires.source ∙ along c.edit_mode.ensures (λ m. coming_from m (feed c.args.source).coming (feed c.args.source).last);
