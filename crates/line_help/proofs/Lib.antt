@@ -1,14 +1,11 @@
 pub mod BalanceLemmas
-mod BracketRows
 pub mod CommonPrefixLemmas
 pub mod CompletionLawLemmas
-mod CompletionRows
 pub mod CourseLemmas
 pub mod EscapeLemmas
 pub mod FileNameLemmas
 pub mod FoundLemmas
 pub mod HighlightLemmas
-mod HistoryRows
 pub mod InTurnLemmas
 pub mod LaneLemmas
 pub mod LoadLemmas

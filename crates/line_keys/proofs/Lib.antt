@@ -5,14 +5,10 @@ pub mod Equality
 pub mod Following
 pub mod KeyReads
 pub mod Normal
-mod PhraseRows
 pub mod Places
-mod Played
 pub mod QuotedKeys
 pub mod Remembering
-mod Rows
 pub mod SameEventsLemmas
 pub mod Settling
 pub mod Steps
 pub mod Turns
-mod ViRows
