@@ -27,8 +27,8 @@ use Rattle.line_screen.specs.Laws.{widths, TellsView}
 use Rattle.line_screen.specs.Measure.{measure_of, position_within_limit}
 use Rattle.line_screen.specs.StyledTexts.{first_styles, byte_styles}
 use Rattle.line_screen.specs.Styles.{numbers}
-use Rattle.line_editor.specs.SharedStyles.{span_styles, styles_to}
-use Rattle.line_help.specs.Paints.{plain}
+use Rattle.line_editor.specs.SharedStyles.{styles_to}
+use Rattle.line_help.specs.Paints.{plain, span_styles}
 use Rattle.line_help.specs.declared.helpers.style.Span.{Span}
 use Rattle.line_screen.proofs.Fitting.{items_fit, fit_append, after_inside}
 use Rattle.line_screen.proofs.LawLemmas.{calls_lead, place_is_free, measures_go_on}

@@ -18,6 +18,7 @@ pub mod QuoteLemmas
 pub mod ReloadLemmas
 pub mod RowLemmas
 pub mod RunLemmas
+pub mod SameStyles
 pub mod SavingLemmas
 pub mod SearchLemmas
 pub mod SortLemmas
