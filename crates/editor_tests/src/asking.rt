@@ -7,7 +7,7 @@ use line_editor::run;
 use line_keys::KeyEvent;
 use line_record::KillRing;
 use stand_ins::asked_keys::{AskedKeys, requests_in_words};
-use stand_ins::rows::{Player, Starts, raised, tables_hold};
+use stand_ins::rows::{Player, Starts, misread, raised, tables_hold};
 use stand_ins::typing::keys_named;
 use std::alloc::{AllocError, Global};
 use std::test::Fail;
@@ -58,7 +58,7 @@ struct Requests {
 impl Player for Requests {
     fn play(&mut self, alloc: Global, call: &str) -> Result<String, Fail> {
         let Some((mode, keys)) = call.split_once(": ") else {
-            return Err(Fail::new(format_args!("no keys: {call}")));
+            return Err(misread("no keys", call));
         };
         let mode = match mode {
             "Vi" => EditMode::Vi,

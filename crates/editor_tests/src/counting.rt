@@ -16,7 +16,7 @@ use line_help::{
     ValidationContext, ValidationResult, Validator, update_line,
 };
 use line_keys::{Cmd, CmdKind, Decides, Event, EventContext, EventMap};
-use stand_ins::rows::{Player, done, raised, rows_hold};
+use stand_ins::rows::{Player, done, misread, raised, rows_hold};
 use stand_ins::typing::{event, typed};
 use std::alloc::{AllocError, Global};
 use std::borrow::CowStr;
@@ -214,7 +214,7 @@ impl Counter {
     // Types a row's keys, or makes its commands.
     fn led<H: Helper + Drop>(&self, alloc: Global, helper: H, row: &str) -> Result<String, Fail> {
         let Some((shown, rest)) = row.split_once(": ") else {
-            return Err(Fail::new(format_args!("no row: {row}")));
+            return Err(misread("no row", row));
         };
         if shown == "keys" {
             let keys = typed(alloc, rest)?;

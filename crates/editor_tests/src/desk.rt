@@ -25,8 +25,8 @@ use line_help::{Context, Helper, History, MemHistory};
 use line_keys::{Bindings, Cmd, CmdKind, Decides, EventHandler, InputState};
 use line_record::{Changeset, KillRing};
 use session_rows::words::advice::{Adviser, Texts, texts_of};
-use stand_ins::rows::{Player, Starts, done, raised, tables_hold, trimmed};
-use stand_ins::tables::{marked, meant, named, pictured, word_and_rest};
+use stand_ins::rows::{Player, Starts, done, misread, raised, tables_hold, trimmed};
+use stand_ins::tables::{marked, meant, named, parted, pictured, word_and_rest};
 use stand_ins::typing::{bind, command_of};
 use std::alloc::{AllocError, Global};
 use std::test::Fail;
@@ -167,7 +167,7 @@ fn bind_named(
 
 // The bindings of a row `C-O: HistorySearchBackward`.
 fn bound(alloc: Global, row: &str) -> Result<Bindings, ReadlineError> {
-    let (name, words) = row.split_once(": ").unwrap_or((row, ""));
+    let (name, words) = parted(row, ": ");
     let mut bindings = Bindings::new(alloc)?;
     bind_named(alloc, &mut bindings, name, words)?;
     Ok(bindings)
@@ -200,7 +200,7 @@ fn set_line<H: Helper + Drop>(
     desk: &mut Desk<'_, H>,
     shown: &str,
 ) -> Result<(), ReadlineError> {
-    let (before, after) = shown.split_once('|').unwrap_or((shown, ""));
+    let (before, after) = parted(shown, "|");
     let changes = Changeset::new(alloc)?;
     put_around(alloc, desk, before, after)?;
     let recorded = &mut desk.recorded;
@@ -471,7 +471,7 @@ impl Stage {
     // The result of a row's commands.
     fn led_by(&self, alloc: Global, row: &str) -> Result<String, Fail> {
         let Some((shown, commands)) = row.split_once(": ") else {
-            return Err(Fail::new(format_args!("no row: {row}")));
+            return Err(misread("no row", row));
         };
         let commands = format!(in alloc; "{}{commands}", self.first)?;
         match &self.texts(alloc) {
@@ -500,15 +500,22 @@ impl Starts for Stage {
     }
 }
 
+const TABLES: [&[&str]; 9] = [
+    &accepting::TABLES,
+    &completing::TABLES,
+    &faults::TABLES,
+    &inserting::TABLES,
+    &killing::TABLES,
+    &moving::TABLES,
+    &remembering::TABLES,
+    &rewording::TABLES,
+    &yanking::TABLES,
+];
+
 #[test]
 fn tables_of_commands(rt: HostRuntime) -> Result<(), Fail> {
-    tables_hold::<Stage>(rt.alloc(), &accepting::TABLES)?;
-    tables_hold::<Stage>(rt.alloc(), &completing::TABLES)?;
-    tables_hold::<Stage>(rt.alloc(), &faults::TABLES)?;
-    tables_hold::<Stage>(rt.alloc(), &inserting::TABLES)?;
-    tables_hold::<Stage>(rt.alloc(), &killing::TABLES)?;
-    tables_hold::<Stage>(rt.alloc(), &moving::TABLES)?;
-    tables_hold::<Stage>(rt.alloc(), &remembering::TABLES)?;
-    tables_hold::<Stage>(rt.alloc(), &rewording::TABLES)?;
-    tables_hold::<Stage>(rt.alloc(), &yanking::TABLES)
+    for tables in &TABLES {
+        tables_hold::<Stage>(rt.alloc(), tables)?;
+    }
+    Ok(())
 }

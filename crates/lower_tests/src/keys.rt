@@ -34,16 +34,19 @@ fn each_key_of_vi(rt: HostRuntime) -> Result<(), Fail> {
     )
 }
 
+const TABLES: [(EditMode, &[&str]); 6] = [
+    (EditMode::Emacs, &emacs::TABLES),
+    (EditMode::Emacs, &bound::TABLES),
+    (EditMode::Emacs, &modal::KEYS_QUOTED_IN_EMACS_MODE),
+    (EditMode::Vi, &vi_insert::TABLES),
+    (EditMode::Vi, &vi_command::TABLES),
+    (EditMode::Vi, &modal::MODAL_KEYS_OF_VI),
+];
+
 #[test]
 fn tables_of_keys(rt: HostRuntime) -> Result<(), Fail> {
-    plays(rt.alloc(), EditMode::Emacs, &emacs::TABLES)?;
-    plays(rt.alloc(), EditMode::Emacs, &bound::TABLES)?;
-    plays(
-        rt.alloc(),
-        EditMode::Emacs,
-        &modal::KEYS_QUOTED_IN_EMACS_MODE,
-    )?;
-    plays(rt.alloc(), EditMode::Vi, &vi_insert::TABLES)?;
-    plays(rt.alloc(), EditMode::Vi, &vi_command::TABLES)?;
-    plays(rt.alloc(), EditMode::Vi, &modal::MODAL_KEYS_OF_VI)
+    for (mode, tables) in &TABLES {
+        plays(rt.alloc(), *mode, tables)?;
+    }
+    Ok(())
 }

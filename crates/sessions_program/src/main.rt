@@ -18,6 +18,7 @@ use anyhow::Result;
 use session_rows::rows::each::told_of_each;
 use session_rows::rows::play::{Played, play};
 use session_rows::rows::refusals::{play_grown, play_refused};
+use stand_ins::tables::parted;
 use std::{env, fs, io};
 
 const FILES: [&str; 11] = [
@@ -39,7 +40,7 @@ const REFUSED: &str = "refusals.txt";
 
 /// Plays the rows of a part of a file, which begins with its settings, as they are or with each call failing in turn.
 fn play_part(rt: &HostRuntime, part: &str, failing: bool) -> Result<Played> {
-    let (settings, rows) = part.split_once('\n').unwrap_or((part, ""));
+    let (settings, rows) = parted(part, "\n");
     if failing {
         Ok(play_refused(rt.alloc(), settings, rows)?)
     } else {
@@ -65,7 +66,7 @@ fn play_file(rt: &HostRuntime, name: &str, failing: bool) -> Result<usize> {
 fn tell_each(rt: &HostRuntime) -> Result<()> {
     let text = io::read_to_string(rt.alloc(), rt.stdin())?;
     for part in text.split("\n:") {
-        let (settings, rows) = part.split_once('\n').unwrap_or((part, ""));
+        let (settings, rows) = parted(part, "\n");
         print!(rt; "{}", told_of_each(rt.alloc(), settings, rows)?)?;
     }
     Ok(())
@@ -80,7 +81,7 @@ fn play_told(rt: &HostRuntime, name: &str) -> Result<()> {
 
 /// Plays the rows of a part of a file, in which an allocation is to fail.
 fn grow_part(rt: &HostRuntime, part: &str) -> Result<()> {
-    let (settings, rows) = part.split_once('\n').unwrap_or((part, ""));
+    let (settings, rows) = parted(part, "\n");
     for row in rows.lines() {
         if row.contains(" = ") {
             let word = play_grown(rt.alloc(), settings, row);

@@ -5,8 +5,8 @@ ghost use Rattle.std.specs.Prelude.{◌≤◌};
 use crate::library::over_memory::tell_bytes;
 use crate::library::told::{lines_by_bytes, text_of_play};
 use keyline::{Ending, Options, Parsed, ReadlineError, SliceSource, VecSink, edit, parse};
-use stand_ins::rows::{Player, raised, rows_hold};
-use stand_ins::tables::{meant_bytes, pictured_bytes, shown, words_in};
+use stand_ins::rows::{Player, each_holds, raised};
+use stand_ins::tables::{meant_bytes, parted, pictured_bytes, shown, words_in};
 use std::alloc::{AllocError, Global};
 use std::test::Fail;
 
@@ -22,14 +22,14 @@ enum Ask {
 
 impl Player for Ask {
     fn play(&mut self, alloc: Global, call: &str) -> Result<String, Fail> {
-        let (line, devices) = call.split_once(" : ").unwrap_or((call, ""));
+        let (line, devices) = parted(call, " : ");
         let words: Vec<&str> = line.split_whitespace().collect(alloc)?;
         raised(answer(alloc, *self, words.as_slice(), devices))
     }
 }
 
 fn answer(alloc: Global, ask: Ask, words: &[&str], devices: &str) -> Result<String, AllocError> {
-    let (history, keys) = devices.split_once(" : ").unwrap_or((devices, ""));
+    let (history, keys) = parted(devices, " : ");
     match parse(alloc, words) {
         Parsed::Run(options) => answer_to(alloc, ask, &options, history, keys),
         _ => String::from_str(alloc, "no options"),
@@ -178,9 +178,13 @@ const TEXTS_MADE: &str = "keyline : #V2␊ : ab␍c␍ = <>
         keyline --history notes : #V2␊ : ab␍c␍ = <#V2␊ab␊c␊>
         keyline --history notes : #V2␊ : ␍ = <>";
 
+const TABLES: [(Ask, &str); 3] = [
+    (Ask::Whole, SESSIONS),
+    (Ask::ByBytes, LINES_BY_ONE_BYTE_READS),
+    (Ask::Made, TEXTS_MADE),
+];
+
 #[test]
 fn sessions_by_options(rt: HostRuntime) -> Result<(), Fail> {
-    rows_hold(rt.alloc(), &mut Ask::Whole, SESSIONS)?;
-    rows_hold(rt.alloc(), &mut Ask::ByBytes, LINES_BY_ONE_BYTE_READS)?;
-    rows_hold(rt.alloc(), &mut Ask::Made, TEXTS_MADE)
+    each_holds(rt.alloc(), &TABLES)
 }

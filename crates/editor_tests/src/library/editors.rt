@@ -6,6 +6,7 @@ use keyline::{
 };
 use session_rows::words::notation::display_meant;
 use stand_ins::rows::{Player, raised, rows_hold, trimmed};
+use stand_ins::tables::parted;
 use std::alloc::{AllocError, Global};
 use std::test::Fail;
 
@@ -69,7 +70,7 @@ impl Asking {
 
 impl Player for Asking {
     fn play(&mut self, alloc: Global, call: &str) -> Result<String, Fail> {
-        let (call, word) = call.split_once(" ").unwrap_or((call, ""));
+        let (call, word) = parted(call, " ");
         match call {
             "read" => raised(self.line(alloc, prompt_of(word))),
             "add" => raised(self.add(alloc, word)),

@@ -5,7 +5,7 @@ use keyline::prompter::Prompter;
 use keyline::{Bindings, Config, History, ReadlineError, Session, SliceSource, VecSink, laws};
 use session_rows::words::notation::{display_meant, typed};
 use stand_ins::rows::{Player, raised, rows_hold, stands, trimmed};
-use stand_ins::tables::{meant_bytes, pictured_bytes};
+use stand_ins::tables::{meant_bytes, parted, pictured_bytes};
 use std::alloc::{AllocError, Global};
 use std::test::Fail;
 
@@ -99,8 +99,8 @@ struct Asked;
 
 impl Player for Asked {
     fn play(&mut self, alloc: Global, call: &str) -> Result<String, Fail> {
-        let (words, rest) = call.split_once(" | ").unwrap_or((call, ""));
-        let (keys, shown) = rest.split_once(" | ").unwrap_or((rest, ""));
+        let (words, rest) = parted(call, " | ");
+        let (keys, shown) = parted(rest, " | ");
         let mut said = String::new(alloc);
         tell_lines(alloc, words, keys, shown, &mut said)?;
         trimmed(alloc, said.as_str())

@@ -3,7 +3,7 @@
 use keyline::over_memory::{Transcript, transcribe};
 use keyline::{Bindings, Config, ReadlineError};
 use stand_ins::rows::{Player, raised, rows_hold, stands};
-use stand_ins::tables::{meant_bytes, pictured_bytes, shown, words_in};
+use stand_ins::tables::{meant_bytes, parted, pictured_bytes, shown, words_in};
 use std::alloc::{AllocError, Global};
 use std::test::Fail;
 
@@ -13,8 +13,8 @@ struct Transcribed;
 
 impl Player for Transcribed {
     fn play(&mut self, alloc: Global, call: &str) -> Result<String, Fail> {
-        let (words, devices) = call.split_once(" : ").unwrap_or((call, ""));
-        let (history, keys) = devices.split_once(" : ").unwrap_or((devices, ""));
+        let (words, devices) = parted(call, " : ");
+        let (history, keys) = parted(devices, " : ");
         let history = meant_bytes(alloc, history)?;
         let keys = meant_bytes(alloc, keys)?;
         raised(told(alloc, &session_of(alloc, words, &history, &keys)))

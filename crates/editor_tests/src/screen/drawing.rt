@@ -7,7 +7,7 @@ use line_editor::Renderer;
 use line_help::StandardHighlighter;
 use line_screen::{ScreenRenderer, laws};
 use stand_ins::lines::line_of;
-use stand_ins::rows::{Player, raised, rows_hold, same, stands};
+use stand_ins::rows::{Player, each_holds, raised, same, stands};
 use stand_ins::sinks::FailingSink;
 use stand_ins::tables::{meant, pictured_bytes, word_and_rest};
 use std::alloc::{AllocError, Global};
@@ -367,16 +367,20 @@ fn sent(alloc: Global, call: &str) -> Result<String, ReadlineError> {
     raised(pictured_bytes(alloc, screen.into_sink().bytes()))
 }
 
+const TABLES: [(Ask, &str); 8] = [
+    (Ask::Drawing, LINES),
+    (Ask::Drawing, MARGINS),
+    (Ask::Tabs, TABS),
+    (Ask::Call, CALLS),
+    (Ask::Insertion, INSERTIONS),
+    (Ask::Rest, RESTS),
+    (Ask::FailedWrite, FAILED_WRITES),
+    (Ask::PassedOn, PASSED_ON),
+];
+
 #[test]
 fn draws_lines_and_makes_the_other_calls(rt: HostRuntime) -> Result<(), Fail> {
-    rows_hold(rt.alloc(), &mut Ask::Drawing, LINES)?;
-    rows_hold(rt.alloc(), &mut Ask::Drawing, MARGINS)?;
-    rows_hold(rt.alloc(), &mut Ask::Tabs, TABS)?;
-    rows_hold(rt.alloc(), &mut Ask::Call, CALLS)?;
-    rows_hold(rt.alloc(), &mut Ask::Insertion, INSERTIONS)?;
-    rows_hold(rt.alloc(), &mut Ask::Rest, RESTS)?;
-    rows_hold(rt.alloc(), &mut Ask::FailedWrite, FAILED_WRITES)?;
-    rows_hold(rt.alloc(), &mut Ask::PassedOn, PASSED_ON)?;
+    each_holds(rt.alloc(), &TABLES)?;
     stands(a_size_is_kept(rt.alloc()), "a renderer of another size")
 }
 

@@ -6,8 +6,8 @@ use line_keys::{Cmd, KeyCode, KeyEvent, Modifiers, RawReader};
 use line_screen::KeyReader;
 use stand_ins::key_names::write_key;
 use stand_ins::reader_calls::tell_call;
-use stand_ins::rows::{Player, raised, rows_hold, same};
-use stand_ins::tables::{meant_bytes, pictured, pictured_bytes, word_and_rest};
+use stand_ins::rows::{Player, each_holds, raised, same};
+use stand_ins::tables::{meant_bytes, parted, pictured, pictured_bytes, word_and_rest};
 use std::alloc::{AllocError, Global};
 use std::test::Fail;
 
@@ -240,14 +240,18 @@ const TEXTS: &str = "
     both ␛[200~a␊b␛[201~␍c␛[200~d␛[201~ = PasteStart text:a␊b Enter c PasteStart text:d Eof
 ";
 
+const TABLES: [(Ask, &str); 6] = [
+    (Ask::Keys, KEYS),
+    (Ask::Keys, NO_CHARACTERS),
+    (Ask::Texts, TEXTS),
+    (Ask::CutText, CUT_TEXTS),
+    (Ask::Character, CHARACTERS),
+    (Ask::Calls, CALLS),
+];
+
 #[test]
 fn bytes_read_as_keys_and_texts(rt: HostRuntime) -> Result<(), Fail> {
-    rows_hold(rt.alloc(), &mut Ask::Keys, KEYS)?;
-    rows_hold(rt.alloc(), &mut Ask::Keys, NO_CHARACTERS)?;
-    rows_hold(rt.alloc(), &mut Ask::Texts, TEXTS)?;
-    rows_hold(rt.alloc(), &mut Ask::CutText, CUT_TEXTS)?;
-    rows_hold(rt.alloc(), &mut Ask::Character, CHARACTERS)?;
-    rows_hold(rt.alloc(), &mut Ask::Calls, CALLS)
+    each_holds(rt.alloc(), &TABLES)
 }
 
 // How many bytes of a text there are, and what they are read as if they end and if the source
@@ -446,7 +450,7 @@ fn tell_called(
 // The answers of a row's calls.
 fn calls_told(alloc: Global, call: &str) -> Result<String, AllocError> {
     let (mode, call) = word_and_rest(call);
-    let (bytes, calls) = call.split_once(" : ").unwrap_or((call, ""));
+    let (bytes, calls) = parted(call, " : ");
     let bytes = meant_bytes(alloc, bytes)?;
     let mode = match mode {
         "vi" => EditMode::Vi,

@@ -2,7 +2,7 @@
 
 use crate::screen::reading::{read_as, read_in_both_modes, read_until_a_failure};
 use line_config::EditMode;
-use stand_ins::rows::{Player, raised, rows_hold};
+use stand_ins::rows::{Player, each_holds, raised};
 use stand_ins::tables::{meant_bytes, word_and_rest};
 use std::alloc::{AllocError, Global};
 use std::test::Fail;
@@ -128,17 +128,16 @@ const MODIFIED: &str = "
     ␛[24;@~     = F12
 ";
 
-/// Reads sequences with a number in place of `@`, each a key with a prefix.
-#[derive(Drop)]
-struct Sequences {
-    number: &'static str,
-    prefix: &'static str,
-}
+/// Reads sequences with a number in place of `@`, each a key with a prefix: the number and the
+/// prefix.
+#[derive(Clone, Copy, Drop)]
+struct Sequences(&'static str, &'static str);
 
 impl Player for Sequences {
     fn play(&mut self, alloc: Global, sequence: &str) -> Result<String, Fail> {
-        let sequence = sequence.replace(alloc, "@", self.number)?;
-        raised(key_told(alloc, sequence.as_str(), self.prefix))
+        let Sequences(number, prefix) = *self;
+        let sequence = sequence.replace(alloc, "@", number)?;
+        raised(key_told(alloc, sequence.as_str(), prefix))
     }
 }
 
@@ -170,28 +169,23 @@ fn all_cut_off(alloc: Global, bytes: &[u8]) -> Result<bool, AllocError> {
     Ok(true)
 }
 
-// Reads the sequences in both modes: whole, one byte per read, and cut after each byte by the end
-// and by a failure.
-fn each_key(
-    alloc: Global,
-    table: &str,
-    number: &'static str,
-    prefix: &'static str,
-) -> Result<(), Fail> {
-    rows_hold(alloc, &mut Sequences { number, prefix }, table)
-}
+// The sequences are read in both modes: whole, one byte per read, and cut after each byte by the
+// end and by a failure.
+const TABLES: [(Sequences, &str); 9] = [
+    (Sequences("", ""), PLAIN),
+    (Sequences("", ""), NAMELESS),
+    (Sequences("2", "S-"), MODIFIED),
+    (Sequences("3", "A-"), MODIFIED),
+    (Sequences("4", "A-S-"), MODIFIED),
+    (Sequences("5", "C-"), MODIFIED),
+    (Sequences("6", "C-S-"), MODIFIED),
+    (Sequences("7", "C-A-"), MODIFIED),
+    (Sequences("8", "C-A-S-"), MODIFIED),
+];
 
 #[test]
 fn sequences_have_their_keys(rt: HostRuntime) -> Result<(), Fail> {
-    each_key(rt.alloc(), PLAIN, "", "")?;
-    each_key(rt.alloc(), NAMELESS, "", "")?;
-    each_key(rt.alloc(), MODIFIED, "2", "S-")?;
-    each_key(rt.alloc(), MODIFIED, "3", "A-")?;
-    each_key(rt.alloc(), MODIFIED, "4", "A-S-")?;
-    each_key(rt.alloc(), MODIFIED, "5", "C-")?;
-    each_key(rt.alloc(), MODIFIED, "6", "C-S-")?;
-    each_key(rt.alloc(), MODIFIED, "7", "C-A-")?;
-    each_key(rt.alloc(), MODIFIED, "8", "C-A-S-")
+    each_holds(rt.alloc(), &TABLES)
 }
 
 // The result of each byte after ESC [: the first and the last byte of a row.
@@ -233,7 +227,7 @@ const INTERMEDIATE: &str = "
 ";
 
 /// Reads each byte of a row's range after the same bytes.
-#[derive(Drop)]
+#[derive(Clone, Copy, Drop)]
 struct After {
     front: &'static str,
 }
@@ -268,14 +262,14 @@ impl Player for After {
     }
 }
 
-fn each_byte(alloc: Global, front: &'static str, table: &str) -> Result<(), Fail> {
-    rows_hold(alloc, &mut After { front }, table)
-}
+const IN_A_FINALS_PLACE: [(After, &str); 4] = [
+    (After { front: "␛[" }, FIRST),
+    (After { front: "␛[1" }, PARAMETER),
+    (After { front: "␛[1 " }, INTERMEDIATE),
+    (After { front: "␛[ " }, INTERMEDIATE),
+];
 
 #[test]
 fn any_byte_in_a_finals_place(rt: HostRuntime) -> Result<(), Fail> {
-    each_byte(rt.alloc(), "␛[", FIRST)?;
-    each_byte(rt.alloc(), "␛[1", PARAMETER)?;
-    each_byte(rt.alloc(), "␛[1 ", INTERMEDIATE)?;
-    each_byte(rt.alloc(), "␛[ ", INTERMEDIATE)
+    each_holds(rt.alloc(), &IN_A_FINALS_PLACE)
 }

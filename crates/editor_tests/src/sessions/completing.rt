@@ -10,7 +10,7 @@ use keyline::{
 };
 use session_rows::rows::play::Left;
 use stand_ins::rows::{Player, raised, rows_hold};
-use stand_ins::tables::meant_bytes;
+use stand_ins::tables::{meant_bytes, parted};
 use std::alloc::Global;
 use std::test::Fail;
 
@@ -79,7 +79,7 @@ struct Typed;
 
 impl Player for Typed {
     fn play(&mut self, alloc: Global, call: &str) -> Result<String, Fail> {
-        let (keys, shown) = call.split_once(" | ").unwrap_or((call, ""));
+        let (keys, shown) = parted(call, " | ");
         let left = left_of(alloc, &meant_bytes(alloc, keys)?)?;
         if shown.is_empty() {
             return raised(ending_and_lines(alloc, left.ending, &left.lines));

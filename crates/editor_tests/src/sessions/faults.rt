@@ -11,7 +11,7 @@ use session_rows::words::notation::{display_meant, field, setting_of};
 use stand_ins::rows::{Player, raised, rows_hold, stands};
 use stand_ins::sinks::FailingSink;
 use stand_ins::sources::Faltering;
-use stand_ins::tables::{meant, word_and_rest};
+use stand_ins::tables::{meant, parted, word_and_rest};
 use std::alloc::{AllocError, Global};
 use std::test::Fail;
 
@@ -25,7 +25,7 @@ struct Cut {
 impl Cut {
     /// Types a row's key: its drawing comes after the bar.
     fn type_key(&mut self, alloc: Global, row: &str) -> Result<(), AllocError> {
-        let (key, drawn) = row.split_once(" | ").unwrap_or((row, ""));
+        let (key, drawn) = parted(row, " | ");
         let key = meant(alloc, field(key))?;
         self.keys.push_str(key.as_str())?;
         self.shown.push_str(field(drawn))

@@ -9,6 +9,7 @@ use session_rows::rows::play::{ended, left_of};
 use session_rows::words::notation::display_meant;
 use stand_ins::devices::{Log, LoggedReader, LoggedWriter, Pieces, Turns};
 use stand_ins::rows::{Player, raised, rows_hold, stands};
+use stand_ins::tables::parted;
 use std::alloc::{AllocError, Global};
 use std::cell::{Cell, RefCell};
 use std::test::Fail;
@@ -19,7 +20,7 @@ struct Reading;
 
 impl Player for Reading {
     fn play(&mut self, alloc: Global, call: &str) -> Result<String, Fail> {
-        let (turns, shown) = call.split_once(" | ").unwrap_or((call, ""));
+        let (turns, shown) = parted(call, " | ");
         let calls = Cell::new(0);
         let reader = Pieces {
             bytes: b"ac\x1B[Db\rd\r",

@@ -9,7 +9,7 @@ use line_help::{
     ValidationResult, Validator, check_bracket, find_matching_bracket, validate_brackets,
 };
 use line_keys::CmdKind;
-use stand_ins::rows::{Player, raised, rows_hold};
+use stand_ins::rows::{Player, each_holds, raised, rows_hold};
 use stand_ins::tables::{line_and_place, marked, meant, named, word_and_rest};
 use std::alloc::{AllocError, Global};
 use std::borrow::CowStr;
@@ -262,14 +262,17 @@ pub(crate) fn validated(alloc: Global, judge: &Judge, text: &str) -> Result<Stri
     verdict_told(alloc, found_of(alloc, judge, text.as_str()))
 }
 
+const TABLES: [(Ask, &str); 5] = [
+    (Ask::Match, MATCHES),
+    (Ask::AtTheCursor, AT_THE_CURSOR),
+    (Ask::Verdict(Judge::Function), VERDICTS),
+    (Ask::Verdict(Judge::Validator), VERDICTS),
+    (Ask::Verdict(Judge::NoValidator), "    ( = valid"),
+];
+
 #[test]
 fn brackets_matched_and_texts_validated(rt: HostRuntime) -> Result<(), Fail> {
-    rows_hold(rt.alloc(), &mut Ask::Match, MATCHES)?;
-    rows_hold(rt.alloc(), &mut Ask::AtTheCursor, AT_THE_CURSOR)?;
-    rows_hold(rt.alloc(), &mut Ask::Verdict(Judge::Function), VERDICTS)?;
-    rows_hold(rt.alloc(), &mut Ask::Verdict(Judge::Validator), VERDICTS)?;
-    let mut none = Ask::Verdict(Judge::NoValidator);
-    rows_hold(rt.alloc(), &mut none, "    ( = valid")
+    each_holds(rt.alloc(), &TABLES)
 }
 
 pub(crate) fn validators_ask_for_the_line_alone() -> bool {

@@ -4,7 +4,7 @@ use crate::help::asks::Try;
 use crate::help::history::{add_lines, load_told, told_with_entries, with_lines};
 use line_config::{Config, ReadlineError, Sink, SliceSource, Source, VecSink};
 use line_help::{FileHistory, History};
-use stand_ins::rows::{Player, raised, rows_hold, same};
+use stand_ins::rows::{Player, each_holds, raised, rows_hold, same};
 use stand_ins::sinks::FailingSink;
 use stand_ins::tables::{meant_bytes, or_nothing, pictured_bytes, word_and_rest};
 use std::alloc::{AllocError, Global};
@@ -207,11 +207,15 @@ pub(crate) fn room_told(alloc: Global, way: &Way, room: &str) -> Result<String, 
     raised(with_room(alloc, way, &mut history, room))
 }
 
+const TABLES: [(Try, &str); 3] = [
+    (Try::CutTexts, CUT_TEXTS),
+    (Try::Room(Way::Save), SAVES),
+    (Try::Room(Way::Append), ADDITIONS),
+];
+
 #[test]
 fn sources_and_sinks_that_fail_at_each_byte(rt: HostRuntime) -> Result<(), Fail> {
-    rows_hold(rt.alloc(), &mut Try::CutTexts, CUT_TEXTS)?;
-    rows_hold(rt.alloc(), &mut Try::Room(Way::Save), SAVES)?;
-    rows_hold(rt.alloc(), &mut Try::Room(Way::Append), ADDITIONS)
+    each_holds(rt.alloc(), &TABLES)
 }
 
 // Whether a history without entries has nothing to write to a sink.

@@ -12,7 +12,7 @@ use stand_ins::key_names::{key_named, write_key};
 use stand_ins::reader_calls::tell_call;
 use stand_ins::readers::{After, KeyList};
 use stand_ins::refreshers::PlainLine;
-use stand_ins::rows::{Player, raised, rows_hold, same, trimmed};
+use stand_ins::rows::{Player, each_holds, raised, rows_hold, same, trimmed};
 use stand_ins::tables::{meant, parted, shown, word_and_rest};
 use stand_ins::typing::{command_of, event, typed};
 use std::alloc::{AllocError, Global};
@@ -129,14 +129,18 @@ fn bindings_call_by_call(rt: HostRuntime) -> Result<(), Fail> {
     binds(rt.alloc(), SIX_KEYS)
 }
 
+const TABLES: [(Ask, &str); 6] = [
+    (Ask::Form, KEYS_HAVE_ONE_FORM),
+    (Ask::Printed, KEYS_PRINT_THEIR_NAMES),
+    (Ask::Named, NAMES_ARE_KEYS),
+    (Ask::MadeAnew, COMMANDS_ARE_MADE_ANEW),
+    (Ask::Reader, READERS_CALL_BY_CALL),
+    (Ask::Signal, A_READER_KNOWS_SIGNALS),
+];
+
 #[test]
 fn keys_commands_and_readers(rt: HostRuntime) -> Result<(), Fail> {
-    rows_hold(rt.alloc(), &mut Ask::Form, KEYS_HAVE_ONE_FORM)?;
-    rows_hold(rt.alloc(), &mut Ask::Printed, KEYS_PRINT_THEIR_NAMES)?;
-    rows_hold(rt.alloc(), &mut Ask::Named, NAMES_ARE_KEYS)?;
-    rows_hold(rt.alloc(), &mut Ask::MadeAnew, COMMANDS_ARE_MADE_ANEW)?;
-    rows_hold(rt.alloc(), &mut Ask::Reader, READERS_CALL_BY_CALL)?;
-    rows_hold(rt.alloc(), &mut Ask::Signal, A_READER_KNOWS_SIGNALS)
+    each_holds(rt.alloc(), &TABLES)
 }
 
 /// The calls of a table's rows.

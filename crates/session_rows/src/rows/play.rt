@@ -110,11 +110,11 @@ fn begun_with(alloc: Global, setting: &Setting<'_>) -> Result<Begun, ReadlineErr
 
 /// A session to its ending, by `read_line` and `finish`. Each returned line is appended to
 /// `handed`.
-fn asked<H: Helper, S: Source + Drop, D: Sink + Drop, L: Sink + Drop, T: Sink + Drop, B: Decides>(
-    session: Session<S, H, D, L, T, B>,
+fn asked<H: Helper, S: Source + Drop, D: Sink + Drop, T: Sink + Drop, B: Decides>(
+    session: Session<S, H, D, D, T, B>,
     prompt: &str,
     handed: &mut Vec<u8>,
-) -> Result<Ended<S, D, L, T>, AllocError>
+) -> Result<Ended<S, D, D, T>, AllocError>
 where
     H: Drop,
 {
@@ -145,24 +145,25 @@ fn put_line(lines: &mut Vec<u8>, line: &str) -> Result<Option<ReadlineError>, Al
     Ok(None)
 }
 
-/// A session with a helper over these devices, run to its ending; or why none was opened.
-fn ended_with<H: Helper, S: Source + Drop, D: Sink + Drop, L: Sink + Drop, T: Sink + Drop>(
+/// A session with a helper over these devices, run to its ending; or why none was opened. (A type
+/// for each of the three sinks costs the prover more.)
+fn ended_with<H: Helper, S: Source + Drop, D: Sink + Drop, T: Sink + Drop>(
     alloc: Global,
     setting: &Setting<'_>,
-    opening: Opening,
+    opening: &Opening,
     keyed: Keyed,
     helper: Option<H>,
     source: S,
     display: D,
-    lines: L,
+    lines: D,
     text: T,
     handed: &mut Vec<u8>,
-) -> Result<Ended<S, D, L, T>, ReadlineError>
+) -> Result<Ended<S, D, D, T>, ReadlineError>
 where
     H: Drop,
     requires source { (S.feed source).failed ≡ false }
     requires display { D.has_failed display ≡ false }
-    requires lines { L.has_failed lines ≡ false }
+    requires lines { D.has_failed lines ≡ false }
     requires text { T.has_failed text ≡ false }
 {
     // Handlers are boxed here: a function that returned them could promise nothing about them.
@@ -197,18 +198,18 @@ where
 
 /// A session over these devices, to its ending, and the lines that it returned; or why none was
 /// opened.
-fn handed_back<S: Source + Drop, D: Sink + Drop, L: Sink + Drop, T: Sink + Drop>(
+fn handed_back<S: Source + Drop, D: Sink + Drop, T: Sink + Drop>(
     alloc: Global,
     setting: &Setting<'_>,
     source: S,
     display: D,
-    lines: L,
+    lines: D,
     text: T,
     handed: &mut Vec<u8>,
-) -> Result<Ended<S, D, L, T>, ReadlineError>
+) -> Result<Ended<S, D, D, T>, ReadlineError>
     requires source { (S.feed source).failed ≡ false }
     requires display { D.has_failed display ≡ false }
-    requires lines { L.has_failed lines ≡ false }
+    requires lines { D.has_failed lines ≡ false }
     requires text { T.has_failed text ≡ false }
 {
     let Begun {
@@ -220,26 +221,26 @@ fn handed_back<S: Source + Drop, D: Sink + Drop, L: Sink + Drop, T: Sink + Drop>
     if setting.advised {
         let aide = Some(advice.adviser(setting.all));
         return ended_with(
-            alloc, setting, opening, keyed, aide, source, display, lines, text, handed,
+            alloc, setting, &opening, keyed, aide, source, display, lines, text, handed,
         );
     }
     ended_with(
-        alloc, setting, opening, keyed, aide, source, display, lines, text, handed,
+        alloc, setting, &opening, keyed, aide, source, display, lines, text, handed,
     )
 }
 
 /// A session over these devices, to its ending; or why none was opened.
-pub fn ended<S: Source + Drop, D: Sink + Drop, L: Sink + Drop, T: Sink + Drop>(
+pub fn ended<S: Source + Drop, D: Sink + Drop, T: Sink + Drop>(
     alloc: Global,
     setting: &Setting<'_>,
     source: S,
     display: D,
-    lines: L,
+    lines: D,
     text: T,
-) -> Result<Ended<S, D, L, T>, ReadlineError>
+) -> Result<Ended<S, D, D, T>, ReadlineError>
     requires source { (S.feed source).failed ≡ false }
     requires display { D.has_failed display ≡ false }
-    requires lines { L.has_failed lines ≡ false }
+    requires lines { D.has_failed lines ≡ false }
     requires text { T.has_failed text ≡ false }
 {
     let mut handed = Vec::new(alloc);
