@@ -1,22 +1,18 @@
 -- What is told of rows, row by row.
-use Rattle.std.proofs.Common.{◌≡◌, ℕ, suc, ◌+◌, ◌≤◌, Bool, true, false, List, [], ◌∷◌, ◌++◌, length, take, drop, map, refl, sym, ap, ◌∙◌, arith, append_assoc, append-nil, length-append, take-append-drop, IsUtf8, chars, take_while, encode_utf8, encode_utf8_all}
+use Rattle.std.proofs.Common.{◌≡◌, ℕ, suc, ◌+◌, ◌≤◌, Bool, true, false, List, [], ◌∷◌, ◌++◌, length, take, drop, map, refl, sym, ap, ◌∙◌, arith, append_assoc, append-nil, length-append, take-append-drop, IsUtf8, chars, take_while, encode_utf8_all}
 use Rattle.std.proofs.Math.Seq.{take-append_seam, drop-append-add}
 use Rattle.std.specs.Char.{is_whitespace}
 use Rattle.std.specs.List.{prefix_len}
 use Rattle.std.proofs.lemmas.List.{length-drop, drop-append-le}
-use Rattle.std.proofs.lemmas.Str.{encodes-chars}
+use Rattle.std.proofs.lemmas.Str.{encodes-append, encodes-chars}
 use Rattle.line_buffer.specs.Indent.{front_whitespace, row_event, row_len, row_events}
 use Rattle.line_buffer.specs.Laws.{row_text, row_after_indent, RowsGetTheirMargin}
 use Rattle.line_buffer.specs.Replay.{text_after_event, text_after_events}
 
-encoded-append : (xs ys : List ℕ) → encode_utf8_all (xs ++ ys) ≡ encode_utf8_all xs ++ encode_utf8_all ys
-encoded-append [] ys = refl
-encoded-append (x ∷ xs) ys = ap (λ bs. encode_utf8 x ++ bs) (encoded-append xs ys) ∙ sym (append_assoc (encode_utf8 x) (encode_utf8_all xs) (encode_utf8_all ys))
-
 -- a prefix of a text's characters is no longer than the text
 beginning_short : (row front back : List ℕ) → IsUtf8 row → chars row ≡ front ++ back → length (encode_utf8_all front) ≤ length row
 beginning_short row front back u e =
-    let whole : row ≡ encode_utf8_all front ++ encode_utf8_all back = sym (encodes-chars row u) ∙ ap encode_utf8_all e ∙ encoded-append front back in
+    let whole : row ≡ encode_utf8_all front ++ encode_utf8_all back = sym (encodes-chars row u) ∙ ap encode_utf8_all e ∙ encodes-append front back in
     omega (arith, ap length whole, length-append (encode_utf8_all front) (encode_utf8_all back))
 
 leading_short : (count : ℕ) (row : List ℕ) → IsUtf8 row → length (front_whitespace count row) ≤ length row
