@@ -35,7 +35,7 @@ FILE = re.compile(r"`((?:answers|bench|crates|docs|tests)/[\w./-]+\.\w+)`")
 LEFT_OUT = re.compile(r"\n[ ]*(?://|--) \.\.\n")
 
 # The longest sentence of a document, and the longest promise, in words; and the most bytes of docs/.
-LONGEST_SENTENCE, LONGEST_PROMISE = 40, 30
+LONGEST_SENTENCE, LONGEST_PROMISE = 30, 30
 MOST_BYTES = 200 * 1024
 
 

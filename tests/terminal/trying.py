@@ -21,18 +21,27 @@ FAILS = "#!/bin/sh\necho 'no such function'\nexit 1\n"
 SAID = b"building small without proofs, which takes about a minute\n"
 
 
+def path_with(folder, stand_in):
+    """PATH with this `rt` before any other; without one, with python3 alone."""
+    commands = os.path.join(folder, "bin")
+    os.mkdir(commands)
+    if stand_in is None:
+        os.symlink(sys.executable, os.path.join(commands, "python3"))
+        return commands
+    rt = os.path.join(commands, "rt")
+    with open(rt, "w", encoding="utf-8") as it:
+        it.write(stand_in)
+    os.chmod(rt, 0o755)
+    return f"{commands}:{os.environ['PATH']}"
+
+
 def tried(stand_in, words, keys=b""):
     """Runs a copy of the script in a folder of its own, which has one crate. Answers what came of it, and what is left."""
     with tempfile.TemporaryDirectory() as folder:
         script = shutil.copy(os.path.join(TOP, "try_on_terminal"), folder)
         shutil.copy(ON_TERMINAL, folder)
         os.makedirs(os.path.join(folder, "crates", "small"))
-        rt = os.path.join(folder, "bin", "rt")
-        os.mkdir(os.path.dirname(rt))
-        with open(rt, "w", encoding="utf-8") as it:
-            it.write(stand_in)
-        os.chmod(rt, 0o755)
-        path = f"{os.path.dirname(rt)}:{os.environ['PATH']}"
+        path = path_with(folder, stand_in)
         ran = subprocess.run([script, *words], input=keys, capture_output=True, timeout=HUNG, env={**os.environ, "PATH": path})
         build = os.path.join(folder, "build")
         return ran, sorted(os.listdir(build)) if os.path.isdir(build) else None
@@ -66,5 +75,13 @@ def a_crate_has_to_be_named():
         same("what is left", left, None)
 
 
+def without_the_toolchain_the_readme_is_named():
+    ran, left = tried(None, ["small"])
+    same("whether the toolchain is named", b"Rattle toolchain is not on PATH; README.md" in ran.stderr, True)
+    same("status", ran.returncode, 127)
+    same("what is left", left, None)
+
+
 if __name__ == "__main__":
-    run_all([the_program_is_caught_and_run, arguments_are_passed_on, what_rt_says_is_told, a_crate_has_to_be_named])
+    run_all([the_program_is_caught_and_run, arguments_are_passed_on, what_rt_says_is_told, a_crate_has_to_be_named,
+             without_the_toolchain_the_readme_is_named])

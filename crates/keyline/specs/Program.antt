@@ -57,7 +57,7 @@ config_of options = record standard_config {
   keyseq_timeout = timeout_of options.mode;
 }
 
--- the same, and what the default profile leaves out if it is on
+-- the same, and with `extended` what is off by default
 abbrev pub profile_of : Bool → Config → Config
 profile_of extended config = record config {
   modal_commands = extended;

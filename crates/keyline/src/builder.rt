@@ -145,7 +145,7 @@ pub fn builder_over<'p, K: Foretold<R>, R: Read + Drop, E: Write + Drop>(
 /// These are the number in the environment variable `COLUMNS`, in decimal digits, 2 to 1,000; 80 if
 /// it is not set or is anything else.
 ///
-/// Its settings turn on what the default profile leaves out: the commands that go on over several
+/// Its settings turn on what is off by default: the commands that go on over several
 /// keys, such as the search through the history, tabs drawn as blanks, and the styles of the
 /// helper. There are no styles if the environment variable `NO_COLOR` is set and isn't empty.
 ///

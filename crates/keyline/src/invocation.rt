@@ -1,4 +1,4 @@
-//! The program's invocation: its options, and whether it has more than the default profile.
+//! The program's invocation: its options, and whether what is off by default is turned on.
 
 ghost use Rattle.std.specs.Prelude.{◌≡◌, true, IfErr, IfOk, IfSome, ◌<◌, ◌++◌, length, map, position, remove};
 ghost use Rattle.keyline.specs.Invocations.{InvokesTo, IsAnswer, IsStyled, decides, place_of_extended, place_of_extended_in, for_options};
@@ -9,13 +9,13 @@ use line_help::split_styles;
 use std::alloc::{AllocError, Global};
 use std::convert::AsStr;
 
-/// How the program is to run, and by which profile.
+/// How the program is to run.
 #[derive(Debug, Drop)]
 pub struct Invocation {
     /// The options. With `extended` the prompt is without its control sequences, and has the styles
     /// that they mean.
     pub options: Options,
-    /// Whether that is turned on which the default profile leaves out.
+    /// Whether what is off by default is turned on.
     pub extended: bool,
 }
 

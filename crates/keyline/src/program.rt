@@ -41,8 +41,8 @@ pub fn invoked_config(invocation: &Invocation) -> Config
     with_profile(config_of(&invocation.options), invocation.extended)
 }
 
-/// The same settings, and what the default profile leaves out if it is on: the commands that go on
-/// over several keys, colours, tabs drawn as blanks, and drawings in part.
+/// The same settings, and with `extended` what is off by default: the commands that go on over
+/// several keys, colours, tabs drawn as blanks, and drawings in part.
 pub(crate) fn with_profile(config: Config, extended: bool) -> Config
     ensures { result ≡ profile_of extended config }
 {

@@ -106,7 +106,7 @@ fn fill(file: &mut File, old: Option<&Metadata>, text: &[u8]) -> io::Result<()> 
     file.sync_all()
 }
 
-/// Gives a file the owner and the group of another, where the program may.
+/// Gives a file the owner and the group of another, if the program may.
 fn keep_owner(file: &File, old: &Metadata) {
     let _ = fchown(file, None, Some(old.gid()));
     let _ = fchown(file, Some(old.uid()), None);

@@ -22,16 +22,16 @@ use std::io::{ErrorKind, IsTerminal, Stderr, Stdin, Stdout};
 use std::marker::Brand;
 use std::process::ExitCode;
 
-/// What `--version` prints, also ./keyline before it has built the program.
+/// What `--version` prints.
 const VERSION: &str = "keyline 0.2.0";
 
-/// The status where words are no command line.
+/// The status if the arguments are no command line.
 const USAGE: u8 = 2;
 
-/// The status where a history doesn't load.
+/// The status if the history doesn't load.
 const NO_HISTORY: u8 = 5;
 
-/// The status where words don't load.
+/// The status if the words don't load.
 const NO_WORDS: u8 = 6;
 
 /// What a terminal is sent before the words at a fault, so that they have a row of their own: a new
@@ -184,7 +184,7 @@ fn not_loaded(rt: &HostRuntime, what: &str, status: u8) -> ExitCode {
     ExitCode::from(status)
 }
 
-/// Says how the session ended, where that was a fault.
+/// Prints how the session ended, if that was a fault.
 fn ended(rt: &HostRuntime, ending: Ending) -> ExitCode {
     if !matches!(ending, Ending::Eof | Ending::Interrupted) {
         let before = if rt.stderr().is_terminal() {

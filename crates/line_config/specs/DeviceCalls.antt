@@ -69,11 +69,9 @@ IsReadFailure call = ⊥
 
 -- a write that failed or took nothing, or a flush that failed
 abbrev pub IsWriteFailure : DeviceCall → Type 0
-IsWriteFailure (Moves (Ok [])) = ⊤
 IsWriteFailure (Moves (Ok (byte ∷ bytes))) = ⊥
-IsWriteFailure (Moves (Err kind)) = ⊤
 IsWriteFailure (Flushes (Ok x)) = ⊥
-IsWriteFailure (Flushes (Err kind)) = ⊤
+IsWriteFailure call = ⊤
 
 abbrev pub IsFlush : DeviceCall → Type 0
 IsFlush call = call ≡ Flushes (Ok tt)

@@ -1,8 +1,8 @@
 -- What can be said of a reader beforehand.
 use Rattle.std.specs.Prelude.{◌≡◌, ℕ, IsTrue, List, [], ◌∷◌, ◌++◌, Option, Some, None, refl, unwrap_or}
-use Rattle.std.proofs.Common.{ap, sym, ◌∙◌, arith}
+use Rattle.std.proofs.Common.{ap, ◌∙◌, arith}
 use Rattle.std.specs.Io.KnownBytes.{Consumes, IsAtEnd}
-use Rattle.line_config.specs.Foretold.{rest_after_given, agrees, works, AnyCanBeSaid, OwnBytesCanBeSaid, EndsAsSaid, Meets, own_told, agrees_as_said}
+use Rattle.line_config.specs.Foretold.{rest_after_given, agrees, works, AnyCanBeSaid, OwnBytesCanBeSaid, EndsAsSaid, own_told, agrees_as_said}
 use Rattle.line_config.specs.declared.device.Last.{Last}
 use Rattle.line_config.specs.declared.device.Last.TheVariants.{End, Failed}
 
@@ -22,24 +22,18 @@ left_before all [] bytes left is = ap Some (left_front all bytes left is)
 left_before [] (b ∷ given) bytes left is = absurd (cc)
 left_before (a ∷ all) (b ∷ given) bytes left is = grind (arith, left_before all given bytes left)
 
--- if what was read agrees, the rest is known, and empty once the end or a failure was met
-left_where : (left : Option (List ℕ)) (last : Last) (met : Option Last)
-    → IsTrue (agrees left last met) → (l : List ℕ) × (left ≡ Some l)
-left_where None last met is = absurd (cc)
-left_where (Some l) last met is = (l, refl)
-
 none_where : (l : List ℕ) (last x : Last) → IsTrue (agrees (Some l) last (Some x))
     → (l ≡ []) × (x ≡ last)
 none_where [] End End is = (refl, refl)
 none_where [] Failed Failed is = (refl, refl)
-none_where [] End Failed is = absurd (cc)
-none_where [] Failed End is = absurd (cc)
-none_where (b ∷ l) last x is = absurd (cc)
+none_where l last x is = absurd (cc)
 
-so_met : (left : Option (List ℕ)) (l : List ℕ) (last : Last) (met : Option Last) (x : Last)
-    → left ≡ Some l → met ≡ Some x → IsTrue (agrees left last met) → (l ≡ []) × (x ≡ last)
-so_met left l last met x is-left is-met t =
-    none_where l last x (let u : IsTrue (agrees (Some l) last (Some x)) = rw (is-left, is-met) at t in u)
+-- if what was read agrees, the rest is known, and empty once the end or a failure was met
+rest_where : (left : Option (List ℕ)) (last : Last) (met : Option Last)
+    → IsTrue (agrees left last met) → (l : List ℕ) × (left ≡ Some l)
+    × ((x : Last) → met ≡ Some x → (l ≡ []) × (x ≡ last))
+rest_where None last met is = absurd (cc)
+rest_where (Some l) last met is = (l, refl, λ x e. none_where l last x (rw e at is))
 
 -- what agrees after some more bytes agreed before them, and these were the next ones
 said_before : (all given more l : List ℕ) (last : Last) → rest_after_given all (given ++ more)
@@ -52,13 +46,13 @@ said_before all given more l last is =
 
 pub any_said : {R : Type 0} (remaining : R → Option (List ℕ)) → AnyCanBeSaid remaining
 any_said remaining all last old new given more met consumed meets t =
-    let l = left_where (rest_after_given all (given ++ more)) last met t in
+    let l = rest_where (rest_after_given all (given ++ more)) last met t in
     let before = said_before all given more l.0 last l.1 in
     record {
       told_before = before.0;
       coming = before.1;
       spent = λ x is.
-          let so = so_met _ l.0 last met x l.1 is t in
+          let so = l.2 x is in
           (ap (λ left. unwrap_or left []) l.1 ∙ so.0, so.1);
     }
 
@@ -70,8 +64,7 @@ at_end met Failed is t = let u : IsTrue (works (Some Failed)) = rw is at t in ab
 pub said_ends : {R : Type 0} (all : List ℕ) (last : Last)
     → EndsAsSaid (agrees_as_said {R = R} all last) last
 said_ends all last r given met t =
-    let l = left_where (rest_after_given all given) last (Some met) t in
-    (so_met _ l.0 last (Some met) met l.1 refl t).1
+    ((rest_where (rest_after_given all given) last (Some met) t).2 met refl).1
 
 pub own_ends : {R : Type 0} → EndsAsSaid (own_told {R = R}) End
 own_ends r given met t = at_end (Some met) met refl t

@@ -65,7 +65,7 @@ impl Builder {
         self
     }
 
-    /// Sets whether the first Tab lists all candidates, under `modal_commands`.
+    /// Sets whether the first Tab that adds nothing lists the candidates, under `modal_commands`.
     pub fn completion_show_all_if_ambiguous(mut self, yes: bool) -> Self
         ensures { result ≡ builder_of
             (record self.config { completion_show_all_if_ambiguous = yes }) }

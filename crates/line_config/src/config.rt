@@ -73,7 +73,7 @@ impl Config {
         self.completion_type
     }
 
-    /// Whether the first Tab lists all candidates, under `modal_commands`.
+    /// Whether the first Tab that adds nothing lists the candidates, under `modal_commands`.
     pub fn completion_show_all_if_ambiguous(&self) -> bool
         ensures { result ≡ self.now.completion_show_all_if_ambiguous }
     {

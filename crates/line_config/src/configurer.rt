@@ -61,7 +61,7 @@ pub trait Configurer {
         self.config_mut().completion_type = completion_type;
     }
 
-    /// Sets whether the first Tab lists all candidates, under `modal_commands`.
+    /// Sets whether the first Tab that adds nothing lists the candidates, under `modal_commands`.
     fn set_completion_show_all_if_ambiguous(&mut self, yes: bool)
         ensures { Sets settings with_settings
             (λ c. record c { completion_show_all_if_ambiguous = yes }) self.old self.new }

@@ -18,7 +18,7 @@ use Rattle.line_help.specs.declared.history as histories
 use Rattle.line_keys.specs.declared.command.CmdKind.TheVariants.{Other}
 use Rattle.line_editor.specs.Accepting.{verdict, verdict_by, group_and_verdict_effect, verdict_effect, validate_by, validate}
 use Rattle.line_editor.specs.RenderCalls.{MadeIn}
-use Rattle.line_editor.specs.Drawing.{Since, draw_effect_behind, draw_effect_since, repaint_effect, hint_asked, ask_anew_effect, refresh_effect, redraw_of}
+use Rattle.line_editor.specs.Drawing.{Since, draw_effect_since, repaint_effect, hint_asked, ask_anew_effect, redraw_of}
 use Rattle.line_editor.specs.Inserting.{way_if_bare, put_redraw, show_char_effect, show_inserted_effect}
 use Rattle.line_editor.specs.Killing.{taken_redraw, show_taken_effect, show_killed_effect}
 use Rattle.line_editor.specs.EditSteps.{calls_of_steps}
@@ -118,11 +118,6 @@ module _ {Out H Hi K T : Type 0} {renderer : renderers.Renderer.Ghosts Out} {com
 
   -- ---- what is drawn then
 
-  pub refresh_made : {A B : Type 0} (prompt : List ℕ) (s m t : State Out H Hi K T renderer completer candidate hinter hint highlighter validator history) (x : A) (result : Result B ReadlineError)
-      → prompt ≡ m.prompt.now → Does ask_anew_effect s m (Ok x) → Does (draw_effect_behind prompt true) m t result → Does refresh_effect s t result
-  refresh_made prompt s m t x result is h k =
-      does_both ask_anew_effect repaint_effect s m t x result h (does_as (draw_effect_behind prompt true) repaint_effect m t result (ap (λ p. draw_effect_behind p true (setting_of m) (value_of m)) is) k)
-
   module _ (c : ℕ) (way : Way) (from : Option Since) where
     -- in one of the ways, or by a drawing of the line
     pub put_made : {A B : Type 0} (shown : Way) (s m t : State Out H Hi K T renderer completer candidate hinter hint highlighter validator history) (x : A) (result : Result B ReadlineError)
@@ -157,13 +152,11 @@ module _ {Out H Hi K T : Type 0} {renderer : renderers.Renderer.Ghosts Out} {com
         does_both ask_anew_effect (show_rewritten_effect over from upto) s m t x result h
         (does_as (rewritten from upto true) (show_rewritten_effect over from upto) m t result (ap (λ b. rewritten from upto b (setting_of m) (value_of m)) (sym is)) k)
 
-    pub drawn_anew : {A B : Type 0} (prompt : List ℕ) (s m t : State Out H Hi K T renderer completer candidate hinter hint highlighter validator history) (x : A) (result : Result B ReadlineError)
-        → prompt ≡ m.prompt.now → (over && has_letters from upto (value_of m)) ≡ false → Does ask_anew_effect s m (Ok x)
-        → Does (draw_effect_behind prompt true) m t result → Does (refresh_over_effect over from upto) s t result
-    drawn_anew prompt s m t x result own is h k =
+    pub drawn_anew : {A B : Type 0} (s m t : State Out H Hi K T renderer completer candidate hinter hint highlighter validator history) (x : A) (result : Result B ReadlineError)
+        → (over && has_letters from upto (value_of m)) ≡ false → Does ask_anew_effect s m (Ok x) → Does repaint_effect m t result → Does (refresh_over_effect over from upto) s t result
+    drawn_anew s m t x result is h k =
         does_both ask_anew_effect (show_rewritten_effect over from upto) s m t x result h
-        (does_as (draw_effect_behind prompt true) (show_rewritten_effect over from upto) m t result
-        (ap (λ p. draw_effect_behind p true (setting_of m) (value_of m)) own ∙ ap (λ b. rewritten from upto b (setting_of m) (value_of m)) (sym is)) k)
+        (does_as repaint_effect (show_rewritten_effect over from upto) m t result (ap (λ b. rewritten from upto b (setting_of m) (value_of m)) (sym is)) k)
 
   -- ---- a verdict
 

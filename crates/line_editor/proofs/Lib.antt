@@ -7,6 +7,7 @@ pub mod CompleteLemmas
 pub mod DoesLemmas
 pub mod DrawnLemmas
 pub mod EditLemmas
+pub mod ExitRules
 pub mod GivesBackLemmas
 pub mod GrowthLemmas
 pub mod HelpedLemmas

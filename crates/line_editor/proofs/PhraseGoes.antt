@@ -1,5 +1,5 @@
 -- What the states of a line make of its asks: each edit and each phrase goes as its script says.
-use Rattle.std.proofs.Common.{◌≡◌, inl, inr, ℕ, [], refl, sym, ap, subst, ◌∙◌}
+use Rattle.std.proofs.Common.{◌≡◌, inl, inr, [], refl, sym, ap, subst, ◌∙◌}
 use Rattle.std.specs.Prelude.{Result, Ok, Err}
 use Rattle.std.specs.List.{FoldsTo}
 use Rattle.line_config.specs.declared.errors.ReadlineError.{ReadlineError}

@@ -1,5 +1,5 @@
 -- Whole lines, computed from their keys: the calls asked of a display whose characters have one column each, and the outcome.
-use Rattle.std.proofs.Common.{◌≡◌, ℕ, ◌+◌, Bool, true, false, List, [], ◌∷◌, ◌++◌, length, Some, None, refl}
+use Rattle.std.proofs.Common.{◌≡◌, ℕ, ◌+◌, Bool, true, false, List, [], ◌∷◌, length, Some, None, refl}
 use Rattle.std.specs.Fmt.{digits}
 use Rattle.std.specs.Prelude.{codes, Result, Ok, Err, if◌then◌else◌}
 use Rattle.unicode_segmentation.proofs.Computing.{unicode_segmentation}
@@ -32,13 +32,12 @@ use Rattle.line_record.specs.RecordCourse.{record_after_events}
 use Rattle.line_record.specs.Ring.{Ring}
 use Rattle.line_editor.specs.RenderCalls.{Call, Ruler}
 use Rattle.line_editor.specs.RenderCalls.Call.{Draw, Move, Write, Beep}
-use Rattle.script.specs.Played.{Played}
 use Rattle.line_config.specs.declared.errors.ReadlineError.{ReadlineError}
-use Rattle.line_editor.specs.LineScripts.{LineAsk, LineState, line_state, played_from, steps_along, turn_script, turns_script, line_script}
+use Rattle.line_editor.specs.LineScripts.{line_state, played_from, steps_along, turn_script, turns_script, line_script}
 use Rattle.line_editor.specs.Modal.{Modal, modal_first}
 use Rattle.line_editor.specs.Redraws.{fresh}
 use Rattle.line_editor.specs.EditSteps.{calls_of_steps}
-use Rattle.line_editor.specs.Values.{Setting, EditStep, first_value}
+use Rattle.line_editor.specs.Values.{Setting, first_value}
 
 -- ---- a display of eighty columns, and lines after `> `
 

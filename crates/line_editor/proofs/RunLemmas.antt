@@ -1,6 +1,6 @@
 -- A whole line.
 use Rattle.std.proofs.Common.{◌≡◌, inl, inr, ℕ, ◌<◌, Bool, List, refl, sym, ap, subst, ◌∙◌, IsTrue, le_refl}
-use Rattle.std.specs.Prelude.{Option, Some, None, option_map, Result, Ok, Err, length, string_bytes, IfErr, OnOk}
+use Rattle.std.specs.Prelude.{Option, None, option_map, Result, Ok, Err, length, string_bytes, IfErr, OnOk}
 use Rattle.script.specs.Scripts.{Goes}
 use Rattle.line_config.specs.declared.config.Config.{Config}
 use Rattle.line_config.specs.declared.errors.ReadlineError.{ReadlineError}

@@ -3,72 +3,15 @@ use Rattle.std.proofs.Common.{◌≡◌, ℕ, zero, suc, ◌+◌, ◌-◌, ◌==
 use Rattle.std.specs.Cmp.{booleans_Decides}
 use Rattle.std.proofs.lemmas.Bool.{and_parts, eqb-true}
 use Rattle.std.proofs.lemmas.List.{length-replicate, length-drop, length-take, drop-replicate, take-replicate, replicate-append-replicate, take-append-drop, take-append-le, drop-append-le}
-use Rattle.std.proofs.Math.Bool.{beq}
 use Rattle.std.proofs.Math.Seq.{take-append-add, set-append_seam}
 use Rattle.std.proofs.lemmas.Grind.{flat_map-append}
 use Rattle.std.proofs.lemmas.Option.{same_Some}
 use Rattle.std.proofs.lemmas.List.Sums.{common_prefix_len-le}
-use Rattle.line_help.specs.Paints.{plain}
-use Rattle.line_help.specs.contracts.helpers.style.HuePartialEq.TheImpl as hue_eq
-use Rattle.line_help.specs.contracts.helpers.style.ColourPartialEq.TheImpl as colour_eq
-use Rattle.line_help.specs.declared.helpers.style.Colour.{Colour}
-use Rattle.line_help.specs.declared.helpers.style.Colour.TheVariants.{Terminal, Basic, Bright, Palette, Rgb}
-use Rattle.line_help.specs.declared.helpers.style.Hue.{Hue}
-use Rattle.line_help.specs.declared.helpers.style.Hue.TheVariants.{Black, Red, Green, Yellow, Blue, Magenta, Cyan, White}
+use Rattle.line_help.specs.Paints.{plain, span_styles}
 use Rattle.line_help.specs.declared.helpers.style.Span.{Span}
 use Rattle.line_help.specs.declared.helpers.style.Style.{Style}
-use Rattle.line_editor.specs.SharedStyles.{span_styles, styles_to, most_spans, told_styles, same_style, shared_styles, plain_rest, is_used}
-
--- ---- styles that compare as the same are
-
-abbrev same_hue : Hue → Hue → Bool
-same_hue = (hue_eq.ghosts).eq
-
-abbrev same_colour : Colour → Colour → Bool
-same_colour = (colour_eq.ghosts).eq
-
-same_hue-equal : (a b : Hue) → same_hue a b ≡ true → a ≡ b
-same_hue-equal Black Black h = refl
-same_hue-equal Red Red h = refl
-same_hue-equal Green Green h = refl
-same_hue-equal Yellow Yellow h = refl
-same_hue-equal Blue Blue h = refl
-same_hue-equal Magenta Magenta h = refl
-same_hue-equal Cyan Cyan h = refl
-same_hue-equal White White h = refl
-same_hue-equal a b h = absurd (true≢false (sym h))
-
-same_rgb : (r g b x y z : ℕ) → (r == x && (g == y && b == z)) ≡ true → Rgb r g b ≡ Rgb x y z
-same_rgb r g b x y z h =
-    let first = and_parts (r == x) (g == y && b == z) h in
-    let later = and_parts (g == y) (b == z) first.1 in
-    λ i. Rgb (eqb-true r x first.0 i) (eqb-true g y later.0 i) (eqb-true b z later.1 i)
-
-same_colour-equal : (a b : Colour) → same_colour a b ≡ true → a ≡ b
-same_colour-equal Terminal Terminal h = refl
-same_colour-equal (Basic a) (Basic b) h = ap Basic (same_hue-equal a b h)
-same_colour-equal (Bright a) (Bright b) h = ap Bright (same_hue-equal a b h)
-same_colour-equal (Palette m) (Palette n) h = ap Palette (eqb-true m n h)
-same_colour-equal (Rgb r g b) (Rgb x y z) h = same_rgb r g b x y z h
-same_colour-equal a b h = absurd (true≢false (sym h))
-
-same_style-equal : (a b : Style) → same_style a b ≡ true → a ≡ b
-same_style-equal a b h =
-    let text = and_parts (same_colour a.text b.text) _ h in
-    let background = and_parts (same_colour a.background b.background) _ text.1 in
-    let bold = and_parts (beq a.bold b.bold) _ background.1 in
-    let faint = and_parts (beq a.faint b.faint) _ bold.1 in
-    let italic = and_parts (beq a.italic b.italic) _ faint.1 in
-    let underline = and_parts (beq a.underline b.underline) (beq a.reverse b.reverse) italic.1 in
-    λ i. record {
-      text = same_colour-equal a.text b.text text.0 i;
-      background = same_colour-equal a.background b.background background.0 i;
-      bold = (booleans_Decides a.bold b.bold).0 bold.0 i;
-      faint = (booleans_Decides a.faint b.faint).0 faint.0 i;
-      italic = (booleans_Decides a.italic b.italic).0 italic.0 i;
-      underline = (booleans_Decides a.underline b.underline).0 underline.0 i;
-      reverse = (booleans_Decides a.reverse b.reverse).0 underline.1 i;
-    }
+use Rattle.line_help.proofs.SameStyles.{same_style-equal}
+use Rattle.line_editor.specs.SharedStyles.{styles_to, most_spans, told_styles, same_style, shared_styles, plain_rest, is_used}
 
 -- ---- the front that two lists share
 

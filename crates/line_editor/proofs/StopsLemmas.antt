@@ -168,12 +168,5 @@ module _ {R : Type 0} (canvas : Canvas R) (r : Ruler) where
       let between : Surface R = surface parts.0 (one r l x).layout in
       stops_after x (xs ++ ys) (surface old l) between new fault v (parts.1, refl) (stops_behind xs ys (one r l x).layout parts.0 out new fault v parts.2 h)
 
--- ---- what a failed body goes by
-
-pub ruleset drawings_stop = (stops_drawing, broken_refused)
-
-pub ruleset edits_stop = (stops_editing, stops_edited)
-
-pub ruleset undoes_stop = (stops_editing, stops_edited, stops_taken_back)
-
+-- a recalled entry takes memory twice
 pub ruleset recalls_stop = (stops_editing, stops_taking, stops_first, stops_edited)

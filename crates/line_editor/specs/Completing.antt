@@ -7,11 +7,16 @@ use Rattle.line_buffer.specs.Replay.{replacement}
 use Rattle.line_config.specs.declared.errors.HookFault.{HookFault}
 use Rattle.line_config.specs.declared.errors.HookFault.TheVariants.{Memory}
 use Rattle.line_edits.specs.Written.{Written, after_edit, group_opened, in_group}
-use Rattle.line_help.specs.Completion.{longest_common_prefix, Completion, nothing_offered}
+use Rattle.line_help.specs.Completion.{longest_common_prefix, Offered, Completion, nothing_offered}
 use Rattle.line_keys.specs.Replies.{Reply, IsFaultOf}
 use Rattle.line_editor.specs.Drawing.{beep_effect, refresh_effect}
 use Rattle.line_editor.specs.Values.EditStep.{Takes}
 use Rattle.line_editor.specs.Values.{Value, EditStep, Transition, no_effect, then_do, value_with_edit, help_steps, completion_reply, update_reply}
+
+-- candidates for the word from a start on, by what each offers
+abbrev pub completion_from : {C : Type 0} → (C → Offered) → ℕ → List C → Completion
+completion_from offers start candidates =
+    record { start = start; candidates = map offers candidates }
 
 -- ---- the text that replaces the word
 

@@ -1,13 +1,15 @@
 -- Kills, and copies into the ring.
-use Rattle.std.specs.Prelude.{ℕ, ◌-◌, ◌&&◌, ◌==◌, nat_lt, if◌then◌else◌, Bool, List, length, take, drop, Option, Some, None, is_some, option_map, chars, encode_utf8}
+use Rattle.std.specs.Prelude.{◌≡◌, ◌⊎◌, ℕ, ◌-◌, ◌&&◌, ◌==◌, nat_lt, if◌then◌else◌, Bool, List, length, take, drop, Option, Some, None, is_some, option_map, chars, encode_utf8}
 use Rattle.std.specs.List.{list_all, last_or}
 use Rattle.std.specs.Str.{is_utf8}
 use Rattle.line_buffer.specs.Line.{Line}
 use Rattle.line_buffer.specs.Range.{range_of, copied_range, span_text, kill_events}
 use Rattle.line_buffer.specs.declared.types.Mode.TheVariants.{Append}
 use Rattle.line_buffer.specs.declared.types.Movement.{Movement}
+use Rattle.line_config.specs.declared.errors.ReadlineError.{ReadlineError}
+use Rattle.line_config.specs.declared.errors.ReadlineError.TheVariants.{Memory}
 use Rattle.line_record.specs.Ring.{Ring, ring_all, ring_with_kill}
-use Rattle.line_edits.specs.Edits.{kill_steps, by}
+use Rattle.line_edits.specs.Edits.{kill_steps, ring_without_kill, by}
 use Rattle.line_buffer.specs.Printable.{is_printable, is_plain, at_plain_end}
 use Rattle.line_editor.specs.Characters.{stands_apart}
 use Rattle.line_editor.specs.Drawing.{Since, since, redraw_since, ask_anew_effect}
@@ -107,6 +109,12 @@ replace movement text = then_do (kill_effect movement) (insert_text_if text)
 
 abbrev pub ring_with_kill_of : Movement → Value → Ring → Ring
 ring_with_kill_of movement v r = ring_all (kill_events movement v.line) r
+
+-- a kill that fails leaves the ring with the killed text, or without it if an allocation failed
+abbrev pub LeavesRing : Movement → Value → Ring → Ring → ReadlineError → Type 0
+LeavesRing movement v old new fault =
+    (new ≡ ring_with_kill_of movement v old)
+    ⊎ ((fault ≡ Memory) × (new ≡ ring_without_kill movement old))
 
 abbrev pub ring_with_copy_by : Option (List ℕ) → Ring → Ring
 ring_with_copy_by None r = r

@@ -1,14 +1,10 @@
 -- The styles that the front of a line has in two drawings.
 use Rattle.std.specs.Prelude.{ℕ, ◌==◌, Bool, false, List, [], ◌∷◌, ◌++◌, take, replicate, Option, unwrap_or}
-use Rattle.std.specs.List.{common_prefix_len, flat_map}
-use Rattle.line_help.specs.Paints.{plain}
+use Rattle.std.specs.List.{common_prefix_len}
+use Rattle.line_help.specs.Paints.{plain, span_styles}
 use Rattle.line_help.specs.contracts.helpers.style.StylePartialEq.TheImpl as style_eq
 use Rattle.line_help.specs.declared.helpers.style.Span.{Span}
 use Rattle.line_help.specs.declared.helpers.style.Style.{Style}
-
--- the style of each byte that the spans cover
-abbrev pub span_styles : List Span → List Style
-span_styles spans = flat_map (λ s. replicate s.len s.style) spans
 
 -- the styles of the first `n` bytes; those after the last span have none
 abbrev pub styles_to : ℕ → List Span → List Style

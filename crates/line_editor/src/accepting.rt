@@ -8,7 +8,6 @@ use line_config::ReadlineError;
 use line_help::{Helper, History, ValidationContext, ValidationResult, Validator};
 use line_keys::{CmdKind, Text};
 
-#[tactic(auto, using(crate::proofs::StopsLemmas::stops_taking))]
 impl<'p, 'h, Out: Renderer, H: Helper + Drop, Hi: History> State<'p, 'h, Out, H, Hi> {
     ghost use Rattle.line_editor.specs.States.{value_of, setting_of, Does, Renders, Helps, Stays};
     ghost use Rattle.line_editor.specs.Values.{verdict_reply};
@@ -30,7 +29,6 @@ impl<'p, 'h, Out: Renderer, H: Helper + Drop, Hi: History> State<'p, 'h, Out, H,
     }
 
     /// The helper's verdict on the line.
-    #[tactic(auto, using(crate::proofs::HelpedLemmas::fault_told))]
     fn judge(&self) -> Result<ValidationResult, ReadlineError>
         ensures verdict { IfOk result
             (λ found. found ≡ verdict (setting_of self.now) (value_of self.now)) }
@@ -40,10 +38,9 @@ impl<'p, 'h, Out: Renderer, H: Helper + Drop, Hi: History> State<'p, 'h, Out, H,
             return Ok(ValidationResult::Valid(None));
         };
         let text = self.recorded.line.as_str();
-        match helper.validate(self.alloc, &ValidationContext::new(text)) {
-            Ok(found) => Ok(found),
-            Err(fault) => Err(error_of(fault)),
-        }
+        helper
+            .validate(self.alloc, &ValidationContext::new(text))
+            .map_err(error_of)
     }
 
     /// Shows the verdict on a line that isn't incomplete, if something must be redrawn or there is

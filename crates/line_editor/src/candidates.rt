@@ -3,7 +3,7 @@ ghost use Rattle.std.specs.Prelude.{◌≡◌, ◌≤◌, ◌++◌, true, is_som
 ghost use Rattle.line_config.specs.Refusals.{OrMemory};
 ghost use Rattle.line_config.specs.declared.errors.ReadlineError.TheVariants.{Memory};
 ghost use Rattle.line_editor.specs.Candidates.{only_put, only_completed, rows_of, more_row, list_text, list_shown, list_effect, list_standing, candidate_at, turn_effect, modal_after_turn, cycle_begun, cycle_first, cycle_back, next_turned, next_modal, ask_and_turn_effect, modal_after_ask, cycle_effect, cycle, several, several_modal, offer_effect, modal_after_offer, tab_effect, tab};
-ghost use Rattle.line_editor.specs.Completing.{common_text};
+ghost use Rattle.line_editor.specs.Completing.{common_text, completion_from};
 ghost use Rattle.line_editor.specs.Modal.{modal_of};
 
 use crate::completing::{begins_word, elected};
@@ -23,7 +23,7 @@ fn only_put<'c, C: Candidate>(
     candidates: &'c [C],
 ) -> Option<&'c str>
     ensures value { option_copied result ≡ only_put
-        (record { start = start; candidates = map C.offers candidates.now }) line.now }
+        (completion_from C.offers start candidates.now) line.now }
     ensures order { IfSome result (λ _. start ≤ line.now.place) }
     ensures boundary { IfSome result (λ _. IsCharBoundary line.now.text start) }
 {
@@ -42,7 +42,7 @@ fn candidate_at<'c, C: Candidate>(
     at: usize,
 ) -> Option<&'c str>
     ensures value { option_copied result ≡ candidate_at at
-        (record { start = start; candidates = map C.offers candidates.now }) line.now }
+        (completion_from C.offers start candidates.now) line.now }
     ensures order { IfSome result (λ _. start ≤ line.now.place) }
     ensures boundary { IfSome result (λ _. IsCharBoundary line.now.text start) }
 {
@@ -126,7 +126,7 @@ impl<'p, 'h, Out: Renderer, H: Helper + Drop, Hi: History> State<'p, 'h, Out, H,
     ) -> Result<(), ReadlineError>
         requires { is_some self.old.helper ≡ true }
         ensures { Does (only_completed
-            (record { start = start; candidates = map H.Candidate.offers candidates.now }))
+            (completion_from H.Candidate.offers start candidates.now))
             self.old self.new result }
     {
         match only_put(&self.recorded.line, start, candidates) {
@@ -155,11 +155,11 @@ impl<'p, 'h, Out: Renderer, H: Helper + Drop, Hi: History> State<'p, 'h, Out, H,
     ) -> Result<(), ReadlineError>
         requires { is_some self.old.helper ≡ true }
         ensures does { Does (list_effect lists modal.old.limit
-            (record { start = start; candidates = map H.Candidate.offers candidates.now }))
+            (completion_from H.Candidate.offers start candidates.now))
             self.old self.new result }
         ensures modal { OnOk result (modal_of modal.new ≡ record (modal_of modal.old) {
           standing = list_standing lists (common_text
-              (record { start = start; candidates = map H.Candidate.offers candidates.now })
+              (completion_from H.Candidate.offers start candidates.now)
               self.old.recorded.line);
         }) }
     {
@@ -197,10 +197,10 @@ impl<'p, 'h, Out: Renderer, H: Helper + Drop, Hi: History> State<'p, 'h, Out, H,
     ) -> Result<(), ReadlineError>
         requires { is_some self.old.helper ≡ true }
         ensures does { Does (turn_effect at
-            (record { start = start; candidates = map H.Candidate.offers candidates.now }))
+            (completion_from H.Candidate.offers start candidates.now))
             self.old self.new result }
         ensures modal { OnOk result (modal_of modal.new ≡ modal_after_turn at
-            (record { start = start; candidates = map H.Candidate.offers candidates.now })
+            (completion_from H.Candidate.offers start candidates.now)
             self.old.recorded.line (modal_of modal.old)) }
     {
         modal.candidate = at;
@@ -225,10 +225,10 @@ impl<'p, 'h, Out: Renderer, H: Helper + Drop, Hi: History> State<'p, 'h, Out, H,
     ) -> Result<(), ReadlineError>
         requires { is_some self.old.helper ≡ true }
         ensures does { Does (cycle_begun
-            (record { start = start; candidates = map H.Candidate.offers candidates.now }))
+            (completion_from H.Candidate.offers start candidates.now))
             self.old self.new result }
         ensures modal { OnOk result (modal_of modal.new ≡ cycle_first
-            (record { start = start; candidates = map H.Candidate.offers candidates.now })
+            (completion_from H.Candidate.offers start candidates.now)
             self.old.recorded.line (modal_of modal.old)) }
     {
         modal.standing = Standing::Cycles;
@@ -247,11 +247,11 @@ impl<'p, 'h, Out: Renderer, H: Helper + Drop, Hi: History> State<'p, 'h, Out, H,
     ) -> Result<(), ReadlineError>
         requires { is_some self.old.helper ≡ true }
         ensures does { Does (several modal.old.completion_type lists (modal_of modal.old)
-            (record { start = start; candidates = map H.Candidate.offers candidates.now }))
+            (completion_from H.Candidate.offers start candidates.now))
             self.old self.new result }
         ensures modal { OnOk result (modal_of modal.new
             ≡ several_modal modal.old.completion_type lists
-            (record { start = start; candidates = map H.Candidate.offers candidates.now })
+            (completion_from H.Candidate.offers start candidates.now)
             self.old.recorded.line (modal_of modal.old)) }
     {
         match modal.completion_type {
@@ -270,10 +270,10 @@ impl<'p, 'h, Out: Renderer, H: Helper + Drop, Hi: History> State<'p, 'h, Out, H,
     ) -> Result<(), ReadlineError>
         requires { is_some self.old.helper ≡ true }
         ensures does { Does (offer_effect lists (modal_of modal.old)
-            (record { start = start; candidates = map H.Candidate.offers candidates.now }))
+            (completion_from H.Candidate.offers start candidates.now))
             self.old self.new result }
         ensures modal { OnOk result (modal_of modal.new ≡ modal_after_offer lists
-            (record { start = start; candidates = map H.Candidate.offers candidates.now })
+            (completion_from H.Candidate.offers start candidates.now)
             self.old.recorded.line (modal_of modal.old)) }
     {
         if candidates.len() > 1 && begins_word(&self.recorded.line, start) {
@@ -332,17 +332,17 @@ impl<'p, 'h, Out: Renderer, H: Helper + Drop, Hi: History> State<'p, 'h, Out, H,
     ) -> Result<(), ReadlineError>
         requires { is_some self.old.helper ≡ true }
         ensures does { Does (next_turned dir (modal_of modal.old)
-            (record { start = start; candidates = map H.Candidate.offers candidates.now }))
+            (completion_from H.Candidate.offers start candidates.now))
             self.old self.new result }
         ensures modal { OnOk result (modal_of modal.new ≡ next_modal dir
-            (record { start = start; candidates = map H.Candidate.offers candidates.now })
+            (completion_from H.Candidate.offers start candidates.now)
             self.old.recorded.line (modal_of modal.old)) }
     {
         let at = cycle_at(dir, modal.candidate, candidates.len());
         self.turn_to(modal, at, start, candidates)
     }
 
-    /// Asks the helper for candidates anew, and puts the next one in a direction.
+    /// Calls the helper for the candidates again, and inserts the next one in a direction.
     fn ask_and_turn(
         &mut self,
         modal: &mut ModalState,

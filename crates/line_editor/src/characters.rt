@@ -71,7 +71,6 @@ pub(crate) fn as_scalar(c: char) -> char
     ensures value { result ≡ c }
     ensures scalar { IsScalar c }
 {
-    let _len = c.len_utf8();
     c
 }
 

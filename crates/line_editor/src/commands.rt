@@ -22,7 +22,6 @@ pub enum Status {
     Submit,
 }
 
-#[tactic(auto, using(crate::proofs::StopsLemmas::stops_taking))]
 impl<'p, 'h, Out: Renderer, H: Helper + Drop, Hi: History> State<'p, 'h, Out, H, Hi> {
     ghost use Rattle.line_buffer.specs.Columns.{line_up, line_down};
     ghost use Rattle.line_editor.specs.States.{value_of, setting_of, Does};
@@ -125,7 +124,6 @@ impl<'p, 'h, Out: Renderer, H: Helper + Drop, Hi: History> State<'p, 'h, Out, H,
     }
 
     /// Runs a command.
-    #[tactic(auto, using(crate::proofs::StopsLemmas::stops_taking, crate::proofs::ObeyLemmas::obeyed_proceeds))]
     fn perform<D: Decides>(
         &mut self,
         cmd: &Cmd,

@@ -4,7 +4,7 @@ ghost use Rattle.line_edits.specs.Written.{Writes, line_and_record, line_and_rec
 ghost use Rattle.line_help.specs.Completion.{completion_by};
 ghost use Rattle.line_keys.specs.Replies.{Replies, fails, itself};
 ghost use Rattle.line_record.specs.Items.{ItemsStand};
-ghost use Rattle.line_editor.specs.Completing.{common_text, common_text_among, begins_word, word_put, word_replaced, CutWord};
+ghost use Rattle.line_editor.specs.Completing.{common_text, common_text_among, begins_word, completion_from, word_put, word_replaced, CutWord};
 
 use crate::faults::error_of;
 use crate::renderer::Renderer;
@@ -46,7 +46,7 @@ pub(crate) fn elected<'c, C: Candidate>(
     candidates: &'c [C],
 ) -> Option<&'c str>
     ensures value { option_copied result ≡ common_text
-        (record { start = start; candidates = map C.offers candidates.now }) line.now }
+        (completion_from C.offers start candidates.now) line.now }
     ensures order { IfSome result (λ _. start ≤ line.now.place) }
     ensures boundary { IfSome result (λ _. IsCharBoundary line.now.text start) }
 {
@@ -75,6 +75,7 @@ fn put<C: Completer>(
         ((line.new ≡ line.old) × (changes.new ≡ changes.old)) }
     ensures reply { Replies (C.update_of completer.now line.old start text.now) itself result }
 {
+    // for the proof: the text is UTF-8
     let _text = line.as_str();
     completer.update(alloc, line, start, text, changes)
 }
@@ -128,7 +129,6 @@ fn update<C: Completer>(
     done
 }
 
-#[tactic(auto, using(crate::proofs::HelpedLemmas::fault_told))]
 impl<'p, 'h, Out: Renderer, H: Helper + Drop, Hi: History> State<'p, 'h, Out, H, Hi> {
     ghost use Rattle.line_editor.specs.States.{value_of, setting_of, Does, Helps};
     ghost use Rattle.line_editor.specs.Values.{completion_reply};
@@ -146,10 +146,9 @@ impl<'p, 'h, Out: Renderer, H: Helper + Drop, Hi: History> State<'p, 'h, Out, H,
             return Ok((0, Vec::new(self.alloc)));
         };
         let line = &self.recorded.line;
-        match helper.complete(self.alloc, line.as_str(), line.pos(), &self.ctx) {
-            Ok(found) => Ok(found),
-            Err(fault) => Err(error_of(fault)),
-        }
+        helper
+            .complete(self.alloc, line.as_str(), line.pos(), &self.ctx)
+            .map_err(error_of)
     }
 
     /// The helper replaces the line from a start to the cursor by a text.

@@ -101,8 +101,11 @@ fn may_put_in<Out: Renderer>(out: &Out, layout: &Layout, rest: &str) -> bool
     let cursor = layout.cursor;
     let end = layout.end;
     !layout.has_info
-        && ((cursor.col < columns && end.col < columns)
-            && (cursor.row <= end.row && (end.row < out.get_rows() && is_printable_text(rest))))
+        && cursor.col < columns
+        && end.col < columns
+        && cursor.row <= end.row
+        && end.row < out.get_rows()
+        && is_printable_text(rest)
 }
 
 /// Whether nothing is shown after the line, and `count` characters of a row can be taken out from a
@@ -123,10 +126,11 @@ fn may_take_out<Out: Renderer>(
     let columns = usize::from(out.get_columns());
     let col = usize::from(at.col);
     !layout.has_info
-        && (0 < count
-            && (col <= columns
-                && count <= columns - col
-                && (count <= usize::from(layout.end.col) && is_printable_text(rest))))
+        && 0 < count
+        && col <= columns
+        && count <= columns - col
+        && count <= usize::from(layout.end.col)
+        && is_printable_text(rest)
 }
 
 /// Whether nothing is shown after the line, and `count` letters written from a cell on don't fill its
@@ -137,7 +141,7 @@ fn may_write_over<Out: Renderer>(out: &Out, layout: &Layout, at: Position, count
 {
     let columns = usize::from(out.get_columns());
     let col = usize::from(at.col);
-    !layout.has_info && (col < columns && count < columns - col)
+    !layout.has_info && col < columns && count < columns - col
 }
 
 /// The cell after another, in rows of so many columns. A full row is left at once.
@@ -212,7 +216,6 @@ fn draw_over<Out: Renderer, H: Highlighter, T: Hint>(
     Ok(layout)
 }
 
-#[tactic(auto, using(crate::proofs::StopsLemmas::drawings_stop))]
 impl<'p, 'h, Out: Renderer, H: Helper + Drop, Hi: History> State<'p, 'h, Out, H, Hi> {
     ghost use Rattle.line_editor.specs.States.{value_of, setting_of, Stays, Does, Renders, Helps};
     ghost use Rattle.line_editor.specs.Values.{hint_reply, with_hint, with_mark};
@@ -225,7 +228,6 @@ impl<'p, 'h, Out: Renderer, H: Helper + Drop, Hi: History> State<'p, 'h, Out, H,
     ghost use Rattle.line_keys.specs.declared.command.CmdKind.TheVariants.{Other};
 
     /// The helper's hint, if it has one that isn't empty.
-    #[tactic(auto, using(crate::proofs::HelpedLemmas::fault_told))]
     fn found_hint(&self) -> Result<Option<H::Hint>, ReadlineError>
         ensures value { IfOk result (λ hint. option_map H.Hint.says hint
             ≡ (with_hint (setting_of self.now) (value_of self.now)).hint) }
@@ -235,17 +237,10 @@ impl<'p, 'h, Out: Renderer, H: Helper + Drop, Hi: History> State<'p, 'h, Out, H,
             return Ok(None);
         };
         let line = &self.recorded.line;
-        match helper.hint(self.alloc, line.as_str(), line.pos(), &self.ctx) {
-            Ok(Some(found)) => {
-                if !found.display().is_empty() {
-                    Ok(Some(found))
-                } else {
-                    Ok(None)
-                }
-            }
-            Ok(None) => Ok(None),
-            Err(fault) => Err(error_of(fault)),
-        }
+        let found = helper
+            .hint(self.alloc, line.as_str(), line.pos(), &self.ctx)
+            .map_err(error_of)?;
+        Ok(found.filter(|hint| !hint.display().is_empty()))
     }
 
     /// Calls the helper for the hint. Nothing is drawn.
@@ -340,8 +335,7 @@ impl<'p, 'h, Out: Renderer, H: Helper + Drop, Hi: History> State<'p, 'h, Out, H,
         ensures does { Does refresh_effect self.old self.new result }
     {
         self.ask_anew()?;
-        let prompt = self.prompt;
-        self.draw(prompt, true)
+        self.repaint(RefreshKind::All)
     }
 
     /// Draws the line with a new hint after another prompt.

@@ -3,13 +3,12 @@ ghost use Rattle.std.specs.Prelude.{◌≡◌, IfSome, None, Some, if◌then◌e
 
 use crate::characters::begins_apart_at;
 use crate::drawing::{display_of, highlighter_of, tells};
-use crate::renderer::Renderer;
+use crate::renderer::{RefreshKind, Renderer};
 use crate::shared_styles::{FirstSpans, Since, first_spans};
 use crate::state::State;
 use line_config::ReadlineError;
 use line_help::{Helper, History, Part};
 
-#[tactic(auto, using(crate::proofs::StopsLemmas::drawings_stop, crate::proofs::SinceLemmas::unmarked_noted))]
 impl<'p, 'h, Out: Renderer, H: Helper + Drop, Hi: History> State<'p, 'h, Out, H, Hi> {
     ghost use Rattle.line_editor.specs.States.{value_of, setting_of, Does, Renders};
     ghost use Rattle.line_editor.specs.Drawing.{AreNoted, kept_upto, line_spans, may_begin_at, since, draw_effect_since, refresh_effect_since};
@@ -28,15 +27,8 @@ impl<'p, 'h, Out: Renderer, H: Helper + Drop, Hi: History> State<'p, 'h, Out, H,
             return None;
         }
         let line = &self.recorded.line;
-        match highlighter_of(&self.helper, self.out.colors_enabled()) {
-            Some(highlighter) => Some(first_spans(
-                highlighter,
-                Part::Line(line.pos()),
-                line.as_str(),
-                upto,
-            )),
-            None => None,
-        }
+        let highlighter = highlighter_of(&self.helper, self.out.colors_enabled())?;
+        Some(first_spans(highlighter, Part::Line(line.pos()), line.as_str(), upto))
     }
 
     /// The place up to which a change is to leave the line, with the line's styles up to there, if
@@ -131,8 +123,7 @@ impl<'p, 'h, Out: Renderer, H: Helper + Drop, Hi: History> State<'p, 'h, Out, H,
                 return self.draw_from(from);
             }
         }
-        let prompt = self.prompt;
-        self.draw(prompt, true)
+        self.repaint(RefreshKind::All)
     }
 
     /// The same with a new hint.

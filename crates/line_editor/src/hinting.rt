@@ -6,7 +6,6 @@ use crate::state::State;
 use line_config::ReadlineError;
 use line_help::{Helper, Hint, History};
 
-#[tactic(auto, using(crate::proofs::StopsLemmas::edits_stop))]
 impl<'p, 'h, Out: Renderer, H: Helper + Drop, Hi: History> State<'p, 'h, Out, H, Hi> {
     ghost use Rattle.line_editor.specs.States.{value_of, setting_of, Does};
     ghost use Rattle.line_editor.specs.Drawing.{beep_effect, refresh_effect};

@@ -157,7 +157,7 @@ impl<'p, 'h, Out: Renderer, H: Helper + Drop, Hi: History> State<'p, 'h, Out, H,
         else {
             return self.beep();
         };
-        self.show_entry(found.idx, entry_of(found.entry), found.pos)
+        self.show_entry(found.idx, found.entry, found.pos)
     }
 
     /// Shows the nearest entry before or after the current one that begins with the text before the
@@ -182,11 +182,4 @@ impl<'p, 'h, Out: Renderer, H: Helper + Drop, Hi: History> State<'p, 'h, Out, H,
             }
         }
     }
-}
-
-/// The text of an entry, borrowed from its history.
-fn entry_of<'a>(text: &'a str) -> &'a str
-    ensures { result.now ≡ text.now }
-{
-    text
 }

@@ -13,7 +13,6 @@ use line_buffer::{RepeatCount, is_printable, is_printable_text, is_simple};
 use line_config::ReadlineError;
 use line_help::{Helper, History};
 
-#[tactic(auto, using(crate::proofs::StopsLemmas::edits_stop, crate::proofs::SinceLemmas::unmarked_noted))]
 impl<'p, 'h, Out: Renderer, H: Helper + Drop, Hi: History> State<'p, 'h, Out, H, Hi> {
     ghost use Rattle.line_editor.specs.States.{value_of, setting_of, Does};
     ghost use Rattle.line_editor.specs.Drawing.{AreNoted};
@@ -49,7 +48,7 @@ impl<'p, 'h, Out: Renderer, H: Helper + Drop, Hi: History> State<'p, 'h, Out, H,
         ensures { result ≡ may_be_typed (is_some (setting_of self.now).tabs) ch n
             (value_of self.now) }
     {
-        n == 1 && (self.is_bare() && (is_printable(ch) && self.is_at_simple_end()))
+        n == 1 && self.is_bare() && is_printable(ch) && self.is_at_simple_end()
     }
 
     /// Whether a character stands apart from the line's end. The end of a plain line isn't
@@ -67,9 +66,10 @@ impl<'p, 'h, Out: Renderer, H: Helper + Drop, Hi: History> State<'p, 'h, Out, H,
             (value_of self.now) }
     {
         self.config.partial_redraw()
-            && (n == 1
-                && (self.is_bare()
-                    && (self.recorded.line.is_cursor_at_end() && self.is_apart_from_end(ch))))
+            && n == 1
+            && self.is_bare()
+            && self.recorded.line.is_cursor_at_end()
+            && self.is_apart_from_end(ch)
     }
 
     /// Whether the text after the cursor is printable characters.
@@ -87,11 +87,12 @@ impl<'p, 'h, Out: Renderer, H: Helper + Drop, Hi: History> State<'p, 'h, Out, H,
             (value_of self.now) }
     {
         self.config.partial_redraw()
-            && (n == 1
-                && (self.is_bare()
-                    && (is_printable(ch)
-                        && (self.recorded.line.pos() < self.recorded.line.len()
-                            && (self.recorded.plain && self.has_printable_rest())))))
+            && n == 1
+            && self.is_bare()
+            && is_printable(ch)
+            && self.recorded.line.pos() < self.recorded.line.len()
+            && self.recorded.plain
+            && self.has_printable_rest()
     }
 
     /// How a character that is to be inserted may be shown.

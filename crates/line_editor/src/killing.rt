@@ -1,8 +1,7 @@
 //! Kills texts, and copies texts into the ring.
-ghost use Rattle.std.specs.Prelude.{◌≡◌, ◌&&◌, ◌⊎◌, if◌then◌else◌, nat_lt, OnOk, IfErr, IfSome, length, drop, is_some, IsTrue};
+ghost use Rattle.std.specs.Prelude.{◌≡◌, ◌&&◌, if◌then◌else◌, nat_lt, OnOk, IfErr, IfSome, length, drop, is_some, IsTrue};
 ghost use Rattle.line_buffer.specs.Range.{FindsSpan, IsSpanOf, copied_range, deletion_line, range_of};
 ghost use Rattle.line_config.specs.declared.errors.ReadlineError.{ReadlineError};
-ghost use Rattle.line_edits.specs.Edits.{ring_without_kill};
 ghost use Rattle.line_buffer.specs.Printable.{at_plain_end, is_printable};
 ghost use Rattle.std.specs.List.{list_all};
 ghost use Rattle.line_editor.specs.declared.way.Way.TheVariants.{AtEnd, Inside};
@@ -19,12 +18,11 @@ use line_help::{Helper, History};
 use line_keys::Text;
 use line_record::KillRing;
 
-#[tactic(auto, using(crate::proofs::StopsLemmas::edits_stop, crate::proofs::SinceLemmas::unmarked_noted))]
 impl<'p, 'h, Out: Renderer, H: Helper + Drop, Hi: History> State<'p, 'h, Out, H, Hi> {
     ghost use Rattle.line_editor.specs.States.{value_of, setting_of, Does, Stays};
     ghost use Rattle.line_editor.specs.Drawing.{AreNoted};
     ghost use Rattle.line_editor.specs.Inserting.{has_printable_rest};
-    ghost use Rattle.line_editor.specs.Killing.{may_be_taken, may_be_taken_out, text_gone, last_of_bare, way_erased, show_killed_effect, kill_way, kill_effect, insert_text_if, replace, ring_with_kill_of, ring_with_copy};
+    ghost use Rattle.line_editor.specs.Killing.{may_be_taken, may_be_taken_out, text_gone, last_of_bare, way_erased, show_killed_effect, kill_way, kill_effect, insert_text_if, replace, ring_with_kill_of, LeavesRing, ring_with_copy};
 
     /// Whether erasing the rest of the row may show the kill of a range: printable characters,
     /// deleted from a bare line.
@@ -46,7 +44,9 @@ impl<'p, 'h, Out: Renderer, H: Helper + Drop, Hi: History> State<'p, 'h, Out, H,
             (text_gone line (deletion_line span line)) (value_of self.now) }
     {
         self.config.partial_redraw()
-            && (self.is_bare() && (self.recorded.plain && self.is_printable_range(span)))
+            && self.is_bare()
+            && self.recorded.plain
+            && self.is_printable_range(span)
     }
 
     /// Whether a range has printable characters only.
@@ -82,9 +82,8 @@ impl<'p, 'h, Out: Renderer, H: Helper + Drop, Hi: History> State<'p, 'h, Out, H,
         match last {
             Some(ch)
                 if line.is_cursor_at_end()
-                    && (count == ch.len_utf8() && stands_apart(line.as_str(), ch)) => {
-                Way::Back(ch)
-            }
+                    && count == ch.len_utf8()
+                    && stands_apart(line.as_str(), ch) => { Way::Back(ch) }
             _ => Way::Whole,
         }
     }
@@ -101,9 +100,9 @@ impl<'p, 'h, Out: Renderer, H: Helper + Drop, Hi: History> State<'p, 'h, Out, H,
         if alone && self.is_at_plain_end() {
             Way::AtEnd
         } else if inside
-            && (0 < count
-                && (self.recorded.line.pos() < self.recorded.line.len()
-                    && self.has_printable_rest()))
+            && 0 < count
+            && self.recorded.line.pos() < self.recorded.line.len()
+            && self.has_printable_rest()
         {
             Way::Inside
         } else {
@@ -155,8 +154,7 @@ impl<'p, 'h, Out: Renderer, H: Helper + Drop, Hi: History> State<'p, 'h, Out, H,
         ensures ring { OnOk result
             (ring.new ≡ ring_with_kill_of movement.now (value_of self.old) ring.old) }
         ensures refused_ring { IfErr result
-            (λ e. (ring.new ≡ ring_with_kill_of movement.now (value_of self.old) ring.old)
-            ⊎ ((e ≡ ReadlineError.Memory) × (ring.new ≡ ring_without_kill movement.now ring.old))) }
+            (LeavesRing movement.now (value_of self.old) ring.old ring.new) }
     {
         let span = self.recorded.line.range_of(movement);
         if self.highlight_char {
@@ -180,8 +178,7 @@ impl<'p, 'h, Out: Renderer, H: Helper + Drop, Hi: History> State<'p, 'h, Out, H,
         ensures ring { OnOk result
             (ring.new ≡ ring_with_kill_of movement.now (value_of self.old) ring.old) }
         ensures refused_ring { IfErr result
-            (λ e. (ring.new ≡ ring_with_kill_of movement.now (value_of self.old) ring.old)
-            ⊎ ((e ≡ ReadlineError.Memory) × (ring.new ≡ ring_without_kill movement.now ring.old))) }
+            (LeavesRing movement.now (value_of self.old) ring.old ring.new) }
     {
         let noted = self.line_spans(self.place_of_kill(span));
         self.kill_noted(movement, span, ring, noted.as_ref())
@@ -204,8 +201,7 @@ impl<'p, 'h, Out: Renderer, H: Helper + Drop, Hi: History> State<'p, 'h, Out, H,
         ensures ring { OnOk result
             (ring.new ≡ ring_with_kill_of movement.now (value_of self.old) ring.old) }
         ensures refused_ring { IfErr result
-            (λ e. (ring.new ≡ ring_with_kill_of movement.now (value_of self.old) ring.old)
-            ⊎ ((e ≡ ReadlineError.Memory) × (ring.new ≡ ring_without_kill movement.now ring.old))) }
+            (LeavesRing movement.now (value_of self.old) ring.old ring.new) }
     {
         let alone = self.may_be_taken(span);
         let inside = self.may_be_taken_out(span);
@@ -246,12 +242,10 @@ impl<'p, 'h, Out: Renderer, H: Helper + Drop, Hi: History> State<'p, 'h, Out, H,
         ensures ring { OnOk result
             (ring.new ≡ ring_with_kill_of movement.now (value_of self.old) ring.old) }
         ensures refused_ring { IfErr result
-            (λ e. (ring.new ≡ ring_with_kill_of movement.now (value_of self.old) ring.old)
-            ⊎ ((e ≡ ReadlineError.Memory) × (ring.new ≡ ring_without_kill movement.now ring.old))) }
+            (LeavesRing movement.now (value_of self.old) ring.old ring.new) }
     {
         self.edit_kill(movement, ring)?;
-        self.insert_some(text)?;
-        Ok(())
+        self.insert_some(text)
     }
 
     /// Copies what a movement names into the ring.

@@ -82,6 +82,7 @@ pub fn lines_are_sound<Out: Renderer, H: Helper + Drop, Hi: History>(
     ensures { Sound (value_of state.now) }
 {
     let line = &state.recorded.line;
+    // for the proof: the contracts of these calls say it
     let _text = line.as_str();
     let _place = line.pos();
 }

@@ -1,6 +1,6 @@
 //! The editor of a line: keys become commands, commands edit the line and its record, and a
 //! renderer draws exactly what has changed.
-#![tactic(auto)]
+#![tactic(auto, using(crate::proofs::ExitRules::exits))]
 
 mod accepting;
 mod candidates;

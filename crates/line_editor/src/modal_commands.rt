@@ -130,7 +130,7 @@ impl<'p, 'h, Out: Renderer, H: Helper + Drop, Hi: History> State<'p, 'h, Out, H,
         modal.fresh = false;
         match found {
             Some(hit) => {
-                self.put_hit(modal.put, entry_of(hit.entry), hit.pos)?;
+                self.put_hit(modal.put, hit.entry, hit.pos)?;
                 modal.fails = false;
                 modal.put = true;
                 modal.at = hit.idx;
@@ -216,8 +216,8 @@ impl<'p, 'h, Out: Renderer, H: Helper + Drop, Hi: History> State<'p, 'h, Out, H,
         self.look(modal, dir, from)
     }
 
-    /// What a search that stands makes of a command.
-    fn met_standing(&mut self, modal: &mut ModalState, cmd: &Cmd) -> Result<Next, ReadlineError>
+    /// What a search that goes on makes of a command.
+    fn met_searches(&mut self, modal: &mut ModalState, cmd: &Cmd) -> Result<Next, ReadlineError>
         requires { modal.old.standing ≡ Searches }
         ensures { MeetsBy cmd.now self.old (modal_of modal.old) self.new (modal_of modal.new)
             result }
@@ -276,14 +276,14 @@ impl<'p, 'h, Out: Renderer, H: Helper + Drop, Hi: History> State<'p, 'h, Out, H,
             Some(hit) => {
                 modal.fresh = false;
                 modal.at = hit.idx;
-                self.put_again(entry_of(hit.entry), hit.pos)?;
+                self.put_again(hit.entry, hit.pos)?;
             }
             None => self.beep()?,
         }
         Ok(Next::Nothing)
     }
 
-    /// What a command begins if nothing stands.
+    /// What a command begins if nothing goes on.
     fn met_resting(
         &mut self,
         modal: &mut ModalState,
@@ -396,7 +396,7 @@ impl<'p, 'h, Out: Renderer, H: Helper + Drop, Hi: History> State<'p, 'h, Out, H,
         }
     }
 
-    /// What stands between commands makes of a command.
+    /// What goes on between commands makes of a command.
     fn met(&mut self, modal: &mut ModalState, cmd: &Cmd) -> Result<Next, ReadlineError>
         ensures { MeetsBy cmd.now self.old (modal_of modal.old) self.new (modal_of modal.new)
             result }
@@ -418,14 +418,14 @@ impl<'p, 'h, Out: Renderer, H: Helper + Drop, Hi: History> State<'p, 'h, Out, H,
             Standing::Off => Ok(Next::Same),
             Standing::Rests => self.met_resting(modal, wish_of(cmd), cmd),
             Standing::Prefixes => self.met_prefixes(modal, wish_of(cmd), cmd),
-            Standing::Searches => self.met_standing(modal, cmd),
+            Standing::Searches => self.met_searches(modal, cmd),
             Standing::Tabbed => self.met_tabbed(modal, wish_of(cmd), cmd),
             Standing::Lists => self.met_lists(modal, wish_of(cmd), cmd),
             Standing::Cycles => self.met_cycles(modal, wish_of(cmd), cmd),
         }
     }
 
-    /// A command before it is done: what stands between commands makes of it, and which one is done
+    /// A command before it is done: what goes on between commands makes of it, and which one is done
     /// in its place.
     pub(crate) fn meet(
         &mut self,
@@ -456,11 +456,4 @@ fn sought<'a, Hi: History>(
     ensures { Finds (search_for query.now dir from) (Hi.entries history.now) result }
 {
     history.search(query, from?, dir)
-}
-
-/// The text of an entry, which its history lends.
-fn entry_of<'a>(text: &'a str) -> &'a str
-    ensures { result.now ≡ text.now }
-{
-    text
 }

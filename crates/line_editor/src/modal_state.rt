@@ -13,7 +13,7 @@ use line_help::SearchDirection;
 use line_keys::{Cmd, SearchAgain};
 use std::alloc::Global;
 
-/// What stands between the commands of a line.
+/// What goes on between two commands of a line.
 #[derive(Clone, Copy)]
 pub enum Standing {
     /// Nothing ever does: the setting is off.
@@ -68,7 +68,7 @@ pub enum Next {
     Own,
 }
 
-/// What a command is to a search that stands.
+/// What a command is to a search that goes on.
 #[derive(Clone, Copy)]
 pub enum Act {
     /// A character more of the query.
@@ -83,7 +83,7 @@ pub enum Act {
     Ends,
 }
 
-/// What stands between the commands of a line, or what is left of the last search.
+/// What goes on between two commands of a line, or what is left of the last search.
 #[derive(Drop)]
 pub struct ModalState {
     pub(crate) completion_type: CompletionType,
@@ -101,7 +101,7 @@ pub struct ModalState {
     pub(crate) place: usize,
 }
 
-fn standing_first(on: bool) -> Standing
+fn first_standing(on: bool) -> Standing
     ensures { result ≡ first_standing on }
 {
     if on { Standing::Rests } else { Standing::Off }
@@ -136,7 +136,7 @@ pub(crate) fn wish_of(cmd: &Cmd) -> Wish
     }
 }
 
-fn erased_by(movement: &Movement) -> Act
+fn act_of_movement(movement: &Movement) -> Act
     ensures { result ≡ act_of_movement movement.now }
 {
     match movement {
@@ -145,13 +145,13 @@ fn erased_by(movement: &Movement) -> Act
     }
 }
 
-/// What a command is to a search that stands.
+/// What a command is to a search that goes on.
 pub(crate) fn act_of(cmd: &Cmd) -> Act
     ensures { result ≡ act_of cmd.now }
 {
     match cmd {
         Cmd::SelfInsert(_, c) => Act::Types(*c),
-        Cmd::Kill(movement) => erased_by(movement),
+        Cmd::Kill(movement) => act_of_movement(movement),
         Cmd::ReverseSearchHistory => Act::Goes(SearchDirection::Reverse),
         Cmd::ForwardSearchHistory => Act::Goes(SearchDirection::Forward),
         Cmd::Abort => Act::Leaves,
@@ -220,7 +220,7 @@ impl ModalState {
             completion_type: config.completion_type(),
             lists_at_once: config.completion_show_all_if_ambiguous(),
             limit: config.completion_prompt_limit(),
-            standing: standing_first(config.modal_commands()),
+            standing: first_standing(config.modal_commands()),
             query,
             fresh: true,
             dir: SearchDirection::Reverse,

@@ -9,7 +9,6 @@ use line_config::ReadlineError;
 use line_help::{Helper, History};
 use line_keys::CmdKind;
 
-#[tactic(auto, using(crate::proofs::StopsLemmas::stops_drawing))]
 impl<'p, 'h, Out: Renderer, H: Helper + Drop, Hi: History> State<'p, 'h, Out, H, Hi> {
     ghost use Rattle.line_buffer.specs.Columns.{line_up, line_down};
     ghost use Rattle.line_editor.specs.States.{value_of, setting_of, Does, Renders};

@@ -31,11 +31,10 @@ impl<'p, 'h, Out: Renderer, H: Helper + Drop, Hi: History> State<'p, 'h, Out, H,
             return false;
         }
         let term = &self.recorded.line.as_str()[..self.recorded.line.pos()];
-        let found = self
-            .ctx
+        self.ctx
             .history()
-            .starts_with(term, place - 1, SearchDirection::Reverse);
-        found.is_some()
+            .starts_with(term, place - 1, SearchDirection::Reverse)
+            .is_some()
     }
 
     /// Whether a later entry begins with it.
@@ -47,11 +46,10 @@ impl<'p, 'h, Out: Renderer, H: Helper + Drop, Hi: History> State<'p, 'h, Out, H,
             return false;
         }
         let term = &self.recorded.line.as_str()[..self.recorded.line.pos()];
-        let found = self
-            .ctx
+        self.ctx
             .history()
-            .starts_with(term, place + 1, SearchDirection::Forward);
-        found.is_some()
+            .starts_with(term, place + 1, SearchDirection::Forward)
+            .is_some()
     }
 
     /// Up to the earlier entry. The line is saved, to come back to it. Beeps if there is none.

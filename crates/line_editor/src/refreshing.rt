@@ -7,7 +7,6 @@ use line_config::ReadlineError;
 use line_help::{Helper, Hint, History};
 use line_keys::{CmdKind, Invoke, Refresher, Text};
 
-#[tactic(auto, using(crate::proofs::StopsLemmas::stops_taking))]
 impl<'p, 'h, Out: Renderer, H: Helper + Drop, Hi: History> State<'p, 'h, Out, H, Hi> {
     ghost use Rattle.line_editor.specs.States.{Does};
     ghost use Rattle.line_editor.specs.Values.{open_group, close_groups};
@@ -39,7 +38,6 @@ impl<'p, 'h, Out: Renderer, H: Helper + Drop, Hi: History> Invoke for State<'p, 
     }
 }
 
-#[tactic(auto, using(crate::proofs::RefusedLemmas::refused_is_drawing))]
 impl<'p, 'h, Out: Renderer, H: Helper + Drop, Hi: History> Refresher for State<'p, 'h, Out, H, Hi> {
     ghost use Rattle.line_editor.specs.States.{display_of};
 

@@ -1,7 +1,7 @@
 //! Shows characters that are replaced by as many others.
 ghost use Rattle.std.specs.Prelude.{◌≡◌, ◌≤◌};
 
-use crate::renderer::Renderer;
+use crate::renderer::{RefreshKind, Renderer};
 use crate::state::State;
 use line_buffer::is_printable_text;
 use line_config::ReadlineError;
@@ -18,9 +18,9 @@ impl<'p, 'h, Out: Renderer, H: Helper + Drop, Hi: History> State<'p, 'h, Out, H,
         ensures { result ≡ has_letters from upto (value_of self.now) }
     {
         self.is_bare()
-            && (self.recorded.plain
-                && (upto <= self.recorded.line.len()
-                    && is_printable_text(&self.recorded.line.as_str()[from..upto])))
+            && self.recorded.plain
+            && upto <= self.recorded.line.len()
+            && is_printable_text(&self.recorded.line.as_str()[from..upto])
     }
 
     /// Whether other letters written over them may show a change, if lines may be drawn in part.
@@ -46,8 +46,7 @@ impl<'p, 'h, Out: Renderer, H: Helper + Drop, Hi: History> State<'p, 'h, Out, H,
         if over && self.has_letters(from, upto) {
             self.show_rewritten(from, upto)
         } else {
-            let prompt = self.prompt;
-            self.draw(prompt, true)
+            self.repaint(RefreshKind::All)
         }
     }
 }

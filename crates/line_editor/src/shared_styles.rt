@@ -1,7 +1,7 @@
 //! How far two drawings of a line surely have the same styles.
 ghost use Rattle.std.specs.Prelude.{◌≡◌, ◌<◌, take, drop, length, option_copied, replicate, unwrap_or, IsTrue, if◌then◌else◌};
-ghost use Rattle.line_help.specs.Paints.{first_mark};
-ghost use Rattle.line_editor.specs.SharedStyles.{is_used, plain_rest, shared_styles, span_styles, told_styles};
+ghost use Rattle.line_help.specs.Paints.{first_mark, span_styles};
+ghost use Rattle.line_editor.specs.SharedStyles.{is_used, plain_rest, shared_styles, told_styles};
 
 use line_help::{Highlighter, Mark, Part, Span, Style};
 use std::marker::Model;

@@ -16,7 +16,6 @@ fn pair_end(line: &LineBuffer) -> usize
     if pos < line.len() { pos + 1 } else { pos }
 }
 
-#[tactic(auto, using(crate::proofs::StopsLemmas::undoes_stop))]
 impl<'p, 'h, Out: Renderer, H: Helper + Drop, Hi: History> State<'p, 'h, Out, H, Hi> {
     ghost use Rattle.line_edits.specs.Edits.{after_undo};
     ghost use Rattle.line_editor.specs.States.{Does};

@@ -44,7 +44,6 @@ fn step_back(line: &mut LineBuffer, vi_command: bool)
     }
 }
 
-#[tactic(auto, using(crate::proofs::StopsLemmas::edits_stop, crate::proofs::SinceLemmas::unmarked_noted))]
 impl<'p, 'h, Out: Renderer, H: Helper + Drop, Hi: History> State<'p, 'h, Out, H, Hi> {
     ghost use Rattle.line_editor.specs.States.{value_of, setting_of, Does};
     ghost use Rattle.line_editor.specs.Drawing.{AreNoted};

@@ -1,20 +1,12 @@
 -- Verdicts on brackets, and the texts in which they are balanced.
-use Rattle.std.proofs.Common.{◌≡◌, ◌≢◌, ◌⊎◌, inl, inr, ℕ, Bool, true, false, List, [], ◌∷◌, ◌++◌, map, refl, sym, ap, ◌∙◌, append_assoc, Some, None, arith}
+use Rattle.std.proofs.Common.{◌≡◌, ◌≢◌, ◌⊎◌, inl, inr, ℕ, Bool, true, false, List, [], ◌∷◌, ◌++◌, map, refl, sym, ap, ◌∙◌, append_assoc, Some, None}
 use Rattle.std.specs.Prelude.{◌==◌, ◌||◌, ◌&&◌}
-use Rattle.std.proofs.lemmas.Bool.{eq-eqb}
+use Rattle.std.proofs.lemmas.Bool.{and_parts, eq-eqb, eqb-true}
 use Rattle.std.proofs.lemmas.List.{append-nil}
 use Rattle.line_help.specs.Brackets.{all_kinds, are_kind, is_opening, is_closing, partner, Balanced, empty, other, pair}
 use Rattle.line_help.specs.Validation.{verdict_from, mismatch, closes_innermost, without_innermost, bracket_verdict, ValidIsBalanced, IncompleteIsBegun, InvalidIsLost}
 use Rattle.line_help.specs.declared.helpers.validate.ValidationResult.{ValidationResult}
 use Rattle.line_help.specs.declared.helpers.validate.ValidationResult.TheVariants.{Incomplete, Invalid, Valid}
-
-pub eqb_true : (a b : ℕ) → (a == b) ≡ true → a ≡ b
-eqb_true a b e = grind arith
-
-pub both_true : (p q : Bool) → (p && q) ≡ true → (p ≡ true) × (q ≡ true)
-both_true true true h = (refl, refl)
-both_true true false h = absurd cc
-both_true false q h = absurd cc
 
 -- what is known of the two brackets of a kind
 pub record Kind (opening closing : ℕ) : Type 0 where
@@ -35,9 +27,9 @@ curly = record { opens_it = refl; closes_it = refl; not_opening = refl; are_part
 
 this_kind : (opening closing a b : ℕ) → Kind a b → ((opening == a) && (closing == b)) ≡ true → Kind opening closing
 this_kind opening closing a b kind h =
-    let tests : ((opening == a) ≡ true) × ((closing == b) ≡ true) = both_true (opening == a) (closing == b) h in
-    let one : opening ≡ a = eqb_true opening a tests.0 in
-    let two : closing ≡ b = eqb_true closing b tests.1 in
+    let tests : ((opening == a) ≡ true) × ((closing == b) ≡ true) = and_parts (opening == a) (closing == b) h in
+    let one : opening ≡ a = eqb-true opening a tests.0 in
+    let two : closing ≡ b = eqb-true closing b tests.1 in
     rw (one, two) kind
 
 one_of_three : (opening closing : ℕ) → (one two three : Bool) → ((opening == 40) && (closing == 41)) ≡ one → ((opening == 91) && (closing == 93)) ≡ two → ((opening == 123) && (closing == 125)) ≡ three
@@ -51,18 +43,18 @@ kind_of_pair : (opening closing : ℕ) → are_kind all_kinds opening closing �
 kind_of_pair opening closing h = one_of_three opening closing _ _ _ refl refl refl h
 
 opens_one : (opening : ℕ) → (one two three : Bool) → (opening == 40) ≡ one → (opening == 91) ≡ two → (opening == 123) ≡ three → (one || (two || (three || false))) ≡ true → Kind opening (partner opening)
-opens_one opening true two three e f g h = rw (eqb_true opening 40 e) round
-opens_one opening false true three e f g h = rw (eqb_true opening 91 f) square
-opens_one opening false false true e f g h = rw (eqb_true opening 123 g) curly
+opens_one opening true two three e f g h = rw (eqb-true opening 40 e) round
+opens_one opening false true three e f g h = rw (eqb-true opening 91 f) square
+opens_one opening false false true e f g h = rw (eqb-true opening 123 g) curly
 opens_one opening false false false e f g h = absurd cc
 
 pub kind_of_opening : (opening : ℕ) → is_opening opening ≡ true → Kind opening (partner opening)
 kind_of_opening opening h = opens_one opening _ _ _ refl refl refl h
 
 closes_one : (closing : ℕ) → (one two three : Bool) → (closing == 41) ≡ one → (closing == 93) ≡ two → (closing == 125) ≡ three → (one || (two || (three || false))) ≡ true → Kind (partner closing) closing
-closes_one closing true two three e f g h = rw (eqb_true closing 41 e) round
-closes_one closing false true three e f g h = rw (eqb_true closing 93 f) square
-closes_one closing false false true e f g h = rw (eqb_true closing 125 g) curly
+closes_one closing true two three e f g h = rw (eqb-true closing 41 e) round
+closes_one closing false true three e f g h = rw (eqb-true closing 93 f) square
+closes_one closing false false true e f g h = rw (eqb-true closing 125 g) curly
 closes_one closing false false false e f g h = absurd cc
 
 pub kind_of_closing : (closing : ℕ) → is_closing closing ≡ true → Kind (partner closing) closing
@@ -146,7 +138,7 @@ closes_at_opening unclosed b text h later valid all =
 closes_at_closing : (unclosed : List ℕ) (b : ℕ) (text : List ℕ) → is_opening b ≡ false → is_closing b ≡ true → closes_innermost b unclosed ≡ true → ValidCloses (without_innermost unclosed) text → ValidCloses unclosed (b ∷ text)
 closes_at_closing [] b text h i j later valid all = absurd cc
 closes_at_closing (opening ∷ others) b text h i j later valid all =
-    let same : partner opening ≡ b = eqb_true (partner opening) b j in
+    let same : partner opening ≡ b = eqb-true (partner opening) b j in
     ([], text, ap (λ c. c ∷ text) (sym same), empty, later (sym (closes_step (opening ∷ others) b text h i j) ∙ valid) all.1)
 
 mismatch_invalid : (b : ℕ) (unclosed : List ℕ) → (message : List ℕ) × (mismatch b unclosed ≡ Invalid (Some message))
@@ -194,58 +186,45 @@ closings_valid (opening ∷ others) all =
     closes_step (opening ∷ others) (partner opening) (map partner others) kind.not_opening kind.closes_it (eq-eqb (partner opening) (partner opening) refl)
     ∙ closings_valid others all.1
 
-abbrev IncompleteGoesOn : List ℕ → List ℕ → Type 0
-IncompleteGoesOn unclosed text = verdict_from unclosed text ≡ Incomplete → AllOpening unclosed → (more : List ℕ) × (verdict_from unclosed (text ++ more) ≡ Valid None)
-
-goes_on_at_end : (unclosed : List ℕ) → IncompleteGoesOn unclosed []
+goes_on_at_end : (unclosed : List ℕ) → verdict_from unclosed [] ≡ Incomplete → AllOpening unclosed → (more : List ℕ) × (verdict_from unclosed more ≡ Valid None)
 goes_on_at_end [] h all = absurd cc
 goes_on_at_end (opening ∷ others) h all = (map partner (opening ∷ others), closings_valid (opening ∷ others) all)
 
-goes_on_at_opening : (unclosed : List ℕ) (b : ℕ) (text : List ℕ) → is_opening b ≡ true → IncompleteGoesOn (b ∷ unclosed) text → IncompleteGoesOn unclosed (b ∷ text)
-goes_on_at_opening unclosed b text h later e all =
-    let found : (more : List ℕ) × (verdict_from (b ∷ unclosed) (text ++ more) ≡ Valid None) = later (sym (opens_step unclosed b text h) ∙ e) (h, all) in
-    (found.0, opens_step unclosed b (text ++ found.0) h ∙ found.1)
+-- what a byte does: it leaves these brackets open, or ends the text's verdict
+data Step (unclosed : List ℕ) (b : ℕ) : Type 0 where
+  goes_on : (left : List ℕ) → ((text : List ℕ) → verdict_from unclosed (b ∷ text) ≡ verdict_from left text) → (AllOpening unclosed → AllOpening left) → Step unclosed b
+  fails : (message : List ℕ) → ((text : List ℕ) → verdict_from unclosed (b ∷ text) ≡ Invalid (Some message)) → Step unclosed b
 
-goes_on_at_closing : (unclosed : List ℕ) (b : ℕ) (text : List ℕ) → is_opening b ≡ false → is_closing b ≡ true → closes_innermost b unclosed ≡ true → IncompleteGoesOn (without_innermost unclosed) text → IncompleteGoesOn unclosed (b ∷ text)
-goes_on_at_closing unclosed b text h i j later e all =
-    let found : (more : List ℕ) × (verdict_from (without_innermost unclosed) (text ++ more) ≡ Valid None) = later (sym (closes_step unclosed b text h i j) ∙ e) (all_but_innermost unclosed all) in
-    (found.0, closes_step unclosed b (text ++ found.0) h i j ∙ found.1)
+step_by : (unclosed : List ℕ) (b : ℕ) (p q r : Bool) → is_opening b ≡ p → is_closing b ≡ q → closes_innermost b unclosed ≡ r → Step unclosed b
+step_by unclosed b true q r h i j = goes_on (b ∷ unclosed) (λ text. opens_step unclosed b text h) (λ all. (h, all))
+step_by unclosed b false true true h i j = goes_on (without_innermost unclosed) (λ text. closes_step unclosed b text h i j) (all_but_innermost unclosed)
+step_by unclosed b false true false h i j =
+    let found = mismatch_invalid b unclosed in fails found.0 (λ text. fails_step unclosed b text h i j ∙ found.1)
+step_by unclosed b false false r h i j = goes_on unclosed (λ text. passes_step unclosed b text h i) (λ all. all)
 
-goes_on_at_failure : (unclosed : List ℕ) (b : ℕ) (text : List ℕ) → is_opening b ≡ false → is_closing b ≡ true → closes_innermost b unclosed ≡ false → IncompleteGoesOn unclosed (b ∷ text)
-goes_on_at_failure unclosed b text h i j e all =
-    let f : Incomplete ≡ Invalid (Some (mismatch_invalid b unclosed).0) = sym e ∙ fails_step unclosed b text h i j ∙ (mismatch_invalid b unclosed).1 in
-    absurd cc
+step : (unclosed : List ℕ) (b : ℕ) → Step unclosed b
+step unclosed b = step_by unclosed b _ _ _ refl refl refl
 
-goes_on_at_other : (unclosed : List ℕ) (b : ℕ) (text : List ℕ) → is_opening b ≡ false → is_closing b ≡ false → IncompleteGoesOn unclosed text → IncompleteGoesOn unclosed (b ∷ text)
-goes_on_at_other unclosed b text h i later e all =
-    let found : (more : List ℕ) × (verdict_from unclosed (text ++ more) ≡ Valid None) = later (sym (passes_step unclosed b text h i) ∙ e) all in
-    (found.0, passes_step unclosed b (text ++ found.0) h i ∙ found.1)
-
-incomplete_goes_on : (unclosed text : List ℕ) → IncompleteGoesOn unclosed text
-incomplete_goes_on = read IncompleteGoesOn (record { at_end = goes_on_at_end; at_opening = goes_on_at_opening; at_closing = goes_on_at_closing; at_failure = goes_on_at_failure; at_other = goes_on_at_other })
+incomplete_goes_on : (unclosed text : List ℕ) → verdict_from unclosed text ≡ Incomplete → AllOpening unclosed → (more : List ℕ) × (verdict_from unclosed (text ++ more) ≡ Valid None)
+incomplete_goes_on unclosed [] e all = goes_on_at_end unclosed e all
+incomplete_goes_on unclosed (b ∷ text) e all = elim (step unclosed b) [
+  | goes_on left is opening ↦ (
+      let found = incomplete_goes_on left text (sym (is text) ∙ e) (opening all) in
+      (found.0, is (text ++ found.0) ∙ found.1))
+  | fails message is ↦ let f : Incomplete ≡ Invalid (Some message) = sym e ∙ is text in absurd cc
+]
 
 -- nothing after an invalid text changes that
-abbrev InvalidStays : List ℕ → List ℕ → Type 0
-InvalidStays unclosed text = (message more : List ℕ) → verdict_from unclosed text ≡ Invalid (Some message) → verdict_from unclosed (text ++ more) ≡ Invalid (Some message)
-
-stays_at_end : (unclosed : List ℕ) → InvalidStays unclosed []
+stays_at_end : (unclosed message more : List ℕ) → verdict_from unclosed [] ≡ Invalid (Some message) → verdict_from unclosed more ≡ Invalid (Some message)
 stays_at_end [] message more h = absurd cc
 stays_at_end (opening ∷ others) message more h = absurd cc
 
-stays_at_opening : (unclosed : List ℕ) (b : ℕ) (text : List ℕ) → is_opening b ≡ true → InvalidStays (b ∷ unclosed) text → InvalidStays unclosed (b ∷ text)
-stays_at_opening unclosed b text h later message more e = opens_step unclosed b (text ++ more) h ∙ later message more (sym (opens_step unclosed b text h) ∙ e)
-
-stays_at_closing : (unclosed : List ℕ) (b : ℕ) (text : List ℕ) → is_opening b ≡ false → is_closing b ≡ true → closes_innermost b unclosed ≡ true → InvalidStays (without_innermost unclosed) text → InvalidStays unclosed (b ∷ text)
-stays_at_closing unclosed b text h i j later message more e = closes_step unclosed b (text ++ more) h i j ∙ later message more (sym (closes_step unclosed b text h i j) ∙ e)
-
-stays_at_failure : (unclosed : List ℕ) (b : ℕ) (text : List ℕ) → is_opening b ≡ false → is_closing b ≡ true → closes_innermost b unclosed ≡ false → InvalidStays unclosed (b ∷ text)
-stays_at_failure unclosed b text h i j message more e = fails_step unclosed b (text ++ more) h i j ∙ sym (fails_step unclosed b text h i j) ∙ e
-
-stays_at_other : (unclosed : List ℕ) (b : ℕ) (text : List ℕ) → is_opening b ≡ false → is_closing b ≡ false → InvalidStays unclosed text → InvalidStays unclosed (b ∷ text)
-stays_at_other unclosed b text h i later message more e = passes_step unclosed b (text ++ more) h i ∙ later message more (sym (passes_step unclosed b text h i) ∙ e)
-
-invalid_stays : (unclosed text : List ℕ) → InvalidStays unclosed text
-invalid_stays = read InvalidStays (record { at_end = stays_at_end; at_opening = stays_at_opening; at_closing = stays_at_closing; at_failure = stays_at_failure; at_other = stays_at_other })
+invalid_stays : (unclosed text message more : List ℕ) → verdict_from unclosed text ≡ Invalid (Some message) → verdict_from unclosed (text ++ more) ≡ Invalid (Some message)
+invalid_stays unclosed [] message more e = stays_at_end unclosed message more e
+invalid_stays unclosed (b ∷ text) message more e = elim (step unclosed b) [
+  | goes_on left is opening ↦ is (text ++ more) ∙ invalid_stays left text message more (sym (is text) ∙ e)
+  | fails said is ↦ is (text ++ more) ∙ sym (is text) ∙ e
+]
 
 -- there are three verdicts
 abbrev IsOneOfThree : ValidationResult → Type 0
@@ -256,21 +235,16 @@ carried e (inl h) = inl (e ∙ h)
 carried e (inr (inl h)) = inr (inl (e ∙ h))
 carried e (inr (inr h)) = inr (inr (h.0, e ∙ h.1))
 
-abbrev OneOfThree : List ℕ → List ℕ → Type 0
-OneOfThree unclosed text = IsOneOfThree (verdict_from unclosed text)
-
-three_at_end : (unclosed : List ℕ) → OneOfThree unclosed []
+three_at_end : (unclosed : List ℕ) → IsOneOfThree (verdict_from unclosed [])
 three_at_end [] = inl refl
 three_at_end (opening ∷ others) = inr (inl refl)
 
-one_of_verdicts : (unclosed text : List ℕ) → OneOfThree unclosed text
-one_of_verdicts = read OneOfThree (record {
-  at_end = three_at_end;
-  at_opening = λ unclosed b text h later. carried (opens_step unclosed b text h) later;
-  at_closing = λ unclosed b text h i j later. carried (closes_step unclosed b text h i j) later;
-  at_failure = λ unclosed b text h i j. carried (fails_step unclosed b text h i j) (inr (inr (mismatch_invalid b unclosed)));
-  at_other = λ unclosed b text h i later. carried (passes_step unclosed b text h i) later;
-})
+one_of_verdicts : (unclosed text : List ℕ) → IsOneOfThree (verdict_from unclosed text)
+one_of_verdicts unclosed [] = three_at_end unclosed
+one_of_verdicts unclosed (b ∷ text) = elim (step unclosed b) [
+  | goes_on left is opening ↦ carried (is text) (one_of_verdicts left text)
+  | fails message is ↦ carried (is text) (inr (inr (message, refl)))
+]
 
 valid_or_not : (text : List ℕ) → Balanced all_kinds text → (verdict : ValidationResult) → bracket_verdict text ≡ verdict → verdict ≢ Valid None → ⊥
 valid_or_not text balanced verdict e ne = ne (sym e ∙ balanced_valid text balanced)

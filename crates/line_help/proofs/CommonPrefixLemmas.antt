@@ -1,6 +1,7 @@
 -- Where a common beginning ends.
 use Rattle.std.proofs.Common.{◌++◌, cond, length-drop, ◌≡◌, ℕ, zero, suc, ◌+◌, ◌-◌, ◌<◌, ◌≤◌, ◌⊎◌, Bool, true, false, List, [], ◌∷◌, length, take, drop, get_or, refl, sym, ap, ◌∙◌, subst, inl, inr, Some, arith, nat_eq}
 use Rattle.std.specs.Prelude.{IsUtf8, IsCharBoundary}
+use Rattle.std.proofs.lemmas.Bool.{cond_both}
 use Rattle.std.specs.List.{common_prefix_len}
 use Rattle.std.proofs.lemmas.List.{nil_from_length}
 use Rattle.std.proofs.lemmas.Bool.Decides.{nat_tests}
@@ -46,11 +47,9 @@ kept_unless_empty (b ∷ bs) some = refl
 pub last_cut_le : (text : List ℕ) (n : ℕ) → last_cut text n ≤ n
 unfolding last_cut
 last_cut_le text zero = omega arith
-last_cut_le text (suc n) = go (is_inside_char text (suc n)) (last_cut_le text n)
-  where
-    go : (b : Bool) → last_cut text n ≤ n → cond b (last_cut text n) (suc n) ≤ suc n
-    go true le = omega arith
-    go false le = omega arith
+last_cut_le text (suc n) =
+    let le = last_cut_le text n in
+    cond_both (is_inside_char text (suc n)) (last_cut text n) (suc n) (λ k. k ≤ suc n) (λ e. omega arith) (λ e. omega arith)
 
 outside : (text : List ℕ) (n : ℕ) → n ≤ length text → is_inside_char text n ≡ false → n < length text → 128 ≤ get_or text n 0 → 192 ≤ get_or text n 0
 outside text n le e inside high = grind (arith, nat_tests)
@@ -61,23 +60,18 @@ not_inside text n b = grind (arith, nat_tests)
 pub last_cut_boundary : (text : List ℕ) (n : ℕ) → IsUtf8 text → n ≤ length text → IsCharBoundary text (last_cut text n)
 unfolding last_cut
 last_cut_boundary text zero u le = IsCharBoundary-start text u
-last_cut_boundary text (suc n) u le = go (is_inside_char text (suc n)) refl (last_cut_boundary text n u (omega arith))
-  where
-    go : (b : Bool) → is_inside_char text (suc n) ≡ b → IsCharBoundary text (last_cut text n) → IsCharBoundary text (cond b (last_cut text n) (suc n))
-    go true e before = before
-    go false e before = (le, outside text (suc n) le e)
+last_cut_boundary text (suc n) u le =
+    cond_both (is_inside_char text (suc n)) (last_cut text n) (suc n) (IsCharBoundary text) (λ e. last_cut_boundary text n u (omega arith)) (λ e. (le, outside text (suc n) le e))
 
 pub last_cut_greatest : (text : List ℕ) (i n : ℕ) → IsCharBoundary text i → i ≤ n → i ≤ last_cut text n
 unfolding last_cut
 last_cut_greatest text i zero b le = le
-last_cut_greatest text i (suc n) b le = go (is_inside_char text (suc n)) refl (λ below. last_cut_greatest text i n b below)
-  where
-    go : (a : Bool) → is_inside_char text (suc n) ≡ a → (i ≤ n → i ≤ last_cut text n) → i ≤ cond a (last_cut text n) (suc n)
-    go true e before = elim (above_or_at i n le) [
+last_cut_greatest text i (suc n) b le =
+    cond_both (is_inside_char text (suc n)) (last_cut text n) (suc n) (λ k. i ≤ k)
+    (λ e. elim (above_or_at i n le) [
       | inl same ↦ let never : is_inside_char text (suc n) ≡ false = ap (is_inside_char text) (sym same) ∙ not_inside text i b in cc
-      | inr below ↦ before below
-    ]
-    go false e before = le
+      | inr below ↦ last_cut_greatest text i n b below
+    ]) (λ e. le)
 
 -- as far as texts are alike
 pub alike : (m : ℕ) (text other : List ℕ) → m ≤ common_prefix_len nat_eq text other → take m text ≡ take m other

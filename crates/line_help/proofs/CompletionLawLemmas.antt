@@ -1,6 +1,7 @@
 -- The laws of completion.
-use Rattle.std.proofs.Common.{◌≡◌, ◌≢◌, ℕ, ◌≤◌, ◌&&◌, cond, Bool, true, false, List, [], ◌∷◌, ◌++◌, length, take, drop, nat_eq, Some, refl, sym, ap, ◌∙◌, arith, ne_eqb, append_assoc, length-append}
+use Rattle.std.proofs.Common.{◌≡◌, ◌≢◌, ℕ, ◌≤◌, cond, Bool, true, false, List, [], ◌∷◌, ◌++◌, length, take, drop, nat_eq, Some, refl, sym, ap, ◌∙◌, arith, ne_eqb, append_assoc, length-append}
 use Rattle.std.specs.Prelude.{encode_utf8_all, IsUtf8, IsCharBoundary}
+use Rattle.std.proofs.lemmas.Bool.{and_from, and_parts, cond_both}
 use Rattle.std.specs.Str.{chars, all_scalars}
 use Rattle.std.specs.Char.{IsScalar}
 use lib.Utf8.{scalar}
@@ -27,26 +28,13 @@ read_back esc breaks is (c ∷ cs) = go (breaks c) refl (read_back esc breaks is
         let ne : c ≢ esc = λ same. let t : true ≡ false = sym is ∙ ap breaks (sym same) ∙ e in cc in
         plain_char esc c (escaped_chars esc breaks cs) (ne_eqb c esc ne) ∙ ap (λ ds. c ∷ ds) rest
 
-both : (a b : Bool) → a ≡ true → b ≡ true → (a && b) ≡ true
-both a b e f = rw (e, f) refl
-
-first_of_both : (a b : Bool) → (a && b) ≡ true → a ≡ true
-first_of_both true b e = refl
-first_of_both false b e = e
-
-second_of_both : (a b : Bool) → (a && b) ≡ true → b ≡ true
-second_of_both true b e = e
-second_of_both false b e = cc
-
 all_scalar : (esc : ℕ) (breaks : ℕ → Bool) → IsScalar esc → (cs : List ℕ) → all_scalars cs ≡ true → all_scalars (escaped_chars esc breaks cs) ≡ true
 all_scalar esc breaks s [] h = refl
 all_scalar esc breaks s (c ∷ cs) h =
-    go (breaks c) (all_scalar esc breaks s cs (second_of_both (scalar c) (all_scalars cs) h))
-  where
-    go : (b : Bool) → all_scalars (escaped_chars esc breaks cs) ≡ true → all_scalars (cond b (esc ∷ c ∷ []) (c ∷ []) ++ escaped_chars esc breaks cs) ≡ true
-    go true left = both (scalar esc) (scalar c && all_scalars (escaped_chars esc breaks cs)) s
-        (both (scalar c) (all_scalars (escaped_chars esc breaks cs)) (first_of_both (scalar c) (all_scalars cs) h) left)
-    go false left = both (scalar c) (all_scalars (escaped_chars esc breaks cs)) (first_of_both (scalar c) (all_scalars cs) h) left
+    let parts = and_parts (scalar c) (all_scalars cs) h in
+    let rest = escaped_chars esc breaks cs in
+    let left : all_scalars (c ∷ rest) ≡ true = and_from (scalar c) (all_scalars rest) parts.0 (all_scalar esc breaks s cs parts.1) in
+    cond_both (breaks c) (esc ∷ c ∷ []) (c ∷ []) (λ front. all_scalars (front ++ rest) ≡ true) (λ e. and_from (scalar esc) (all_scalars (c ∷ rest)) s left) (λ e. left)
 
 comes_back : (text : List ℕ) (esc : ℕ) (breaks : ℕ → Bool) → IsUtf8 text → IsScalar esc → breaks esc ≡ true → text_without_escapes (text_with_escapes_by (Some esc) text breaks) (Some esc) ≡ text
 comes_back text esc breaks u s is =
@@ -62,9 +50,6 @@ escapes_come_back_holds text esc breaks Unquoted u s is not_single = comes_back 
 -- what two texts have in common
 begins_on : (a b c : List ℕ) → BeginsText a b → BeginsText b c → BeginsText a c
 begins_on a b c p q = (p.0 ++ q.0, q.1 ∙ ap (λ t. t ++ q.0) p.1 ∙ append_assoc a p.0 q.0)
-
-common_end : (text other : List ℕ) → IsUtf8 text → last_cut text (common_prefix_len nat_eq text other) ≤ common_prefix_len nat_eq text other
-common_end text other u = last_cut_le text (common_prefix_len nat_eq text other)
 
 common_is_text : (text other : List ℕ) → IsUtf8 text → IsUtf8 (common_beginning text other)
 common_is_text text other u =

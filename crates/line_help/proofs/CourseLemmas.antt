@@ -1,5 +1,5 @@
 -- A history and its text stand together after each step.
-use Rattle.std.proofs.Common.{◌≡◌, ℕ, zero, suc, ◌+◌, ◌-◌, ◌≤◌, ◌<◌, ◌⊎◌, inl, inr, Bool, true, false, List, [], ◌∷◌, ◌++◌, length, drop, min, refl, sym, ◌∙◌, ap, arith}
+use Rattle.std.proofs.Common.{◌≡◌, ℕ, zero, suc, ◌+◌, ◌-◌, ◌≤◌, ◌<◌, ◌⊎◌, inl, inr, Bool, true, false, List, [], ◌∷◌, ◌++◌, length, drop, min, refl, sym, ◌∙◌, ap, subst, arith}
 use Rattle.std.specs.Prelude.{◌==◌}
 use Rattle.std.proofs.Math.Nat.{min-eq_left, min-eq_right}
 use Rattle.std.proofs.lemmas.Bool.Decides.{Decides-eqb}
@@ -77,18 +77,9 @@ after_adding s now line r = by_case (ignores_line s r.entries line) refl where
   }
 
   by_case : (b : Bool) → ignores_line s r.entries line ≡ b → Stands s (after_step s (Adds line) now)
-  by_case true e = record {
-    entries = r.entries;
-    unsaved = r.unsaved;
-    rows = r.rows;
-    is = ap (λ h. history_with_line h line) r.is ∙ is_ignored e;
-    text = r.text;
-    back = r.back;
-    turn = r.turn;
-    fits = r.fits;
-    few = r.few;
-    gives = r.gives;
-  }
+  by_case true e =
+      let same : now.history ≡ history_with_line now.history line = r.is ∙ sym (ap (λ h. history_with_line h line) r.is ∙ is_ignored e) in
+      subst (λ h. Stands s (record { text = now.text; history = h })) same r
   by_case false e =
       elim (which (r.unsaved + 1) (length (entries_after s r.entries line))) [
         | inl le ↦ taken (r.unsaved + 1) e (min-eq_left le) le (one_more s r.entries r.rows r.unsaved line e r.turn r.fits r.few r.gives le)

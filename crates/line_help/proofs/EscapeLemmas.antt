@@ -76,25 +76,22 @@ begun out row rest e f = rw (e, f) (sym (from_nothing (unescaped_row row)))
 pub plain_read : (row out more before left : List ℕ) (escape : Bool) (c : ℕ) → unescaped_row row ≡ progress escape out before → before ≡ encode_utf8 c ++ left → escape ≡ false → c ≢ 92
     → more ≡ out ++ encode_utf8 c → unescaped_row row ≡ progress escape more left
 plain_read row out more before left escape c so_far here none ne put =
-    so_far ∙ ap (progress escape out) here ∙ ap (λ e. progress e out (encode_utf8 c ++ left)) none ∙ plain_char c out left ne
-    ∙ ap (λ o. progress false o left) (sym put) ∙ ap (λ e. progress e more left) (sym none)
+    so_far ∙ rw (here, none, put) (plain_char c out left ne)
 
 pub escape_read : (row out before left : List ℕ) (escape : Bool) (c : ℕ) → unescaped_row row ≡ progress escape out before → before ≡ encode_utf8 c ++ left → escape ≡ false → c ≡ 92
     → unescaped_row row ≡ progress true out left
 escape_read row out before left escape c so_far here none is =
-    so_far ∙ ap (progress escape out) here ∙ ap (λ e. progress e out (encode_utf8 c ++ left)) none ∙ ap (λ x. progress false out (encode_utf8 x ++ left)) is ∙ backslash_taken out left
+    so_far ∙ rw (here, none, is) (backslash_taken out left)
 
 pub escaped_newline_read : (row out more before left : List ℕ) (escape : Bool) (c : ℕ) → unescaped_row row ≡ progress escape out before → before ≡ encode_utf8 c ++ left → escape ≡ true → c ≡ 110
     → more ≡ out ++ encode_utf8 10 → unescaped_row row ≡ progress false more left
 escaped_newline_read row out more before left escape c so_far here some is put =
-    so_far ∙ ap (progress escape out) here ∙ ap (λ e. progress e out (encode_utf8 c ++ left)) some ∙ ap (λ x. progress true out (encode_utf8 x ++ left)) is
-    ∙ newline_read out left ∙ ap (λ o. progress false o left) (sym put)
+    so_far ∙ rw (here, some, is, put) (newline_read out left)
 
 pub escaped_backslash_read : (row out more before left : List ℕ) (escape : Bool) (c : ℕ) → unescaped_row row ≡ progress escape out before → before ≡ encode_utf8 c ++ left → escape ≡ true → c ≡ 92
     → more ≡ out ++ encode_utf8 92 → unescaped_row row ≡ progress false more left
 escaped_backslash_read row out more before left escape c so_far here some is put =
-    so_far ∙ ap (progress escape out) here ∙ ap (λ e. progress e out (encode_utf8 c ++ left)) some ∙ ap (λ x. progress true out (encode_utf8 x ++ left)) is
-    ∙ backslash_read out left ∙ ap (λ o. progress false o left) (sym put)
+    so_far ∙ rw (here, some, is, put) (backslash_read out left)
 
 pub ruleset escape_steps = (plain_char, backslash_taken, newline_read, backslash_read, wrong_char, from_nothing)
 

@@ -1,26 +1,25 @@
 -- The nearest hit of a search.
 use Rattle.std.proofs.Common.{◌≡◌, ◌≢◌, ℕ, suc, ◌+◌, ◌-◌, ◌<◌, ◌≤◌, ◌⊎◌, inl, inr, Bool, true, false, List, [], ◌∷◌, ◌++◌, length, drop, take, reverse, eqb, refl, sym, ap, ◌∙◌, subst, append_assoc, Option, Some, None, option_map, arith, length-append, length-drop, true≢false, ne_eqb}
-use Rattle.std.specs.Prelude.{if◌then◌else◌, ◌||◌, ◌==◌, nat_le, is_some, unwrap_or}
-use Rattle.std.specs.List.{starts_with, All, AllByRecursion}
+use Rattle.std.specs.Prelude.{if◌then◌else◌, ◌||◌, ◌==◌, nat_le, unwrap_or}
+use Rattle.std.proofs.lemmas.Bool.{eqb-true, or_parts}
+use Rattle.std.proofs.lemmas.Option.{cond_some, none-some}
+use Rattle.std.specs.List.{starts_with, All}
 use Rattle.std.proofs.Math.Seq.{take-append-add}
 use Rattle.std.proofs.lemmas.Bool.Decides.{Decides-eqb, nat_tests}
 use Rattle.std.proofs.lemmas.List.{drop-append-le, drop_at, take_at, take-append-drop, length-take-le, length-reverse, reverse-append, reverse-reverse}
-use Rattle.std.proofs.lemmas.List.Elements.{All-from_recursion, recursion_from_All}
+use Rattle.std.proofs.lemmas.List.Elements.{All-append, All-cons, All-head, All-nil, All-tail}
 use Rattle.std.proofs.lemmas.Slice.Eq.{starts_is}
 use Rattle.line_help.specs.Search.{Hit, hit_or, hit_by, first_hit, first_from, first_back, nearest, TermAt, HasTerm, IsHit, IsNearest, NearestIsFound}
 use Rattle.line_help.specs.declared.history.search.SearchDirection.{SearchDirection}
 use Rattle.line_help.specs.declared.history.search.SearchDirection.TheVariants.{Forward, Reverse}
-use Rattle.line_help.proofs.SearchLemmas.{begins_with_itself}
+use Rattle.line_help.proofs.SearchLemmas.{begins_with_itself, unless_none}
 
 some_if : (b : Bool) (n pos : ℕ) (other : Option ℕ) → (if b then Some n else other) ≡ Some pos → ((b ≡ true) × (n ≡ pos)) ⊎ ((b ≡ false) × (other ≡ Some pos))
 some_if true n pos other e = inl (refl, ap (λ o. unwrap_or o n) e)
 some_if false n pos other e = inr (refl, e)
 
-none_is_some : {A : Type 0} {x : A} → None ≡ Some x → ⊥
-none_is_some e = true≢false (sym (ap is_some e))
-
-mapped : (f : ℕ → ℕ) (x : Option ℕ) (y : ℕ) → option_map f x ≡ Some y → (n : ℕ) × (x ≡ Some n) × (y ≡ f n)
-mapped f None y e = absurd (none_is_some e)
+pub mapped : (f : ℕ → ℕ) (x : Option ℕ) (y : ℕ) → option_map f x ≡ Some y → (n : ℕ) × (x ≡ Some n) × (y ≡ f n)
+mapped f None y e = absurd (none-some _ e)
 mapped f (Some n) y e = (n, refl, sym (ap (λ o. unwrap_or o y) e))
 
 value_of : (o : Option ℕ) → (o ≡ None) ⊎ ((pos : ℕ) × (o ≡ Some pos))
@@ -37,10 +36,7 @@ first_found term [] pos e = go term e
   where
     go : (term : List ℕ) → (if length term == 0 then Some 0 else None) ≡ Some pos → TermAt term [] pos
     go [] e = ([], [], refl, sym (ap (λ o. unwrap_or o pos) e))
-    go (t ∷ term) e = elim (some_if (length (t ∷ term) == 0) 0 pos None e) [
-      | inl h ↦ absurd (let f : length (t ∷ term) ≢ 0 = λ g. absurd (omega arith) in true≢false (sym h.0 ∙ ne_eqb (length (t ∷ term)) 0 f))
-      | inr h ↦ absurd (none_is_some h.1)
-    ]
+    go (t ∷ term) e = absurd (let f : length (t ∷ term) ≡ 0 = eqb-true (length (t ∷ term)) 0 (cond_some (length (t ∷ term) == 0) 0 pos e).0 in omega arith)
 first_found term (b ∷ bs) pos e = elim (some_if (starts_with eqb (b ∷ bs) term) 0 pos (option_map suc (first_hit term bs)) e) [
   | inl h ↦ ([], drop (length term) (b ∷ bs), begins term (b ∷ bs) h.0, sym h.1)
   | inr h ↦ (
@@ -86,10 +82,8 @@ least term text pos other e at =
 
 test_hits : (anchored : Bool) (term entry : List ℕ) (pos : ℕ) → hit_by anchored term entry ≡ Some pos → IsHit anchored term entry pos
 test_hits false term entry pos e = (first_found term entry pos e, λ other at. least term entry pos other e at)
-test_hits true term entry pos e = elim (some_if (starts_with eqb entry term) (length term) pos None e) [
-  | inl h ↦ (([], drop (length term) entry, begins term entry h.0, refl), sym h.1)
-  | inr h ↦ absurd (none_is_some h.1)
-]
+test_hits true term entry pos e =
+    let h = cond_some (starts_with eqb entry term) (length term) pos e in (([], drop (length term) entry, begins term entry h.0, refl), sym h.1)
 
 starts_at_zero : (term entry : List ℕ) → TermAt term entry 0 → entry ≡ term ++ drop (length term) entry
 starts_at_zero term entry at = go at.0 at.2 at.3
@@ -103,7 +97,7 @@ test_none false term entry e has = subst (FoundUpTo (length has.1.0)) e (up_to t
 test_none true term entry e has =
     let whole = starts_at_zero term entry has in
     let all : starts_with eqb entry term ≡ true = subst (λ t. starts_with eqb t term ≡ true) (sym whole) (begins_with_itself term (drop (length term) entry)) in
-    none_is_some (sym e ∙ ap (λ b. if b then Some (length term) else None) all)
+    none-some _ (sym e ∙ ap (λ b. if b then Some (length term) else None) all)
 
 has_hit : (anchored : Bool) (term entry : List ℕ) (pos : ℕ) → IsHit anchored term entry pos → HasTerm anchored term entry
 has_hit false term entry pos h = (pos, h.0)
@@ -130,8 +124,8 @@ lacks_test anchored term entry lacks = elim (value_of (hit_by anchored term entr
 
 -- ---- the first of some entries
 
-abbrev Misses : (List ℕ → Option ℕ) → List (List ℕ) → Type 0
-Misses test xs = AllByRecursion (λ entry. test entry ≡ None) xs
+abbrev NoHit : (List ℕ → Option ℕ) → List ℕ → Type 0
+NoHit test entry = test entry ≡ None
 
 -- the first entry of these with a hit, with the entries before and after it
 record FirstOf (test : List ℕ → Option ℕ) (xs : List (List ℕ)) (hit : Hit) : Type 0 where
@@ -139,7 +133,7 @@ record FirstOf (test : List ℕ → Option ℕ) (xs : List (List ℕ)) (hit : Hi
   back : List (List ℕ)
   split : xs ≡ front ++ (hit.entry ∷ back)
   here : test hit.entry ≡ Some hit.pos
-  missed : Misses test front
+  missed : All (NoHit test) front
 
 hit_cases : (o : Option ℕ) (entry : List ℕ) (idx : ℕ) (other : Option Hit) (hit : Hit) → hit_or o entry idx other ≡ Some hit
     → ((hit.idx ≡ idx) × (hit.entry ≡ entry) × (o ≡ Some hit.pos)) ⊎ ((o ≡ None) × (other ≡ Some hit))
@@ -149,13 +143,13 @@ hit_cases (Some pos) entry idx other hit e =
     inl (sym (ap (λ (h : Hit). h.idx) is), sym (ap (λ (h : Hit). h.entry) is), ap (λ (h : Hit). Some h.pos) is)
 
 abbrev at_head : (test : List ℕ → Option ℕ) (x : List ℕ) (xs : List (List ℕ)) (hit : Hit) → hit.entry ≡ x → test x ≡ Some hit.pos → FirstOf test (x ∷ xs) hit
-at_head test x xs hit e h = record { front = []; back = xs; split = ap (λ y. y ∷ xs) (sym e); here = ap test e ∙ h; missed = tt }
+at_head test x xs hit e h = record { front = []; back = xs; split = ap (λ y. y ∷ xs) (sym e); here = ap test e ∙ h; missed = All-nil (NoHit test) }
 
 abbrev behind_head : (test : List ℕ → Option ℕ) (x : List ℕ) (xs : List (List ℕ)) (hit : Hit) → test x ≡ None → FirstOf test xs hit → FirstOf test (x ∷ xs) hit
-behind_head test x xs hit none f = record { front = x ∷ f.front; back = f.back; split = ap (λ ys. x ∷ ys) f.split; here = f.here; missed = (none, f.missed) }
+behind_head test x xs hit none f = record { front = x ∷ f.front; back = f.back; split = ap (λ ys. x ∷ ys) f.split; here = f.here; missed = All-cons (NoHit test) x f.front none f.missed }
 
 from_parts : (test : List ℕ → Option ℕ) (idx : ℕ) (xs : List (List ℕ)) (hit : Hit) → first_from test idx xs ≡ Some hit → (f : FirstOf test xs hit) × (hit.idx ≡ idx + length f.front)
-from_parts test idx [] hit e = absurd (none_is_some e)
+from_parts test idx [] hit e = absurd (none-some _ e)
 from_parts test idx (x ∷ xs) hit e = elim (hit_cases (test x) x idx (first_from test (idx + 1) xs) hit e) [
   | inl h ↦ (at_head test x xs hit h.1 h.2, let i : hit.idx ≡ idx = h.0 in omega arith)
   | inr h ↦ (
@@ -164,7 +158,7 @@ from_parts test idx (x ∷ xs) hit e = elim (hit_cases (test x) x idx (first_fro
 ]
 
 back_parts : (test : List ℕ → Option ℕ) (xs : List (List ℕ)) (hit : Hit) → first_back test xs ≡ Some hit → (f : FirstOf test xs hit) × (hit.idx ≡ length f.back)
-back_parts test [] hit e = absurd (none_is_some e)
+back_parts test [] hit e = absurd (none-some _ e)
 back_parts test (x ∷ xs) hit e = elim (hit_cases (test x) x (length xs) (first_back test xs) hit e) [
   | inl h ↦ (at_head test x xs hit h.1 h.2, h.0)
   | inr h ↦ (
@@ -172,55 +166,39 @@ back_parts test (x ∷ xs) hit e = elim (hit_cases (test x) x (length xs) (first
       (behind_head test x xs hit h.0 later.0, later.1))
 ]
 
-hit_at : List ℕ → ℕ → ℕ → Hit
-hit_at entry idx pos = record { entry = entry; idx = idx; pos = pos }
-
-from_is : (test : List ℕ → Option ℕ) (idx : ℕ) (front : List (List ℕ)) (entry : List ℕ) (back : List (List ℕ)) (pos : ℕ) → Misses test front → test entry ≡ Some pos
+from_is : (test : List ℕ → Option ℕ) (idx : ℕ) (front : List (List ℕ)) (entry : List ℕ) (back : List (List ℕ)) (pos : ℕ) → All (NoHit test) front → test entry ≡ Some pos
     → first_from test idx (front ++ (entry ∷ back)) ≡ Some (record { entry = entry; idx = idx + length front; pos = pos })
 from_is test idx [] entry back pos missed here =
     ap (λ o. hit_or o entry idx (first_from test (idx + 1) back)) here ∙ ap (λ i. let h : Hit = record { entry = entry; idx = i; pos = pos } in Some h) (omega arith)
 from_is test idx (x ∷ front) entry back pos missed here =
     let count : idx + 1 + length front ≡ idx + suc (length front) = omega arith in
-    ap (λ o. hit_or o x idx (first_from test (idx + 1) (front ++ (entry ∷ back)))) missed.0
-    ∙ from_is test (idx + 1) front entry back pos missed.1 here
+    ap (λ o. hit_or o x idx (first_from test (idx + 1) (front ++ (entry ∷ back)))) (All-head (NoHit test) x front missed)
+    ∙ from_is test (idx + 1) front entry back pos (All-tail (NoHit test) x front missed) here
     ∙ ap (λ i. let h : Hit = record { entry = entry; idx = i; pos = pos } in Some h) count
 
-back_is : (test : List ℕ → Option ℕ) (front : List (List ℕ)) (entry : List ℕ) (back : List (List ℕ)) (pos : ℕ) → Misses test front → test entry ≡ Some pos
+back_is : (test : List ℕ → Option ℕ) (front : List (List ℕ)) (entry : List ℕ) (back : List (List ℕ)) (pos : ℕ) → All (NoHit test) front → test entry ≡ Some pos
     → first_back test (front ++ (entry ∷ back)) ≡ Some (record { entry = entry; idx = length back; pos = pos })
 back_is test [] entry back pos missed here = ap (λ o. hit_or o entry (length back) (first_back test back)) here
 back_is test (x ∷ front) entry back pos missed here =
-    ap (λ o. hit_or o x (length (front ++ (entry ∷ back))) (first_back test (front ++ (entry ∷ back)))) missed.0 ∙ back_is test front entry back pos missed.1 here
+    ap (λ o. hit_or o x (length (front ++ (entry ∷ back))) (first_back test (front ++ (entry ∷ back)))) (All-head (NoHit test) x front missed)
+    ∙ back_is test front entry back pos (All-tail (NoHit test) x front missed) here
 
 -- ---- lists read from the end
 
-all_as : (P Q : List ℕ → Type 0) (xs : List (List ℕ)) → ((x : List ℕ) → P x → Q x) → AllByRecursion P xs → AllByRecursion Q xs
-all_as P Q [] f all = tt
-all_as P Q (x ∷ xs) f all = (f x all.0, all_as P Q xs f all.1)
-
-all_more : (P : List ℕ → Type 0) (xs : List (List ℕ)) (y : List ℕ) → AllByRecursion P xs → P y → AllByRecursion P (xs ++ y ∷ [])
-all_more P [] y all p = (p, tt)
-all_more P (x ∷ xs) y all p = (all.0, all_more P xs y all.1 p)
-
-all_turned : (P : List ℕ → Type 0) (xs : List (List ℕ)) → AllByRecursion P xs → AllByRecursion P (reverse xs)
-all_turned P [] all = tt
-all_turned P (x ∷ xs) all = subst (AllByRecursion P) (sym (reverse-append (x ∷ []) xs)) (all_more P (reverse xs) x (all_turned P xs all.1) all.0)
+all_turned : (P : List ℕ → Type 0) (xs : List (List ℕ)) → All P xs → All P (reverse xs)
+all_turned P [] all = all
+all_turned P (x ∷ xs) all =
+    let turned = All-append P (reverse xs) (x ∷ []) (all_turned P xs (All-tail P x xs all)) (All-cons P x [] (All-head P x xs all) (All-nil P)) in
+    subst (All P) (sym (reverse-append (x ∷ []) xs)) turned
 
 turned_at : (front : List (List ℕ)) (entry : List ℕ) (back : List (List ℕ)) → reverse (front ++ (entry ∷ back)) ≡ reverse back ++ (entry ∷ reverse front)
 turned_at front entry back = rw (reverse-append front (entry ∷ back), reverse-append (entry ∷ []) back, append_assoc) refl
 
 -- ---- the nearest hit
 
-unless : (b : Bool) (x : Option Hit) (hit : Hit) → (if b then None else x) ≡ Some hit → (b ≡ false) × (x ≡ Some hit)
-unless true x hit e = absurd (none_is_some e)
-unless false x hit e = (refl, e)
-
-later_part : (a b : Bool) → (a || b) ≡ false → (a ≡ false) × (b ≡ false)
-later_part false b e = (refl, e)
-later_part true b e = absurd (true≢false e)
-
 searching : (term : List ℕ) (start : ℕ) (entries : List (List ℕ)) → (length term == 0 || nat_le (length entries) start) ≡ false → (term ≢ []) × (start < length entries)
 searching term start entries e =
-    let parts = later_part (length term == 0) (nat_le (length entries) start) e in
+    let parts = or_parts (length term == 0) (nat_le (length entries) start) e in
     let low : nat_le (length entries) start ≡ false = parts.1 in (
       λ none. true≢false (sym (ap (λ (t : List ℕ). length t == 0) none) ∙ parts.0),
       grind arith,
@@ -254,7 +232,7 @@ module _ (anchored : Bool) (term : List ℕ) (start : ℕ) (entries : List (List
         place = let i : hit.idx ≡ start + length f.front = found.1 in omega arith;
         here = test_hits anchored term hit.entry hit.pos f.here;
         ahead = omega arith;
-        none_nearer = subst (All (λ entry. ¬ HasTerm anchored term entry)) (sym rest) (All-from_recursion (λ entry. ¬ HasTerm anchored term entry) f.front (all_as (λ entry. hit_by anchored term entry ≡ None) (λ entry. ¬ HasTerm anchored term entry) f.front (test_none anchored term) f.missed));
+        none_nearer = subst (All (λ entry. ¬ HasTerm anchored term entry)) (sym rest) (λ k d low. test_none anchored term _ (f.missed k d low));
       }
 
   backward_found : term ≢ [] → start < length entries → first_back test (reverse (take (start + 1) entries)) ≡ Some hit → IsNearest anchored term start Reverse entries hit
@@ -277,7 +255,7 @@ module _ (anchored : Bool) (term : List ℕ) (start : ℕ) (entries : List (List
         place = found.1 ∙ sym turned;
         here = test_hits anchored term hit.entry hit.pos f.here;
         ahead = omega arith;
-        none_nearer = subst (All (λ entry. ¬ HasTerm anchored term entry)) (sym rest) (All-from_recursion (λ entry. ¬ HasTerm anchored term entry) (reverse f.front) (all_turned (λ entry. ¬ HasTerm anchored term entry) f.front (all_as (λ entry. hit_by anchored term entry ≡ None) (λ entry. ¬ HasTerm anchored term entry) f.front (test_none anchored term) f.missed)));
+        none_nearer = subst (All (λ entry. ¬ HasTerm anchored term entry)) (sym rest) (all_turned (λ entry. ¬ HasTerm anchored term entry) f.front (λ k d low. test_none anchored term _ (f.missed k d low)));
       }
 
   is_forward : (n : IsNearest anchored term start Forward entries hit) → first_from test start (drop start entries) ≡ Some hit
@@ -289,7 +267,7 @@ module _ (anchored : Bool) (term : List ℕ) (start : ℕ) (entries : List (List
       ap (λ xs. first_from test start (drop start xs)) n.split
       ∙ ap (first_from test start) (drop-append-le start n.before (hit.entry ∷ n.after) ahead)
       ∙ from_is test start (drop start n.before) hit.entry n.after hit.pos
-      (all_as (λ entry. ¬ HasTerm anchored term entry) (λ entry. hit_by anchored term entry ≡ None) (drop start n.before) (lacks_test anchored term) (recursion_from_All (λ entry. ¬ HasTerm anchored term entry) (drop start n.before) n.none_nearer)) (hits_test anchored term hit.entry hit.pos n.here)
+      (λ k d low. lacks_test anchored term _ (n.none_nearer k d low)) (hits_test anchored term hit.entry hit.pos n.here)
       ∙ ap (λ i. let h : Hit = record { entry = hit.entry; idx = i; pos = hit.pos } in Some h) idx
 
   is_backward : (n : IsNearest anchored term start Reverse entries hit) → first_back test (reverse (take (start + 1) entries)) ≡ Some hit
@@ -304,7 +282,7 @@ module _ (anchored : Bool) (term : List ℕ) (start : ℕ) (entries : List (List
       ap (λ xs. first_back test (reverse xs)) first
       ∙ ap (first_back test) (turned_at n.before hit.entry nearer)
       ∙ back_is test (reverse nearer) hit.entry (reverse n.before) hit.pos
-      (all_turned (λ entry. hit_by anchored term entry ≡ None) nearer (all_as (λ entry. ¬ HasTerm anchored term entry) (λ entry. hit_by anchored term entry ≡ None) nearer (lacks_test anchored term) (recursion_from_All (λ entry. ¬ HasTerm anchored term entry) nearer n.none_nearer))) (hits_test anchored term hit.entry hit.pos n.here)
+      (all_turned (NoHit test) nearer (λ k d low. lacks_test anchored term _ (n.none_nearer k d low))) (hits_test anchored term hit.entry hit.pos n.here)
       ∙ ap (λ i. let h : Hit = record { entry = hit.entry; idx = i; pos = hit.pos } in Some h) (turned ∙ sym place)
 
 found_so : (anchored : Bool) (term : List ℕ) (start : ℕ) (direction : SearchDirection) (entries : List (List ℕ)) (hit : Hit) → term ≢ [] → start < length entries
@@ -320,7 +298,7 @@ so_found anchored term start Reverse entries hit n = is_backward anchored term s
 pub nearest_is_found : NearestIsFound
 nearest_is_found anchored term start direction entries hit = (
   λ e.
-      let u = unless (length term == 0 || nat_le (length entries) start) (nearest direction (hit_by anchored term) start entries) hit e in
+      let u = unless_none (length term == 0 || nat_le (length entries) start) (nearest direction (hit_by anchored term) start entries) hit e in
       let s = searching term start entries u.0 in
       found_so anchored term start direction entries hit s.0 s.1 u.1,
   λ n.

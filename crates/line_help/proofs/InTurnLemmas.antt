@@ -1,6 +1,7 @@
 -- Lines that are added one after the other to a list of entries.
 use Rattle.std.proofs.Common.{◌≡◌, ℕ, zero, suc, ◌-◌, ◌≤◌, ◌<◌, Bool, true, false, List, [], ◌∷◌, ◌++◌, length, drop, refl, sym, ◌∙◌, ap, arith}
 use Rattle.std.specs.Prelude.{◌==◌, ◌||◌, ◌&&◌}
+use Rattle.std.proofs.lemmas.Bool.{and_parts, and_right, cond_both, eqb-false, or_from, or_parts}
 use Rattle.std.proofs.lemmas.List.{append-nil, append_assoc}
 use Rattle.std.proofs.lemmas.Slice.Eq.{bytes_eq-Decides}
 use Rattle.line_help.specs.History.{Settings, Filed, entries_after, begins_with_space, history_with_line, history_with_lines, ignores_line, newest, newest_is}
@@ -47,28 +48,16 @@ same_newest : (s : Settings) (xs ys : List (List ℕ)) (line : List ℕ) → new
 same_newest s xs ys line e =
     ap (λ b. ((s.max_len == 0 || length line == 0) || (s.ignore_space && begins_with_space line)) || (s.ignore_dups && b)) e
 
-two_false : (a b : Bool) → (a || b) ≡ false → (a ≡ false) × (b ≡ false)
-two_false true b e = cc
-two_false false b e = (refl, e)
-
-and_false : (b : Bool) → (b && false) ≡ false
-and_false true = refl
-and_false false = refl
-
-or_false : (a b c : Bool) → (a || b) ≡ false → c ≡ false → (a || c) ≡ false
-or_false true b c e f = cc
-or_false false b c e f = f
-
 some_room : (s : Settings) (entries : List (List ℕ)) (line : List ℕ) → ignores_line s entries line ≡ false → 0 < s.max_len
-some_room s entries line e = by_size s.max_len (two_false (s.max_len == 0) (length line == 0) (two_false _ (s.ignore_space && begins_with_space line) (two_false _ _ e).0).0).0 where
-  by_size : (n : ℕ) → (n == 0) ≡ false → 0 < n
-  by_size zero f = cc
-  by_size (suc n) f = omega arith
+some_room s entries line e =
+    let some = eqb-false s.max_len 0 (or_parts (s.max_len == 0) (length line == 0) (or_parts _ (s.ignore_space && begins_with_space line) (or_parts _ _ e).0).0).0 in
+    omega arith
 
 -- a line that is taken after another is taken first, too
 taken_first : (s : Settings) (entries : List (List ℕ)) (line : List ℕ) → ignores_line s entries line ≡ false → ignores_line s [] line ≡ false
 taken_first s entries line e =
-    or_false ((s.max_len == 0 || length line == 0) || (s.ignore_space && begins_with_space line)) (s.ignore_dups && newest_is line entries) (s.ignore_dups && false) e (and_false s.ignore_dups)
+    let others = (s.max_len == 0 || length line == 0) || (s.ignore_space && begins_with_space line) in
+    or_from others (s.ignore_dups && false) (or_parts others (s.ignore_dups && newest_is line entries) e).0 (and_right s.ignore_dups false refl)
 
 pub in_turn_alone : (s : Settings) (entries : List (List ℕ)) (last : List ℕ) (lines : List (List ℕ)) → InTurn s (last ∷ []) lines → InTurn s (entries ++ last ∷ []) lines
 in_turn_alone s entries last [] t = tt
@@ -106,10 +95,6 @@ ends_with line [] e = cc
 ends_with line (x ∷ []) e = ([], ap (λ y. y ∷ []) ((bytes_eq-Decides x line).0 e))
 ends_with line (x ∷ (y ∷ entries)) e = let r = ends_with line (y ∷ entries) e in (x ∷ r.0, ap (λ xs. x ∷ xs) r.1)
 
-and_true_right : (a b : Bool) → (a && b) ≡ true → b ≡ true
-and_true_right true b e = e
-and_true_right false b e = cc
-
 or_true_right : (a b : Bool) → (a || b) ≡ true → a ≡ false → b ≡ true
 or_true_right true b e f = cc
 or_true_right false b e f = e
@@ -118,8 +103,8 @@ or_true_right false b e f = e
 ignored_repeats : (s : Settings) (entries : List (List ℕ)) (line : List ℕ) → ignores_line s entries line ≡ true → ignores_line s [] line ≡ false → newest_is line entries ≡ true
 ignored_repeats s entries line e f =
     let others = (s.max_len == 0 || length line == 0) || (s.ignore_space && begins_with_space line) in
-    and_true_right s.ignore_dups (newest_is line entries)
-    (or_true_right others (s.ignore_dups && newest_is line entries) e (two_false others (s.ignore_dups && false) f).0)
+    (and_parts s.ignore_dups (newest_is line entries)
+    (or_true_right others (s.ignore_dups && newest_is line entries) e (or_parts others (s.ignore_dups && false) f).0)).1
 
 none_of : (entries : List (List ℕ)) → length entries ≤ 0 → entries ≡ []
 none_of [] few = refl
@@ -146,16 +131,13 @@ overwritten s entries (line ∷ lines) fits t e = by_case (ignores_line s entrie
 
 -- what adding makes of such a list is such a list
 pub stays_in_turn : (s : Settings) (entries : List (List ℕ)) (line : List ℕ) → InTurn s [] entries → InTurn s [] (entries_after s entries line)
-stays_in_turn s entries line t = by_case (ignores_line s entries line) refl where
-  by_case : (b : Bool) → ignores_line s entries line ≡ b → InTurn s [] (entries_after s entries line)
-  by_case true e = rw e t
-  by_case false e = rw e (in_turn_rest s (length (entries ++ line ∷ []) - s.max_len) (entries ++ line ∷ []) (in_turn_with s [] entries line t e))
+stays_in_turn s entries line t = cond_both (ignores_line s entries line) entries (newest s.max_len (entries ++ line ∷ [])) (InTurn s []) (λ e. t)
+    (λ e. in_turn_rest s (length (entries ++ line ∷ []) - s.max_len) (entries ++ line ∷ []) (in_turn_with s [] entries line t e))
 
 pub stays_small : (s : Settings) (entries : List (List ℕ)) (line : List ℕ) → length entries ≤ s.max_len → length (entries_after s entries line) ≤ s.max_len
-stays_small s entries line fits = by_case (ignores_line s entries line) refl where
-  by_case : (b : Bool) → ignores_line s entries line ≡ b → length (entries_after s entries line) ≤ s.max_len
-  by_case true e = rw e fits
-  by_case false e = rw e (let l = length-newest s.max_len (entries ++ line ∷ []) in omega arith)
+stays_small s entries line fits =
+    let l = length-newest s.max_len (entries ++ line ∷ []) in
+    cond_both (ignores_line s entries line) entries (newest s.max_len (entries ++ line ∷ [])) (λ xs. length xs ≤ s.max_len) (λ e. fits) (λ e. omega arith)
 
 pub all_in_turn : (s : Settings) (entries lines : List (List ℕ)) → InTurn s [] entries → InTurn s [] (added_all s entries lines)
 all_in_turn s entries [] t = t

@@ -1,14 +1,11 @@
 pub mod BalanceLemmas
-mod BracketRows
 pub mod CommonPrefixLemmas
 pub mod CompletionLawLemmas
-mod CompletionRows
 pub mod CourseLemmas
 pub mod EscapeLemmas
 pub mod FileNameLemmas
 pub mod FoundLemmas
 pub mod HighlightLemmas
-mod HistoryRows
 pub mod InTurnLemmas
 pub mod LaneLemmas
 pub mod LoadLemmas
@@ -21,6 +18,7 @@ pub mod QuoteLemmas
 pub mod ReloadLemmas
 pub mod RowLemmas
 pub mod RunLemmas
+pub mod SameStyles
 pub mod SavingLemmas
 pub mod SearchLemmas
 pub mod SortLemmas

@@ -1,6 +1,8 @@
 -- Loading: one row after the other.
 use Rattle.std.proofs.Common.{◌≡◌, ℕ, ◌<◌, Bool, true, false, List, [], ◌∷◌, ◌++◌, length, refl, sym, ◌∙◌, ap, ap₂, arith, append_assoc, subst, suc}
 use Rattle.std.specs.Prelude.{Result, if◌then◌else◌, ◌&&◌, not, IsTrue, IsUtf8, IfErr, Ok, Err, IsOk, bytes_eq}
+use Rattle.std.proofs.Math.Bool.{and-true, and_assoc}
+use Rattle.std.proofs.lemmas.Bool.{false_from_ne_true}
 use Rattle.std.specs.Result.{is_ok, MatchResult, OnOk}
 use Rattle.std.specs.Str.{is_utf8, chars}
 use Rattle.std.proofs.lemmas.Str.{IsUtf8-from_is_utf8, is_utf8-from_IsUtf8, IsUtf8-nil}
@@ -13,10 +15,7 @@ use Rattle.line_help.specs.History.{Filed, history_with_line, history_with_lines
 use Rattle.line_help.specs.HistoryText.{GoodUpTo, LosesRow, after_first, behind_row, behind_rows, follows, text_rows, entries_of, entry_of, good_rows, has_bad_row, header, load_answer, load_leaves, history_left_at, row_fault, rows_answer, texts_of, LoadsSome, rest_after_load}
 
 pub not_utf8 : (bytes : List ℕ) → ¬ (IsUtf8 bytes) → is_utf8 bytes ≡ false
-not_utf8 bytes never = by_answer (is_utf8 bytes) refl where
-  by_answer : (b : Bool) → is_utf8 bytes ≡ b → is_utf8 bytes ≡ false
-  by_answer true e = absurd (never (IsUtf8-from_is_utf8 bytes e))
-  by_answer false e = e
+not_utf8 bytes never = false_from_ne_true (is_utf8 bytes) (λ e. never (IsUtf8-from_is_utf8 bytes e))
 
 -- bytes that were read as a text are one; bytes that failed as a text are none
 pub read_utf8 : {X E : Type 0} (P : X → Type 0) (Q : E → Type 0) (bytes : List ℕ) (read : Result X E) → MatchResult read P Q → IsOk read
@@ -33,10 +32,6 @@ pub empty_is_utf8 : (row : List ℕ) → length row ≡ 0 → is_utf8 row ≡ tr
 empty_is_utf8 [] e = is_utf8-from_IsUtf8 [] IsUtf8-nil
 empty_is_utf8 (b ∷ bs) e = absurd (omega arith)
 
-and_assoc : (a b c : Bool) → (a && (b && c)) ≡ ((a && b) && c)
-and_assoc true b c = refl
-and_assoc false b c = refl
-
 -- the rest of the rows, after the entry of the first
 left_step : (h : Filed) (escapes : Bool) (row : List ℕ) (rows : List (List ℕ))
     → history_with_lines h (entries_of escapes (row ∷ rows)) ≡ history_with_lines (history_with_lines h (entries_of escapes (row ∷ []))) (entries_of escapes rows)
@@ -47,10 +42,8 @@ takes_step : (h : Filed) (escapes : Bool) (row : List ℕ) (rows : List (List �
     → takes_all h (entries_of escapes (row ∷ rows)) ≡ (takes_all h (entries_of escapes (row ∷ [])) && takes_all (history_with_lines h (entries_of escapes (row ∷ []))) (entries_of escapes rows))
 takes_step h escapes [] rows = refl
 takes_step h escapes (b ∷ bs) rows =
-    and_same (not (ignores_line h.kept.settings h.kept.entries (entry_of escapes (b ∷ bs)))) (takes_all (history_with_line h (entry_of escapes (b ∷ bs))) (entries_of escapes rows)) where
-      and_same : (a c : Bool) → (a && c) ≡ ((a && true) && c)
-      and_same true c = refl
-      and_same false c = refl
+    ap (λ taken. taken && takes_all (history_with_line h (entry_of escapes (b ∷ bs))) (entries_of escapes rows))
+    (sym (and-true (not (ignores_line h.kept.settings h.kept.entries (entry_of escapes (b ∷ bs))))))
 
 good_more : (row : List ℕ) (rows : List (List ℕ)) → is_utf8 row ≡ true → good_rows (row ∷ rows) ≡ row ∷ good_rows rows
 good_more row rows e = rw e refl
@@ -76,7 +69,7 @@ answer_more last whole h escapes row rows e =
     ∙ ap (λ b. rows_answer last rows b)
     (ap (λ rs. whole && takes_all h (entries_of escapes rs)) (good_more row rows e)
     ∙ ap (λ b. whole && b) (takes_step h escapes row (good_rows rows))
-    ∙ and_assoc whole (takes_all h (entries_of escapes (row ∷ []))) (takes_all (history_with_lines h (entries_of escapes (row ∷ []))) (entries_of escapes (good_rows rows))))
+    ∙ sym (and_assoc whole (takes_all h (entries_of escapes (row ∷ []))) (takes_all (history_with_lines h (entries_of escapes (row ∷ []))) (entries_of escapes (good_rows rows)))))
 
 good_if_memory : (good : Bool) → (if good then Memory else HistoryText) ≡ Memory → good ≡ true
 good_if_memory true e = refl

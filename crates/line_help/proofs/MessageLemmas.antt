@@ -1,10 +1,10 @@
 -- Messages on brackets: at which bracket a text becomes invalid, and which open bracket is the innermost there.
 use Rattle.std.proofs.Common.{◌≡◌, ◌≢◌, ◌⊎◌, inl, inr, ℕ, true, false, List, [], ◌∷◌, ◌++◌, map, refl, sym, ap, ◌∙◌, append_assoc, Some, None}
-use Rattle.std.proofs.lemmas.Bool.{eq-eqb}
+use Rattle.std.proofs.lemmas.Bool.{eq-eqb, eqb-true}
 use Rattle.line_help.specs.Brackets.{all_kinds, is_opening, is_closing, partner, Balanced, empty, other, pair}
 use Rattle.line_help.specs.Validation.{verdict_from, mismatch, closes_innermost, without_innermost, message_of_unpaired, not_closed, NamesWhatFails, MessageNames}
 use Rattle.line_help.specs.declared.helpers.validate.ValidationResult.TheVariants.{Invalid, Valid}
-use Rattle.line_help.proofs.BalanceLemmas.{eqb_true, kind_of_opening, opens_step, closes_step, fails_step, passes_step, read, AllOpening, Closed, closed_behind_other, closed_behind_pair, closings_valid, valid_balanced}
+use Rattle.line_help.proofs.BalanceLemmas.{kind_of_opening, opens_step, closes_step, fails_step, passes_step, read, AllOpening, Closed, closed_behind_other, closed_behind_pair, closings_valid, valid_balanced}
 
 -- a closing bracket fails at one of the brackets that were open from the start
 abbrev FailsAtOpen : List ℕ → List ℕ → ℕ → List ℕ → Type 0
@@ -60,11 +60,11 @@ told_at_closing : (unclosed : List ℕ) (b : ℕ) (before : List ℕ) (closing :
     → Told (without_innermost unclosed) before closing message → Told unclosed (b ∷ before) closing message
 told_at_closing [] b before closing message h i j f = absurd cc
 told_at_closing (opening ∷ others) b before closing message h i j (inl f) =
-    inl (([], before, ap (λ c. c ∷ before) (sym (eqb_true (partner opening) b j)), empty, f.0), f.1)
+    inl (([], before, ap (λ c. c ∷ before) (sym (eqb-true (partner opening) b j)), empty, f.0), f.1)
 told_at_closing (opening ∷ others) b before closing message h i j (inr (inl f)) =
     inr (inl (inside_behind b others (opening ∷ others) before closing message (λ text. closes_step (opening ∷ others) b text h i j) f))
 told_at_closing (opening ∷ others) b before closing message h i j (inr (inr f)) =
-    inr (inr (inr ([], before, ap (λ c. c ∷ before) (sym (eqb_true (partner opening) b j)), empty, f)))
+    inr (inr (inr ([], before, ap (λ c. c ∷ before) (sym (eqb-true (partner opening) b j)), empty, f)))
 
 told_at_other : (unclosed : List ℕ) (b : ℕ) (before : List ℕ) (closing : ℕ) (message : List ℕ) → is_opening b ≡ false → is_closing b ≡ false
     → Told unclosed before closing message → Told unclosed (b ∷ before) closing message

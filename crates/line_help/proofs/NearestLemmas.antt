@@ -1,10 +1,12 @@
 -- The match of a bracket, and the texts in which the brackets of one kind are balanced.
 use Rattle.std.proofs.Common.{◌≡◌, ◌≢◌, ℕ, zero, suc, ◌+◌, ◌-◌, Bool, true, false, List, [], ◌∷◌, ◌++◌, length, take, drop, reverse, refl, sym, ap, ◌∙◌, append_assoc, Option, Some, None, option_map, arith, length-append}
-use Rattle.std.specs.Prelude.{◌==◌, ◌||◌, ◌&&◌}
-use Rattle.std.proofs.lemmas.Bool.{eq-eqb, ne_eqb}
+use Rattle.std.specs.Prelude.{◌==◌, ◌&&◌}
+use Rattle.std.proofs.Math.Bool.{or-false}
+use Rattle.std.proofs.lemmas.Bool.{and_parts, eq-eqb, eqb-true, ne_eqb, or_from, or_parts}
 use Rattle.std.proofs.lemmas.List.{reverse-append, reverse-reverse, length-reverse}
 use Rattle.line_help.specs.Brackets.{are_kind, partner, Balanced, empty, other, pair, bytes_between, match_place, OpeningIsMatched, ClosingIsMatched}
-use Rattle.line_help.proofs.BalanceLemmas.{eqb_true, both_true, Kind, kind_of_opening, kind_of_closing, brackets_differ}
+use Rattle.line_help.proofs.BalanceLemmas.{Kind, kind_of_opening, kind_of_closing, brackets_differ}
+use Rattle.line_help.proofs.FoundLemmas.{mapped}
 
 -- balanced in the brackets of one kind
 abbrev One : ℕ → ℕ → List ℕ → Type 0
@@ -28,23 +30,8 @@ opening_step s o d b text h i =
 other_step : (s o d b : ℕ) (text : List ℕ) → (b == o) ≡ false → (b == s) ≡ false → bytes_between s o d (b ∷ text) ≡ option_map suc (bytes_between s o d text)
 other_step s o d b text h i = rw (h, i) refl
 
-mapped : (f : ℕ → ℕ) (x : Option ℕ) (y : ℕ) → option_map f x ≡ Some y → (n : ℕ) × (x ≡ Some n) × (y ≡ f n)
-mapped f None y h = absurd cc
-mapped f (Some n) y h = (n, refl, cc)
-
 in_one_kind : (s o : ℕ) → are_kind ((s, o) ∷ []) s o ≡ true
 in_one_kind s o = rw (eq-eqb s s refl, eq-eqb o o refl) refl
-
-neither_or : (p : Bool) → p ≡ false → (p || false) ≡ false
-neither_or p h = rw h refl
-
-or_neither : (p : Bool) → (p || false) ≡ false → p ≡ false
-or_neither true h = h
-or_neither false h = refl
-
-or_only : (p : Bool) → (p || false) ≡ true → p ≡ true
-or_only true h = refl
-or_only false h = h
 
 -- the brackets `o` that close so many brackets are found, the last of them after so many bytes
 abbrev Ends : ℕ → ℕ → ℕ → List ℕ → ℕ → Type 0
@@ -53,9 +40,9 @@ Ends s o (suc d) text n = (between : List ℕ) × (rest : List ℕ) × (m : ℕ)
 
 ends_behind_other : (s o d b : ℕ) (text : List ℕ) (n : ℕ) → (b == o) ≡ false → (b == s) ≡ false → Ends s o d text n → Ends s o d (b ∷ text) (suc n)
 ends_behind_other s o zero b text n h i ends =
-    (b ∷ ends.0, ends.1, ap (λ t. b ∷ t) ends.2, other b ends.0 (neither_or (b == s) i) (neither_or (b == o) h) ends.3, ap (λ k. suc k) ends.4)
+    (b ∷ ends.0, ends.1, ap (λ t. b ∷ t) ends.2, other b ends.0 (or_from (b == s) false i refl) (or_from (b == o) false h refl) ends.3, ap (λ k. suc k) ends.4)
 ends_behind_other s o (suc d) b text n h i ends =
-    (b ∷ ends.0, ends.1, ends.2, ap (λ t. b ∷ t) ends.3, other b ends.0 (neither_or (b == s) i) (neither_or (b == o) h) ends.4, ends.5, omega (arith, ends.6))
+    (b ∷ ends.0, ends.1, ends.2, ap (λ t. b ∷ t) ends.3, other b ends.0 (or_from (b == s) false i refl) (or_from (b == o) false h refl) ends.4, ends.5, omega (arith, ends.6))
 
 ends_behind_pair : (s o d : ℕ) (inner rest : List ℕ) (m : ℕ) → One s o inner → Ends s o d rest m → Ends s o d (s ∷ (inner ++ (o ∷ rest))) (suc (length inner + suc m))
 ends_behind_pair s o zero inner rest m balanced ends =
@@ -74,14 +61,14 @@ ends_at_byte : (s o d b : ℕ) (text : List ℕ) (n : ℕ) → ((d n : ℕ) → 
     → (p q : Bool) → (b == o) ≡ p → (b == s) ≡ q → bytes_between s o d (b ∷ text) ≡ Some n → Ends s o d (b ∷ text) n
 ends_at_byte s o zero b text n later true q i j h =
     let none : Some 0 ≡ Some n = sym (here_step s o b text i) ∙ h in
-    ([], text, ap (λ c. c ∷ text) (eqb_true b o i), empty, cc)
+    ([], text, ap (λ c. c ∷ text) (eqb-true b o i), empty, cc)
 ends_at_byte s o (suc d) b text n later true q i j h =
     let found : (m : ℕ) × (bytes_between s o d text ≡ Some m) × (n ≡ suc m) = mapped suc _ n (sym (closing_step s o d b text i) ∙ h) in
-    ([], text, found.0, ap (λ c. c ∷ text) (eqb_true b o i), empty, later d found.0 found.1, omega (arith, found.2))
+    ([], text, found.0, ap (λ c. c ∷ text) (eqb-true b o i), empty, later d found.0 found.1, omega (arith, found.2))
 ends_at_byte s o d b text n later false true i j h =
     let found : (m : ℕ) × (bytes_between s o (suc d) text ≡ Some m) × (n ≡ suc m) = mapped suc _ n (sym (opening_step s o d b text i j) ∙ h) in
     let ends : Ends s o (suc d) text found.0 = later (suc d) found.0 found.1 in
-    let e : b ≡ s = eqb_true b s j in
+    let e : b ≡ s = eqb-true b s j in
     let count : n ≡ suc (length ends.0 + suc ends.2) = omega (arith, found.2, ends.6) in
     moved s o d _ (b ∷ text) _ n (ap (λ c. c ∷ text) e ∙ ap (λ t. s ∷ t) ends.3) count (ends_behind_pair s o d ends.0 ends.1 ends.2 ends.4 ends.5)
 ends_at_byte s o d b text n later false false i j h =
@@ -107,12 +94,12 @@ map_pair a b c (Some n) h = ap (λ j. Some j) (omega arith)
 balanced_between : {s o : ℕ} {text : List ℕ} → One s o text → s ≢ o → (d : ℕ) (more : List ℕ) → bytes_between s o d (text ++ more) ≡ option_map (λ n. length text + n) (bytes_between s o d more)
 balanced_between empty ne d more = map_none _
 balanced_between {s = s} {o = o} (other b text i h balanced) ne d more =
-    other_step s o d b (text ++ more) (or_neither (b == o) h) (or_neither (b == s) i)
+    other_step s o d b (text ++ more) (or_parts (b == o) false h).0 (or_parts (b == s) false i).0
     ∙ ap (λ x. option_map suc x) (balanced_between balanced ne d more)
     ∙ map_one (length text) (bytes_between s o d more)
 balanced_between {s = s} {o = o} (pair t c inner text k inside behind) ne d more =
-    let tests : ((t == s) ≡ true) × ((c == o) ≡ true) = both_true (t == s) (c == o) (or_only ((t == s) && (c == o)) k) in
-    let differ : (t == o) ≡ false = ne_eqb t o (λ e. ne (sym (eqb_true t s tests.0) ∙ e)) in
+    let tests : ((t == s) ≡ true) × ((c == o) ≡ true) = and_parts (t == s) (c == o) (sym (or-false ((t == s) && (c == o))) ∙ k) in
+    let differ : (t == o) ≡ false = ne_eqb t o (λ e. ne (sym (eqb-true t s tests.0) ∙ e)) in
     let inner_passes : bytes_between s o (suc d) ((inner ++ (c ∷ text)) ++ more) ≡ option_map (λ n. length inner + n) (bytes_between s o (suc d) (c ∷ (text ++ more))) =
     rw append_assoc (balanced_between inside ne (suc d) (c ∷ (text ++ more))) in
     let behind_passes : bytes_between s o (suc d) (c ∷ (text ++ more)) ≡ option_map suc (option_map (λ n. length text + n) (bytes_between s o d more)) =
@@ -131,7 +118,7 @@ turned : {s o : ℕ} {text : List ℕ} → One s o text → One o s (reverse tex
 turned empty = empty
 turned (other b text h i balanced) = rw (reverse-append (b ∷ []) text) (joined (turned balanced) (b ∷ []) (other b [] i h empty))
 turned {s = s} {o = o} (pair t c inner text k inside behind) =
-    let tests : ((t == s) ≡ true) × ((c == o) ≡ true) = both_true (t == s) (c == o) (or_only ((t == s) && (c == o)) k) in
+    let tests : ((t == s) ≡ true) × ((c == o) ≡ true) = and_parts (t == s) (c == o) (sym (or-false ((t == s) && (c == o))) ∙ k) in
     let kind : are_kind ((o, s) ∷ []) c t ≡ true = rw (tests.0, tests.1) refl in
     let e : reverse (t ∷ (inner ++ (c ∷ text))) ≡ reverse text ++ (c ∷ (reverse inner ++ (t ∷ []))) =
     rw (reverse-append (t ∷ []) (inner ++ (c ∷ text)), reverse-append inner (c ∷ text), reverse-append (c ∷ []) text, append_assoc, append_assoc) refl in

@@ -1,5 +1,6 @@
 -- The newest of a list of entries.
 use Rattle.std.proofs.Common.{◌≡◌, ℕ, ◌+◌, ◌-◌, ◌≤◌, List, [], ◌∷◌, ◌++◌, length, drop, refl, sym, ◌∙◌, ap, arith}
+use Rattle.std.proofs.Math.Seq.{drop-length}
 use Rattle.std.proofs.lemmas.List.{length-append, length-drop, drop-drop, drop-append-le, drop_at}
 use Rattle.line_help.specs.History.{newest}
 
@@ -7,10 +8,7 @@ pub all_new : (n : ℕ) (xs : List (List ℕ)) → length xs ≤ n → newest n 
 all_new n xs few = let e : length xs - n ≡ 0 = omega arith in ap (λ k. drop k xs) e
 
 pub none_new : (xs : List (List ℕ)) → newest 0 xs ≡ []
-none_new xs = let e : length xs - 0 ≡ length xs = omega arith in ap (λ k. drop k xs) e ∙ drop_all_of xs where
-  drop_all_of : (xs : List (List ℕ)) → drop (length xs) xs ≡ []
-  drop_all_of [] = refl
-  drop_all_of (x ∷ xs) = drop_all_of xs
+none_new xs = let e : length xs - 0 ≡ length xs = omega arith in ap (λ k. drop k xs) e ∙ drop-length xs
 
 pub length-newest : (n : ℕ) (xs : List (List ℕ)) → length (newest n xs) ≡ length xs - (length xs - n)
 length-newest n xs = length-drop (length xs - n) xs

@@ -1,11 +1,12 @@
 -- The quote that is open at a text's end.
 use Rattle.std.proofs.Common.{◌≡◌, ◌≢◌, ℕ, ◌+◌, ◌==◌, ◌&&◌, ◌⊎◌, inl, inr, Bool, true, false, List, [], ◌∷◌, ◌++◌, length, Option, Some, None, refl, sym, ap, ◌∙◌, subst, append_assoc, length-append, arith, ne_eqb, true≢false, if◌then◌else◌}
-use Rattle.std.specs.Prelude.{is_some, unwrap_or}
+use Rattle.std.specs.Prelude.{unwrap_or}
+use Rattle.std.proofs.lemmas.Option.{none-some}
+use Rattle.std.proofs.lemmas.Bool.{and_right, eqb-true}
 use Rattle.std.proofs.lemmas.List.{append-nil}
 use Rattle.line_help.specs.Quotes.{closes_quote, escapes_in, escapes_at, quote_opened_at, quote_after, open_behind, unclosed_quote, Within, nothing_within, byte_within, pair_within, Closed, nothing_closed, byte_closed, pair_closed, between_double, between_single, UpToBackslash, Unclosed, OpensAt, UnclosedQuoteIsOpen}
 use Rattle.line_help.specs.declared.completion.quotes.Quote.{Quote}
 use Rattle.line_help.specs.declared.completion.quotes.Quote.TheVariants.{Double, Single, None as Unquoted}
-use Rattle.line_help.proofs.BalanceLemmas.{eqb_true}
 use Rattle.line_help.proofs.QuoteLemmas.{byte_read}
 
 -- ---- reading by parts
@@ -24,13 +25,9 @@ single_marks = record { closing = λ b. refl; escapes = refl }
 pair_read : (within : Option (ℕ × Quote)) (place b : ℕ) (rest : List ℕ) → escapes_at within ≡ true → open_behind within place (92 ∷ (b ∷ rest)) ≡ open_behind within (place + 2) rest
 pair_read within place b rest h = rw h refl
 
-and_false : (a : Bool) → (a && false) ≡ false
-and_false true = refl
-and_false false = refl
-
 no_escape : (b : ℕ) (escaping : Bool) → (escaping ≡ true → b ≢ 92) → (b == 92 && escaping) ≡ false
 no_escape b true h = ap (λ a. a && true) (ne_eqb b 92 (h refl))
-no_escape b false h = and_false (b == 92)
+no_escape b false h = and_right (b == 92) false refl
 
 within_read : {mark : ℕ} {escaping : Bool} {inner : List ℕ} → Within mark escaping inner → (quote : Quote) → Marks quote mark escaping → (p place : ℕ) (more : List ℕ)
     → open_behind (Some (p, quote)) place (inner ++ more) ≡ open_behind (Some (p, quote)) (place + length inner) more
@@ -154,9 +151,9 @@ marked quote mark escaping U un wrap text (inr (inner, after, e, w, outcome)) =
 
 outside_at : (b : ℕ) (text : List ℕ) → Parts text → b ≢ 92 → (x y : Bool) → (b == 34) ≡ x → (b == 39) ≡ y → Outcome (b ∷ text)
 outside_at b text p n92 true y e f =
-    subst (λ c. Outcome (c ∷ text)) (sym (eqb_true b 34 e)) (marked Double 34 true (UpToBackslash (Within 34 true)) (λ t u. (refl, u)) between_double text p.double)
+    subst (λ c. Outcome (c ∷ text)) (sym (eqb-true b 34 e)) (marked Double 34 true (UpToBackslash (Within 34 true)) (λ t u. (refl, u)) between_double text p.double)
 outside_at b text p n92 false true e f =
-    subst (λ c. Outcome (c ∷ text)) (sym (eqb_true b 39 f)) (marked Single 39 false (Within 39 false) (λ t u. (refl, u)) between_single text p.single)
+    subst (λ c. Outcome (c ∷ text)) (sym (eqb-true b 39 f)) (marked Single 39 false (Within 39 false) (λ t u. (refl, u)) between_single text p.single)
 outside_at b text p n92 false false e f =
     outcome_onto (b ∷ []) (λ t c. byte_closed b t (differs b 34 e) (differs b 39 f) n92 c) text p.outside
   where
@@ -165,7 +162,7 @@ outside_at b text p n92 false false e f =
 
 within_at : (mark : ℕ) (escaping : Bool) (U : List ℕ → Type 0) (b : ℕ) (text : List ℕ) → (escaping ≡ true → b ≢ 92) → ((text : List ℕ) → b ≢ mark → U text → U (b ∷ text))
     → Outcome text → WithinFirst mark escaping U text → (x : Bool) → (b == mark) ≡ x → WithinFirst mark escaping U (b ∷ text)
-within_at mark escaping U b text esc g outcome first true e = inr ([], text, ap (λ c. c ∷ text) (eqb_true b mark e), nothing_within, outcome)
+within_at mark escaping U b text esc g outcome first true e = inr ([], text, ap (λ c. c ∷ text) (eqb-true b mark e), nothing_within, outcome)
 within_at mark escaping U b text esc g outcome first false e =
     let ne : b ≢ mark = grind arith in
     within_onto mark escaping U (b ∷ []) (λ t w. byte_within b t ne esc w) (λ t u. g t ne u) text first
@@ -194,7 +191,7 @@ before_byte c rest p = (
 
 next : (b : ℕ) (text : List ℕ) → Parts text → AfterBackslash text → (x : Bool) → (b == 92) ≡ x → Parts (b ∷ text)
 next b text p escaped true e =
-    let same : 92 ≡ b = sym (eqb_true b 92 e) in
+    let same : 92 ≡ b = sym (eqb-true b 92 e) in
     record {
       outside = subst (λ c. Outcome (c ∷ text)) same escaped.0;
       double = subst (λ c. DoubleFirst (c ∷ text)) same escaped.1;
@@ -211,18 +208,15 @@ parts (b ∷ (c ∷ rest)) = next b (c ∷ rest) (parts (c ∷ rest)) (before_by
 
 -- ---- the law
 
-none_is_some : {A : Type 0} {x : A} → None ≡ Some x → ⊥
-none_is_some e = true≢false (sym (ap is_some e))
-
 found_open : (text : List ℕ) (place : ℕ) (quote : Quote) → Outcome text → unclosed_quote text ≡ Some (place, quote) → OpensAt text place quote
-found_open text place quote (inl c) e = absurd (none_is_some (sym (none_open text c) ∙ e))
+found_open text place quote (inl c) e = absurd (none-some _ (sym (none_open text c) ∙ e))
 found_open text place quote (inr (p, q, at)) e =
     let same : (p, q) ≡ (place, quote) = ap (λ o. unwrap_or o (p, q)) (sym (opened text p q at) ∙ e) in
     subst (λ (w : ℕ × Quote). OpensAt text w.0 w.1) same at
 
 all_closed : (text : List ℕ) → Outcome text → unclosed_quote text ≡ None → UpToBackslash Closed text
 all_closed text (inl c) e = c
-all_closed text (inr (p, q, at)) e = absurd (none_is_some (sym e ∙ opened text p q at))
+all_closed text (inr (p, q, at)) e = absurd (none-some _ (sym e ∙ opened text p q at))
 
 pub unclosed_quote_is_open : UnclosedQuoteIsOpen
 unclosed_quote_is_open text = (λ place quote. (found_open text place quote (parts text).outside, opened text place quote), (all_closed text (parts text).outside, none_open text))

@@ -1,5 +1,6 @@
 -- Escapes are read and written character by character, quotes byte by byte.
 use Rattle.std.proofs.Common.{cond, subst, length-drop, ◌≡◌, ◌≢◌, ℕ, ◌+◌, ◌==◌, ◌&&◌, Bool, true, false, List, [], ◌∷◌, ◌++◌, Option, None, Some, refl, sym, ap, ◌∙◌, append_assoc, arith, ◌<◌, length, get_or, drop, add-one, drop-cons, ne_eqb}
+use Rattle.std.proofs.lemmas.Bool.{and_right, cond_both}
 use Rattle.std.proofs.lemmas.List.{append-nil}
 use Rattle.std.proofs.lemmas.Str.{chars-append, chars_past_char, chars-nil, IsUtf8-encode}
 use Rattle.std.specs.Char.{IsScalar}
@@ -109,13 +110,6 @@ pub byte_read : (within : Option (ℕ × Quote)) (place b : ℕ) (bs : List ℕ)
 byte_read within place b [] other = refl
 byte_read within place b (c ∷ cs) other = rw other refl
 
-pub escaped_read : (within : Option (ℕ × Quote)) (place b : ℕ) (bs : List ℕ) → scanning true within place (b ∷ bs) ≡ scanning false within (place + 1) bs
-escaped_read within place b bs = refl
-
-pub all_scanned : (escapes : Bool) (within : Option (ℕ × Quote)) (place : ℕ) → scanning escapes within place [] ≡ within
-all_scanned false within place = refl
-all_scanned true within place = refl
-
 -- the same in a text, where a place is reached
 at_place : (text : List ℕ) (place : ℕ) → place < length text → drop place text ≡ get_or text place 0 ∷ drop (place + 1) text
 at_place text place inside = rw (add-one, drop-cons text place 0)
@@ -140,12 +134,8 @@ pub byte_turn : (text : List ℕ) (whole within after : Option (ℕ × Quote)) (
 byte_turn text whole within after escapes escapes_after place inside read e other f g =
     read ∙ rw (g, e, f, at_place text place inside) (byte_read within place (get_or text place 0) (drop (place + 1) text) other)
 
-and_false : (b : Bool) → (b && false) ≡ false
-and_false true = refl
-and_false false = refl
-
 pub not_there : (b : ℕ) (there : Bool) → there ≡ false → (b == 92 && there) ≡ false
-not_there b there is = rw is (and_false (b == 92))
+not_there b there is = rw is (and_right (b == 92) false refl)
 
 pub not_backslash : (b : ℕ) (there : Bool) → b ≢ 92 → (b == 92 && there) ≡ false
 not_backslash b there ne = rw (ne_eqb b 92 ne) refl
@@ -162,11 +152,7 @@ after_byte text place None inside stands = go (get_or text place 0 == 34) refl (
     go true e b f = (inside, e)
     go false e true f = (inside, f)
     go false e false f = tt
-after_byte text place (Some within) inside stands = go (closes_quote within.1 (get_or text place 0))
-  where
-    go : (a : Bool) → StandsIn text (cond a None (Some within))
-    go true = tt
-    go false = stands
+after_byte text place (Some within) inside stands = cond_both (closes_quote within.1 (get_or text place 0)) None (Some within) (StandsIn text) (λ e. tt) (λ e. stands)
 
 at_front : (text : List ℕ) (place b : ℕ) (bs : List ℕ) → drop place text ≡ b ∷ bs → (place < length text) × (get_or text place 0 ≡ b) × (drop (place + 1) text ≡ bs)
 at_front text place b bs e =
@@ -183,15 +169,10 @@ stands_behind text within place (b ∷ (c ∷ bs)) e stands =
     let at = at_front text place b (c ∷ bs) e in
     let next = at_front text (place + 1) c bs at.2 in
     let two : (place + 1) + 1 ≡ place + 2 = omega arith in
-    go (b == 92 && escapes_at within)
-    (stands_behind text within (place + 2) bs (ap (λ n. drop n text) (sym two) ∙ next.2) stands)
-    (stands_behind text (quote_after place b within) (place + 1) (c ∷ bs) at.2
+    cond_both (b == 92 && escapes_at within) (open_behind within (place + 2) bs) (open_behind (quote_after place b within) (place + 1) (c ∷ bs)) (StandsIn text)
+    (λ _. stands_behind text within (place + 2) bs (ap (λ n. drop n text) (sym two) ∙ next.2) stands)
+    (λ _. stands_behind text (quote_after place b within) (place + 1) (c ∷ bs) at.2
     (subst (λ d. StandsIn text (quote_after place d within)) at.1 (after_byte text place within at.0 stands)))
-  where
-    go : (a : Bool) → StandsIn text (open_behind within (place + 2) bs) → StandsIn text (open_behind (quote_after place b within) (place + 1) (c ∷ bs))
-        → StandsIn text (cond a (open_behind within (place + 2) bs) (open_behind (quote_after place b within) (place + 1) (c ∷ bs)))
-    go true escaped other = escaped
-    go false escaped other = other
 
 pub unclosed_stands : (text : List ℕ) → StandsIn text (unclosed_quote text)
 unclosed_stands text = stands_behind text None 0 text refl tt

@@ -1,8 +1,8 @@
 -- A saved text is read back as it was.
 use Rattle.std.proofs.Common.{◌≡◌, ◌≢◌, ℕ, suc, ◌<◌, Bool, true, false, List, [], ◌∷◌, ◌++◌, map, length, refl, sym, ◌∙◌, ap, get_or, arith, Some, option_map, inl, inr, append_assoc}
-use Rattle.std.specs.Prelude.{if◌then◌else◌, ◌==◌, ◌||◌, ◌&&◌, unwrap_or, IsUtf8}
+use Rattle.std.specs.Prelude.{if◌then◌else◌, ◌==◌, ◌&&◌, unwrap_or, IsUtf8}
 use Rattle.std.specs.Str.{is_utf8, chars}
-use Rattle.std.proofs.lemmas.Bool.{ne_eqb, eqb-false}
+use Rattle.std.proofs.lemmas.Bool.{and_parts, ne_eqb, eqb-false, or_left, or_right}
 use Rattle.std.proofs.lemmas.List.{append-nil}
 use Rattle.std.proofs.lemmas.Grind.{flat_map-append}
 use lib.Utf8.{encode, encodes, scalar, scalars}
@@ -124,10 +124,6 @@ backslash_escaped : escaped_entry (encode 92) ≡ 92 ∷ 92 ∷ []
 unfolding encode
 backslash_escaped = refl
 
-both_true : (a b : Bool) → (a && b) ≡ true → (a ≡ true) × (b ≡ true)
-both_true true b h = (refl, h)
-both_true false b h = cc
-
 char_utf8 : (c : ℕ) → scalar c ≡ true → IsUtf8 (encode c)
 char_utf8 c e = (c ∷ [], (rw e refl, append-nil (encode c)))
 
@@ -142,7 +138,7 @@ char_escaped c s =
 chars_escaped : (cs : List ℕ) → scalars cs ≡ true → IsUtf8 (escaped_entry (encodes cs))
 chars_escaped [] e = IsUtf8-nil
 chars_escaped (c ∷ cs) e =
-    let p = both_true (scalar c) (scalars cs) e in
+    let p = and_parts (scalar c) (scalars cs) e in
     rw (flat_map-append escaped_byte (encode c) (encodes cs))
     (IsUtf8-append (escaped_entry (encode c)) (escaped_entry (encodes cs)) (char_escaped c p.0) (chars_escaped cs p.1))
 
@@ -159,14 +155,10 @@ none_bad : (entries : List (List ℕ)) → CanComeBack entries → has_bad_row (
 none_bad [] can = refl
 none_bad (entry ∷ entries) can = rw (escaped_utf8 entry can.0) (none_bad entries can.2)
 
--- an empty line is ignored, as an empty row is skipped
-any_true : (a b c : Bool) → (((a || true) || b) || c) ≡ true
-any_true true b c = refl
-any_true false b c = refl
-
 empty_ignored : (h : Filed) → history_with_line h [] ≡ h
 empty_ignored h =
-    rw (any_true (h.kept.settings.max_len == 0) (h.kept.settings.ignore_space && begins_with_space []) (h.kept.settings.ignore_dups && newest_is [] h.kept.entries)) refl
+    let s = h.kept.settings in
+    rw (or_left _ (s.ignore_dups && newest_is [] h.kept.entries) (or_left _ (s.ignore_space && begins_with_space []) (or_right (s.max_len == 0) true refl))) refl
 
 entry_step : (row : List ℕ) (rows : List (List ℕ)) → 0 < length row → entries_of true (row ∷ rows) ≡ entry_of true row ∷ entries_of true rows
 entry_step [] rows some = absurd (omega arith)

@@ -3,11 +3,10 @@ use Rattle.std.proofs.Common.{◌≡◌, ◌≢◌, ℕ, suc, ◌+◌, ◌-◌, 
 use Rattle.std.specs.Prelude.{if◌then◌else◌, ◌&&◌, ◌==◌, not, unwrap_or, Result, Ok, Err}
 use Rattle.std.specs.List.{list_any, position_or_len}
 use Rattle.std.specs.Str.{is_utf8}
-use Rattle.std.proofs.lemmas.List.{append-nil}
-use Rattle.std.proofs.lemmas.List.Sums.{position_or_len_is}
-use Rattle.std.proofs.lemmas.List.Folds.{list_any-append}
-use Rattle.std.proofs.lemmas.Bool.{eq-eqb, eqb-true, ne_eqb, or_from, or_parts}
-use mathlib.Core.Bool.{cond}
+use Rattle.std.proofs.lemmas.List.{append-nil, get_or-take, length-take-le, take_more}
+use Rattle.std.proofs.lemmas.List.Sums.{fails_before_first, passes_at_first, position_or_len_is, prefix_len-le-length}
+use Rattle.std.proofs.lemmas.List.Folds.{list_any-append, list_any_none}
+use Rattle.std.proofs.lemmas.Bool.{eq-eqb, eqb-true, false_from_ne_true, ne_eqb, or_from, or_parts}
 use Rattle.memchr.specs.Find.{IsFirstByte, is_byte}
 use Rattle.line_config.specs.Feed.{Feed, GivesBytes, device_failed, front_of}
 use Rattle.line_config.specs.declared.device.Last.{Last}
@@ -23,25 +22,17 @@ has_newline bytes = list_any (λ b. b == 10) bytes
 
 -- ---- what stands before the first newline
 
-pub is_false : (b : Bool) → ¬ (b ≡ true) → b ≡ false
-is_false true never = absurd (never refl)
-is_false false never = refl
-
 pub newline_at : (xs : List ℕ) (found : Option ℕ) → IsFirstByte (is_byte 10) xs found → unwrap_or found (length xs) ≡ position_or_len (λ b. b == 10) xs
 newline_at xs None nowhere =
-    sym (position_or_len_is (λ b. b == 10) xs (length xs) 0 (omega arith) (λ k below. is_false _ (nowhere k (omega arith) below)) (λ below. absurd (omega arith)))
+    sym (position_or_len_is (λ b. b == 10) xs (length xs) 0 (omega arith) (λ k below. false_from_ne_true _ (nowhere k (omega arith) below)) (λ below. absurd (omega arith)))
 newline_at xs (Some k) first =
-    sym (position_or_len_is (λ b. b == 10) xs k 0 (omega (arith, first.0.high)) (λ j below. is_false _ (first.0.before j (omega arith) below)) (λ below. first.1))
+    sym (position_or_len_is (λ b. b == 10) xs k 0 (omega (arith, first.0.high)) (λ j below. false_from_ne_true _ (first.0.before j (omega arith) below)) (λ below. first.1))
 
 pub front_free : (p : ℕ → Bool) (xs : List ℕ) → list_any p (take (position_or_len p xs) xs) ≡ false
-front_free p [] = refl
-front_free p (x ∷ xs) = by_first (p x) refl (front_free p xs)
-  where
-    by_first : (b : Bool) → p x ≡ b → list_any p (take (position_or_len p xs) xs) ≡ false → list_any p (take (cond (not b) (1 + position_or_len p xs) 0) (x ∷ xs)) ≡ false
-    by_first true e rest = refl
-    by_first false e rest =
-        let more : 1 + position_or_len p xs ≡ suc (position_or_len p xs) = omega arith in
-        ap (λ k. list_any p (take k (x ∷ xs))) more ∙ or_from (p x) (list_any p (take (position_or_len p xs) xs)) e rest
+front_free p xs =
+    let n = position_or_len p xs in
+    let few : length (take n xs) ≡ n = length-take-le n xs (prefix_len-le-length (λ x. not (p x)) xs) in
+    list_any_none p (take n xs) (λ k d low. let lt : k < n = omega arith in ap p (get_or-take n xs k d lt) ∙ fails_before_first p xs k d lt)
 
 pub no_piece : (feed : Feed) (row : List ℕ) → TakesPiece feed feed row row
 no_piece feed row = record {
@@ -53,17 +44,10 @@ no_piece feed row = record {
 
 -- the newline behind the first row of some bytes
 up_to : (xs : List ℕ) (count : ℕ) → count ≡ position_or_len (λ b. b == 10) xs → count < length xs → take (count + 1) xs ≡ take count xs ++ (10 ∷ [])
-up_to [] count e inside = absurd (omega arith)
-up_to (x ∷ xs) count e inside = by_first (x == 10) refl e (up_to xs (position_or_len (λ b. b == 10) xs) refl)
-  where
-    by_first : (b : Bool) → (x == 10) ≡ b → count ≡ cond (not b) (1 + position_or_len (λ b. b == 10) xs) 0
-        → (position_or_len (λ b. b == 10) xs < length xs → take (position_or_len (λ b. b == 10) xs + 1) xs ≡ take (position_or_len (λ b. b == 10) xs) xs ++ (10 ∷ []))
-        → take (count + 1) (x ∷ xs) ≡ take count (x ∷ xs) ++ (10 ∷ [])
-    by_first true here e rest = rw (e, eqb-true x 10 here) refl
-    by_first false here e rest =
-        let more : count ≡ suc (position_or_len (λ b. b == 10) xs) = omega arith in
-        let further : count + 1 ≡ suc (position_or_len (λ b. b == 10) xs + 1) = omega arith in
-        rw (further, more) (ap (λ ys. x ∷ ys) (rest (omega arith)))
+up_to xs count e inside =
+    let ten = passes_at_first (λ b. b == 10) xs 0 (rw e at inside) in
+    let here : get_or xs count 0 ≡ 10 = ap (λ k. get_or xs k 0) e ∙ eqb-true (get_or xs (position_or_len (λ b. b == 10) xs) 0) 10 ten in
+    take_more xs count 0 inside ∙ ap (λ b. take count xs ++ (b ∷ [])) here
 
 pub last_return : (xs : List ℕ) → 0 < length xs → get_or xs (length xs - 1) 0 ≡ 13 → without_return xs ≡ take (length xs - 1) xs
 last_return [] some e = absurd (omega arith)

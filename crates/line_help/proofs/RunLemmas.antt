@@ -1,8 +1,8 @@
 -- A run: the bytes of an entry up to its first newline or backslash.
-use Rattle.std.proofs.Common.{◌≡◌, ℕ, zero, suc, ◌+◌, ◌-◌, ◌<◌, ◌≤◌, Bool, true, false, List, [], ◌∷◌, ◌++◌, length, take, drop, refl, sym, ap, ◌∙◌, subst, get_or, arith, append-nil, Result, Ok, Err, IsTrue, IfErr}
+use Rattle.std.proofs.Common.{◌≡◌, ℕ, zero, suc, ◌+◌, ◌-◌, ◌<◌, ◌≤◌, Bool, false, List, [], ◌∷◌, ◌++◌, length, take, drop, refl, sym, ap, ◌∙◌, subst, get_or, arith, append-nil, Result, Ok, Err, IsTrue, IfErr}
 use Rattle.std.specs.Prelude.{◌==◌}
 use Rattle.std.specs.Result.{IsErrAnd}
-use Rattle.std.proofs.lemmas.Bool.{or_parts}
+use Rattle.std.proofs.lemmas.Bool.{or_parts, false_from_ne_true}
 use Rattle.std.proofs.lemmas.List.{take_all, drop_all, length-drop, drop-drop, take-append-drop}
 use Rattle.std.proofs.lemmas.Grind.{flat_map-append}
 use Rattle.memchr.specs.Find.{Nowhere, Passes, is_byte2}
@@ -11,7 +11,6 @@ use Rattle.line_config.specs.declared.errors.ReadlineError.{ReadlineError}
 use Rattle.line_config.specs.declared.errors.ReadlineError.TheVariants.{HistoryText}
 use Rattle.line_config.proofs.Taking.{Underway, takes_then, some_then, some_of_more, underway_end, underway_on, underway_some}
 use Rattle.line_help.specs.HistoryText.{escaped_byte, escaped_entry, SendsRun}
-use Rattle.line_help.proofs.RowLemmas.{is_false}
 
 plain_byte : (b : ℕ) → is_byte2 10 92 b ≡ false → escaped_byte b ≡ b ∷ []
 plain_byte b none = let parts = or_parts (b == 10) (b == 92) none in rw (parts.0, parts.1) refl
@@ -24,7 +23,7 @@ abbrev later : (x : ℕ) (xs : List ℕ) (n : ℕ) → IsRun (x ∷ xs) (suc n) 
 later x xs n run = λ k low high. run (suc k) (omega arith) (omega arith)
 
 abbrev first : (x : ℕ) (xs : List ℕ) (n : ℕ) → IsRun (x ∷ xs) (suc n) → escaped_byte x ≡ x ∷ []
-first x xs n run = plain_byte x (is_false _ (run 0 (omega arith) (omega arith)))
+first x xs n run = plain_byte x (false_from_ne_true _ (run 0 (omega arith) (omega arith)))
 
 -- a run is written as it is
 run_is : (xs : List ℕ) (n : ℕ) → n ≤ length xs → IsRun xs n → escaped_entry (take n xs) ≡ take n xs

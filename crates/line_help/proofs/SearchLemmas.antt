@@ -60,14 +60,14 @@ back_begins term [] hit h = cc
 back_begins term (entry ∷ entries) hit h =
     found_or_later term entry (length entries) (first_back (hit_at_start term) entries) hit (starts_with eqb entry term) refl h (back_begins term entries hit)
 
-unless_none : (none : Bool) (found : Option Hit) (hit : Hit) → (if none then None else found) ≡ Some hit → found ≡ Some hit
+pub unless_none : (none : Bool) (found : Option Hit) (hit : Hit) → (if none then None else found) ≡ Some hit → (none ≡ false) × (found ≡ Some hit)
 unless_none true found hit h = cc
-unless_none false found hit h = h
+unless_none false found hit h = (refl, h)
 
 pub anchored_begins : (term : List ℕ) (start : ℕ) (entries : List (List ℕ)) (hit : Hit) → search_hit true term start Reverse entries ≡ Some hit → starts_with eqb hit.entry term ≡ true
 anchored_begins term start entries hit h =
     back_begins term (reverse (take (start + 1) entries)) hit
-    (unless_none (length term == 0 || nat_le (length entries) start) (first_back (hit_at_start term) (reverse (take (start + 1) entries))) hit h)
+    (unless_none (length term == 0 || nat_le (length entries) start) (first_back (hit_at_start term) (reverse (take (start + 1) entries))) hit h).1
 
 pub ruleset from_steps = (from_step)
 

@@ -1,5 +1,6 @@
 -- A list that is sorted and keeps the order of what ties is the one that placing its elements one by one gives.
-use Rattle.std.proofs.Common.{◌≡◌, ◌∙◌, ℕ, suc, ◌<◌, ◌≤◌, Bool, true, false, not, ◌&&◌, cond, List, [], ◌∷◌, length, get_or, refl, sym, ap, arith}
+use Rattle.std.proofs.Common.{◌≡◌, ◌∙◌, ℕ, suc, ◌<◌, ◌≤◌, Bool, true, false, not, cond, List, [], ◌∷◌, length, get_or, refl, sym, ap, arith}
+use Rattle.std.proofs.lemmas.Bool.{and_parts, cond_both, not-true}
 use Rattle.std.specs.List.{filter}
 use Rattle.std.specs.List.Sorted.{IsSortedBy, IsStableBy, ties}
 use Rattle.std.specs.Cmp.{IsStrictWeakOrder}
@@ -38,15 +39,6 @@ true_by false h = h refl
 irreflexive : {X : Type 0} (lt : X → X → Bool) → IsStrictWeakOrder lt → (x : X) → lt x x ≡ false
 irreflexive lt o x = false_by (lt x x) (λ e. o.one_way x x e)
 
-tie_first : (a b : Bool) → (not a && not b) ≡ true → a ≡ false
-tie_first true b e = cc
-tie_first false b e = refl
-
-tie_second : (a b : Bool) → (not a && not b) ≡ true → b ≡ false
-tie_second true b e = cc
-tie_second false true e = cc
-tie_second false false e = refl
-
 ties_itself : {X : Type 0} (lt : X → X → Bool) → IsStrictWeakOrder lt → (x : X) → ties lt x x ≡ true
 ties_itself lt o x = rw (irreflexive lt o x) refl
 
@@ -57,11 +49,8 @@ no_tie lt x y e = rw e refl
 none_placed : {X : Type 0} (lt : X → X → Bool) (y x : X) (ys : List X) → lt x y ≡ false → NoneBefore lt y ys → NoneBefore lt y (insert_in_order_by lt x ys)
 unfolding NoneBefore
 none_placed lt y x [] e h = (e, tt)
-none_placed lt y x (z ∷ zs) e h = go (lt z x) (none_placed lt y x zs e h.1)
-  where
-    go : (b : Bool) → NoneBefore lt y (insert_in_order_by lt x zs) → NoneBefore lt y (cond b (z ∷ insert_in_order_by lt x zs) (x ∷ (z ∷ zs)))
-    go true rest = (h.0, rest)
-    go false rest = (e, h)
+none_placed lt y x (z ∷ zs) e h =
+    cond_both (lt z x) (z ∷ insert_in_order_by lt x zs) (x ∷ (z ∷ zs)) (NoneBefore lt y) (λ _. (h.0, none_placed lt y x zs e h.1)) (λ _. (e, h))
 
 none_chain : {X : Type 0} (lt : X → X → Bool) → IsStrictWeakOrder lt → (x y : X) (ys : List X) → lt y x ≡ false → NoneBefore lt y ys → NoneBefore lt x ys
 unfolding NoneBefore
@@ -71,11 +60,9 @@ none_chain lt o x y (z ∷ zs) e h = (o.chain z y x h.0 e, none_chain lt o x y z
 up_placed : {X : Type 0} (lt : X → X → Bool) → IsStrictWeakOrder lt → (x : X) (ys : List X) → Up lt ys → Up lt (insert_in_order_by lt x ys)
 unfolding Up NoneBefore
 up_placed lt o x [] h = (tt, tt)
-up_placed lt o x (y ∷ ys) h = go (lt y x) refl (up_placed lt o x ys h.1)
-  where
-    go : (b : Bool) → lt y x ≡ b → Up lt (insert_in_order_by lt x ys) → Up lt (cond b (y ∷ insert_in_order_by lt x ys) (x ∷ (y ∷ ys)))
-    go true e rest = (none_placed lt y x ys (o.one_way y x e) h.0, rest)
-    go false e rest = ((e, none_chain lt o x y ys e h.0), h)
+up_placed lt o x (y ∷ ys) h =
+    cond_both (lt y x) (y ∷ insert_in_order_by lt x ys) (x ∷ (y ∷ ys)) (Up lt)
+    (λ e. (none_placed lt y x ys (o.one_way y x e) h.0, up_placed lt o x ys h.1)) (λ e. ((e, none_chain lt o x y ys e h.0), h))
 
 up_sorted : {X : Type 0} (lt : X → X → Bool) → IsStrictWeakOrder lt → (xs : List X) → Up lt (list_in_order_by lt xs)
 unfolding Up
@@ -93,7 +80,7 @@ tied_placed lt o w x [] = refl
 tied_placed lt o w x (y ∷ ys) = go (lt y x) refl (tied_placed lt o w x ys)
   where
     apart : lt y x ≡ true → ties lt w x ≡ true → ties lt w y ≡ false
-    apart e t = false_by (ties lt w y) (λ s. let never : lt y x ≡ false = o.chain y w x (tie_second (lt w y) (lt y w) s) (tie_first (lt w x) (lt x w) t) in cc)
+    apart e t = false_by (ties lt w y) (λ s. let never : lt y x ≡ false = o.chain y w x (not-true (lt y w) (and_parts (not (lt w y)) (not (lt y w)) s).1) (not-true (lt w x) (and_parts (not (lt w x)) (not (lt x w)) t).0) in cc)
 
     go : (b : Bool) → lt y x ≡ b → filter (ties lt w) (insert_in_order_by lt x ys) ≡ filter (ties lt w) (x ∷ ys) → filter (ties lt w) (cond b (y ∷ insert_in_order_by lt x ys) (x ∷ (y ∷ ys))) ≡ filter (ties lt w) (x ∷ (y ∷ ys))
     go true e rest =

@@ -1,12 +1,12 @@
 -- Words, one after the other: those that begin as a text does, and those of rows.
-use Rattle.std.proofs.Common.{◌≡◌, ◌∙◌, ℕ, zero, suc, cond, ◌+◌, ◌<◌, Bool, true, false, List, [], ◌∷◌, ◌++◌, length, take, get_or, map, drop, refl, sym, ap, ap₂, nat_eq, arith}
+use Rattle.std.proofs.Common.{◌≡◌, ◌∙◌, ℕ, zero, suc, ◌+◌, ◌<◌, true, false, List, [], ◌∷◌, ◌++◌, length, take, get_or, map, drop, refl, sym, ap, ap₂, nat_eq, arith}
+use Rattle.std.proofs.lemmas.Bool.{cond_both}
 use Rattle.std.specs.List.{starts_with}
-use Rattle.std.proofs.lemmas.List.{take_more, map-append, append-nil, length-map}
-use Rattle.std.proofs.lemmas.Bool.Decides.{nat_tests}
+use Rattle.std.proofs.lemmas.List.{take_more, map-append, append-nil}
 use Rattle.std.proofs.lemmas.List.Elements.{filter-append}
 use Rattle.line_help.specs.HistoryText.{entries_of}
 use Rattle.std.proofs.lemmas.Simd.{map-map}
-use Rattle.line_help.specs.Completion.{text_offered, last_word_start, words_for, word_completion, word_reply}
+use Rattle.line_help.specs.Completion.{text_offered, last_word_start, words_for, words_offered}
 
 -- one word more
 words_more : {X : Type 0} (bytes : X → List ℕ) (beginning : List ℕ) (words : List X) (i : ℕ) (word : X) → i < length words → word ≡ get_or words i word
@@ -39,22 +39,16 @@ word_found bytes beginning (x ∷ xs) zero word inside is begins =
     let same : starts_with nat_eq (bytes x) beginning ≡ true = ap (λ w. starts_with nat_eq (bytes w) beginning) (sym is) ∙ begins in
     rw same (omega arith)
 word_found bytes beginning (x ∷ xs) (suc i) word inside is begins =
-    go (starts_with nat_eq (bytes x) beginning) (word_found bytes beginning xs i word (omega arith) is begins)
-  where
-    go : (b : Bool) → 0 < length (words_for beginning (map bytes xs)) → 0 < length (cond b (bytes x ∷ words_for beginning (map bytes xs)) (words_for beginning (map bytes xs)))
-    go true some = omega arith
-    go false some = some
+    let rest = words_for beginning (map bytes xs) in
+    cond_both (starts_with nat_eq (bytes x) beginning) (bytes x ∷ rest) rest (λ ws. 0 < length ws) (λ e. omega arith) (λ e. word_found bytes beginning xs i word (omega arith) is begins)
 
 pub completed : {X : Type 0} (bytes : X → List ℕ) (words : List (List ℕ)) (text : List ℕ) (start : ℕ) (found : List X) → start ≡ last_word_start text
     → map bytes found ≡ words_for (drop start text) words
-    → word_completion words text ≡ record { start = start; candidates = map (λ w. text_offered (bytes w)) found }
+    → words_offered text_offered words text ≡ record { start = start; candidates = map (λ w. text_offered (bytes w)) found }
 completed bytes words text start found at is =
     let both : map (λ w. text_offered (bytes w)) found ≡ map text_offered (words_for (drop (last_word_start text) text) words) =
     sym (map-map text_offered bytes found) ∙ ap (map text_offered) (is ∙ ap (λ n. words_for (drop n text) words) at) in
     ap₂ (λ n ws. record { start = n; candidates = ws }) (sym at) (sym both)
-
-pub takes_memory : (words : List (List ℕ)) (text : List ℕ) → 0 < length (words_for (drop (last_word_start text) text) words) → (word_reply words text).takes ≡ true
-takes_memory words text some = simp length-map (grind (arith, nat_tests))
 
 -- the words of a row and of the rows after it
 pub rows_more : (row : List ℕ) (rows : List (List ℕ)) → entries_of false (row ∷ rows) ≡ entries_of false (row ∷ []) ++ entries_of false rows

@@ -136,11 +136,11 @@ last_word_start text = word_start None is_whitespace text
 abbrev pub words_for : List ℕ → List (List ℕ) → List (List ℕ)
 words_for beginning words = filter (λ word. starts_with nat_eq word beginning) words
 
--- the completion of a text
-abbrev pub word_completion : List (List ℕ) → List ℕ → Completion
-word_completion words text = record {
+-- the completion of a text by words, each as it is offered
+abbrev pub words_offered : (List ℕ → Offered) → List (List ℕ) → List ℕ → Completion
+words_offered offers words text = record {
   start = last_word_start text;
-  candidates = map text_offered (words_for (drop (last_word_start text) text) words);
+  candidates = map offers (words_for (drop (last_word_start text) text) words);
 }
 
 -- its candidates take memory
@@ -148,19 +148,13 @@ abbrev pub found_reply : Completion → Reply Completion
 found_reply found = record { answer = Some found; takes = nat_lt 0 (length found.candidates) }
 
 abbrev pub word_reply : List (List ℕ) → List ℕ → Reply Completion
-word_reply words text = found_reply (word_completion words text)
+word_reply words text = found_reply (words_offered text_offered words text)
 
 -- words, and what ends one that is the only candidate
 pub record WholeWords : Type 0 where
   pub words : List (List ℕ)
   pub end : List ℕ
 
-abbrev pub whole_word_completion : WholeWords → List ℕ → Completion
-whole_word_completion whole text = record {
-  start = last_word_start text;
-  candidates =
-      map (word_offered whole.end) (words_for (drop (last_word_start text) text) whole.words);
-}
-
 abbrev pub whole_word_reply : WholeWords → List ℕ → Reply Completion
-whole_word_reply whole text = found_reply (whole_word_completion whole text)
+whole_word_reply whole text = found_reply
+    (words_offered (word_offered whole.end) whole.words text)

@@ -7,7 +7,7 @@ use Rattle.line_help.specs.Completion.{Offered, Completion, word_start, break_ch
 use Rattle.line_keys.specs.Replies.{Reply}
 use Rattle.line_help.specs.Quotes.{text_without_escapes, text_with_escapes, unclosed_quote, escapes_at}
 use Rattle.line_help.specs.declared.completion.quotes.Quote.{Quote}
-use Rattle.line_help.specs.declared.completion.quotes.Quote.TheVariants.{Double, Single, None as Unquoted}
+use Rattle.line_help.specs.declared.completion.quotes.Quote.TheVariants.{Double, None as Unquoted}
 
 -- before the first element that isn't less
 abbrev pub insert_in_order_by : {X : Type 0} → (X → X → Bool) → X → List X → List X
@@ -35,15 +35,13 @@ path_word start path quote = record { start = start; path = path; quote = quote 
 -- the characters before which a name needs an escape
 abbrev pub is_special : Quote → ℕ → Bool
 is_special Double c = is_among double_quote_characters c
-is_special Single c = is_among break_characters c
-is_special Unquoted c = is_among break_characters c
+is_special quote c = is_among break_characters c
 
 -- after an open quote the path is the rest; otherwise it is the last word
 abbrev pub path_after_quote : ℕ → Quote → List ℕ → Typed
 path_after_quote start Double text = path_word start
     (text_without_escapes (drop start text) (Some 92)) Double
-path_after_quote start Single text = path_word start (drop start text) Single
-path_after_quote start Unquoted text = path_word start (drop start text) Unquoted
+path_after_quote start quote text = path_word start (drop start text) quote
 
 abbrev pub path_as_word : ℕ → List ℕ → Typed
 path_as_word start text = path_word start

@@ -4,7 +4,7 @@ use Rattle.std.specs.List.{list_all}
 use Rattle.line_config.specs.declared.errors.HookFault.{HookFault}
 use Rattle.line_config.specs.declared.settings.CompletionType.{CompletionType}
 use Rattle.line_keys.specs.declared.command.CmdKind.{CmdKind}
-use Rattle.line_keys.specs.declared.command.CmdKind.TheVariants.{MoveCursor, Other, ForcedRefresh}
+use Rattle.line_keys.specs.declared.command.CmdKind.TheVariants.{ForcedRefresh}
 use Rattle.line_help.specs.Brackets.{bracket_to_match, match_of}
 use Rattle.line_keys.specs.Replies.{Reply, Replies, gives_at_once}
 
@@ -72,6 +72,5 @@ part_with_match bracket part text = gives_at_once text
 
 -- the bracket kept for the next drawing: none for the last drawing of a line
 abbrev pub kept_bracket : List ℕ → ℕ → CmdKind → Option (ℕ × ℕ)
-kept_bracket line pos MoveCursor = bracket_to_match line pos
-kept_bracket line pos Other = bracket_to_match line pos
 kept_bracket line pos ForcedRefresh = None
+kept_bracket line pos kind = bracket_to_match line pos

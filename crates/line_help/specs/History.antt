@@ -83,10 +83,7 @@ count_of_unsaved settings entries line unsaved =
 abbrev pub history_with_line : Filed → List ℕ → Filed
 history_with_line filed line =
     let kept : Kept = filed.kept in record {
-      kept = record {
-        entries = entries_after kept.settings kept.entries line;
-        settings = kept.settings;
-      };
+      kept = record kept { entries = entries_after kept.settings kept.entries line };
       unsaved = count_of_unsaved kept.settings kept.entries line filed.unsaved;
     }
 

@@ -57,10 +57,9 @@ just_saved settings lines =
 
 -- the written text can be loaded again
 abbrev pub CanStep : HistoryStep → WrittenHistory → Type 0
-CanStep (Adds line) now = Unit {0}
 CanStep Saves now = CanComeBack now.history.kept.entries
 CanStep Appends now = CanComeBack now.history.kept.entries
-CanStep Loads now = Unit {0}
+CanStep step now = Unit {0}
 
 abbrev pub CanMake : Settings → List HistoryStep → WrittenHistory → Type 0
 CanMake settings [] now = Unit {0}

@@ -1,5 +1,5 @@
 -- Styles of drawn texts: the spans of a text, one after another.
-use Rattle.std.specs.Prelude.{◌≡◌, ℕ, ◌==◌, ◌&&◌, nat_lt, Bool, true, false, if◌then◌else◌, List, [], ◌∷◌, drop, length, Option, Some, None, is_some, option_map}
+use Rattle.std.specs.Prelude.{◌≡◌, ℕ, ◌==◌, ◌&&◌, nat_lt, Bool, true, false, if◌then◌else◌, List, [], ◌∷◌, drop, length, Option, Some, None, is_some, option_map, flat_map, replicate}
 use Rattle.std.specs.List.{position_or_len}
 use Rattle.line_keys.specs.declared.command.CmdKind.{CmdKind}
 use Rattle.line_help.specs.declared.helpers.style.Colour.TheVariants.{Terminal, Basic}
@@ -31,6 +31,10 @@ IsNextSpan spans from (Some next) = spans from ≡ next.0 ∷ spans next.1
 
 -- ---- styles
 
+-- the style of each byte that spans cover
+abbrev pub span_styles : List Span → List Style
+span_styles spans = flat_map (λ span. replicate span.len span.style) spans
+
 -- the terminal's colours, and nothing else
 abbrev pub plain : Style
 plain = record {
@@ -45,39 +49,15 @@ plain = record {
 
 -- bold and blue
 abbrev pub match_style : Style
-match_style = record {
-  text = Basic Blue;
-  background = Terminal;
-  bold = true;
-  faint = false;
-  italic = false;
-  underline = false;
-  reverse = false;
-}
+match_style = record plain { text = Basic Blue; bold = true }
 
 -- faint
 abbrev pub hint_style : Style
-hint_style = record {
-  text = Terminal;
-  background = Terminal;
-  bold = false;
-  faint = true;
-  italic = false;
-  underline = false;
-  reverse = false;
-}
+hint_style = record plain { faint = true }
 
 -- red
 abbrev pub message_style : Style
-message_style = record {
-  text = Basic Red;
-  background = Terminal;
-  bold = false;
-  faint = false;
-  italic = false;
-  underline = false;
-  reverse = false;
-}
+message_style = record plain { text = Basic Red }
 
 -- ---- the match of the bracket at the cursor
 

@@ -34,9 +34,8 @@ text_with_escapes_by (Some esc) text breaks = encode_utf8_all
 
 -- nothing is escaped between single quotes
 abbrev pub escape_in : Quote → Option ℕ → Option ℕ
-escape_in Double esc = esc
 escape_in Single esc = None
-escape_in Unquoted esc = esc
+escape_in quote esc = esc
 
 abbrev pub text_with_escapes : List ℕ → Option ℕ → (ℕ → Bool) → Quote → List ℕ
 text_with_escapes text esc breaks quote = text_with_escapes_by (escape_in quote esc) text breaks
@@ -45,8 +44,7 @@ text_with_escapes text esc breaks quote = text_with_escapes_by (escape_in quote 
 -- outside, and between double quotes
 abbrev pub escapes_in : Quote → Bool
 escapes_in Double = true
-escapes_in Single = false
-escapes_in Unquoted = false
+escapes_in quote = false
 
 abbrev pub escapes_at : Option (ℕ × Quote) → Bool
 escapes_at None = true

@@ -1,5 +1,5 @@
 -- Texts with control sequences (ECMA-48): the text without them, and the styles that SGR gives it.
-use Rattle.std.specs.Prelude.{◌≡◌, ◌≢◌, ◌<◌, ◌≤◌, ⊤, ℕ, zero, suc, ◌+◌, ◌-◌, ◌*◌, ◌==◌, ◌&&◌, nat_lt, min, Bool, true, false, if◌then◌else◌, List, [], ◌∷◌, ◌++◌, length, take, drop, slice_index, sum_by, flat_map, replicate, Option, None, Some, option_map, unwrap_or}
+use Rattle.std.specs.Prelude.{◌≡◌, ◌≢◌, ◌<◌, ◌≤◌, ⊤, ℕ, zero, suc, ◌+◌, ◌-◌, ◌*◌, ◌==◌, ◌&&◌, nat_lt, min, Bool, true, false, if◌then◌else◌, List, [], ◌∷◌, ◌++◌, length, take, drop, slice_index, sum_by, replicate, Option, None, Some, option_map, unwrap_or}
 use Rattle.std.specs.Borrow.{Bor}
 use Rattle.std.specs.Int.{is_in_range}
 use Rattle.line_help.specs.declared.helpers.style_split.Open.{Open}
@@ -10,7 +10,7 @@ use Rattle.line_help.specs.declared.helpers.style.Hue.{Hue}
 use Rattle.line_help.specs.declared.helpers.style.Hue.TheVariants.{Black, Red, Green, Yellow, Blue, Magenta, Cyan, White}
 use Rattle.line_help.specs.declared.helpers.style.Span.{Span}
 use Rattle.line_help.specs.declared.helpers.style.Style.{Style}
-use Rattle.line_help.specs.Paints.{plain}
+use Rattle.line_help.specs.Paints.{plain, span_styles}
 
 -- ---- the pieces of a text
 
@@ -155,9 +155,6 @@ styles_of s [] = []
 styles_of s (Byte b ∷ pieces) = s ∷ styles_of s pieces
 styles_of s (Sequence sequence ∷ pieces) = styles_of (style_after sequence s) pieces
 
-abbrev pub styles_in : List Span → List Style
-styles_in spans = flat_map (λ span. replicate span.len span.style) spans
-
 -- each span has bytes, and another style than what follows it: the next one, or at last this style
 abbrev pub Differ : List Span → Style → Type 0
 Differ [] s = ⊤
@@ -169,7 +166,7 @@ Differ (span ∷ (next ∷ spans)) s =
 pub record Splits (shown text : List ℕ) (spans : List Span) : Type 0 where
   pub bytes : text ≡ text_of (pieces_after 0 shown)
   pub rest : ℕ
-  pub styles : styles_of plain (pieces_after 0 shown) ≡ styles_in spans ++ replicate rest plain
+  pub styles : styles_of plain (pieces_after 0 shown) ≡ span_styles spans ++ replicate rest plain
   pub differ : Differ spans plain
 
 -- a text without ESC stays as it is and has no spans; and spans are never longer than the text
@@ -206,24 +203,4 @@ pub record SpansStand (len start : ℕ) (spans : List Span) (style : Style) : Ty
   pub first : start ≡ len → spans ≡ []
 
 abbrev pub styles_so_far : ℕ → ℕ → List Span → Style → List Style
-styles_so_far len start spans style = styles_in spans ++ replicate (len - start) style
-
--- ---- equal styles
-
-abbrev pub hue_number : Hue → ℕ
-hue_number Black = 0
-hue_number Red = 1
-hue_number Green = 2
-hue_number Yellow = 3
-hue_number Blue = 4
-hue_number Magenta = 5
-hue_number Cyan = 6
-hue_number White = 7
-
-abbrev pub same_colour : Colour → Colour → Bool
-same_colour Terminal Terminal = true
-same_colour (Basic a) (Basic b) = hue_number a == hue_number b
-same_colour (Bright a) (Bright b) = hue_number a == hue_number b
-same_colour (Palette m) (Palette n) = m == n
-same_colour (Rgb r g b) (Rgb x y z) = r == x && (g == y && b == z)
-same_colour a b = false
+styles_so_far len start spans style = span_styles spans ++ replicate (len - start) style

@@ -7,9 +7,8 @@ use Rattle.line_help.specs.declared.helpers.validate.ValidationResult.{Validatio
 use Rattle.line_help.specs.declared.helpers.validate.ValidationResult.TheVariants.{Incomplete, Invalid, Valid}
 
 abbrev pub is_valid : ValidationResult → Bool
-is_valid Incomplete = false
-is_valid (Invalid message) = false
 is_valid (Valid message) = true
+is_valid result = false
 
 abbrev pub has_message : ValidationResult → Bool
 has_message (Invalid (Some message)) = true

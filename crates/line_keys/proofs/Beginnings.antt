@@ -1,6 +1,7 @@
 -- Some bound sequence begins with given keys exactly if some sequence of these keys and more is bound.
 use Rattle.std.proofs.Common.{◌≡◌, ◌↔◌, Bool, true, false, cond, ◌||◌, List, [], ◌∷◌, ◌++◌, length, take, drop, refl, sym, ap, ◌∙◌, true≢false, Option, Some, IsTrue}
 use Rattle.std.specs.Prelude.{IsSome, option_map, find as first_passing}
+use Rattle.std.proofs.lemmas.Bool.{or_right}
 use Rattle.std.proofs.lemmas.List.{take-append-drop}
 use Rattle.std.proofs.Math.Seq.{take-append_seam}
 use Rattle.line_keys.specs.declared.key.KeyEvent.{KeyEvent}
@@ -21,10 +22,6 @@ begins_as keys Mouse h = absurd (true≢false (sym h))
 
 as_begins : (keys rest : List KeyEvent) → begins_with keys (KeySeq (keys ++ rest)) ≡ true
 as_begins keys rest = (same_keys-decides keys (take (length keys) (keys ++ rest))).1 (sym (take-append_seam keys rest))
-
-or_true : (b : Bool) → (b || true) ≡ true
-or_true true = refl
-or_true false = refl
 
 module _ {H : Type 0} where
   still_some : (b : Bool) (x : Event × H) (later : Option (Event × H)) → IsSome (option_map (λ (y : Event × H). y.1) later)
@@ -56,7 +53,7 @@ module _ {H : Type 0} where
   found_by keys rest x entries true is h tail =
       let at : x.0 ≡ KeySeq (keys ++ rest) = (same_event-decides x.0 (KeySeq (keys ++ rest))).0 is in
       ap (λ (b : Bool). b || begins keys entries) (ap (begins_with keys) at ∙ as_begins keys rest)
-  found_by keys rest x entries false is h tail = ap (λ (b : Bool). begins_with keys x.0 || b) (tail h) ∙ or_true (begins_with keys x.0)
+  found_by keys rest x entries false is h tail = ap (λ (b : Bool). begins_with keys x.0 || b) (tail h) ∙ or_right (begins_with keys x.0) true refl
 
   found : (keys rest : List KeyEvent) (entries : List (Event × H)) → IsSome (find (KeySeq (keys ++ rest)) entries) → begins keys entries ≡ true
   found keys rest [] h = absurd (true≢false (sym h))

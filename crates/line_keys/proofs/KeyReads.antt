@@ -1,5 +1,5 @@
 -- Reads with something made of the key that they give.
-use Rattle.std.proofs.Common.{◌≡◌, inl, inr, Bool, true, false, refl, sym, ap, ◌∙◌}
+use Rattle.std.proofs.Common.{◌≡◌, inl, inr, refl, ap, ◌∙◌}
 use Rattle.std.specs.Prelude.{Result, Ok, Err}
 use Rattle.line_config.specs.declared.errors.ReadlineError.{ReadlineError}
 use Rattle.line_keys.specs.declared.key.KeyEvent.{KeyEvent}
@@ -7,10 +7,6 @@ use Rattle.line_keys.specs.declared.tty.Event.{Event}
 use Rattle.line_keys.specs.declared.tty.Event.TheVariants.{KeyPress}
 use Rattle.line_keys.specs.Coming.{Coming, key_at, from_key_at, press_at, answer_map}
 use Rattle.line_keys.specs.KeyFeeds.{KeyFeed, InputItem, Key, behind, ReadAs, ReadsBy}
-
-abbrev is_ok : {A : Type 0} → Result A ReadlineError → Bool
-is_ok (Ok x) = true
-is_ok (Err e) = false
 
 abbrev of_press : Result Event ReadlineError → Result KeyEvent ReadlineError
 of_press (Ok (KeyPress k)) = Ok k

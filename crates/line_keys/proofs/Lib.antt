@@ -1,16 +1,14 @@
 pub mod Asking
 pub mod Beginnings
-pub mod RowActions
 pub mod Equality
 pub mod Following
 pub mod KeyReads
 pub mod Normal
-mod PhraseRows
 pub mod Places
 mod Played
 pub mod QuotedKeys
 pub mod Remembering
-mod Rows
+pub mod RowActions
 pub mod SameEventsLemmas
 pub mod Settling
 pub mod Steps

@@ -78,10 +78,6 @@ other e o x at is = subst (λ (y : Event). same_event y o ≡ false) (sym at) is
 same_event-symm : (x y : Event) → same_event x y ≡ same_event y x
 same_event-symm = (decided same_event same_event-decides).symm
 
--- the place of an event that is given by an equation
-pub place_of : {H : Type 0} (entries : List (Event × H)) (r e : Event) (o : Option ℕ) → r ≡ e → o ≡ position (has_event r) entries → position (has_event e) entries ≡ o
-place_of entries r e o is at = subst (λ (x : Event). position (has_event x) entries ≡ o) is (sym at)
-
 module _ {H : Type 0} (e : Event) (entries : List (Event × H)) where
   pub place_below : (i : ℕ) (d : Event × H) → position (has_event e) entries ≡ Some i → i < length entries
   place_below i d at = (position-Some (has_event e) entries i d at).0
@@ -183,11 +179,6 @@ distinct_push {H} e entries b at new distinct =
 pub distinct_remove : {H : Type 0} (entries : List (Event × H)) (i : ℕ) → i < length entries → AreDistinct entries → AreDistinct (remove entries i)
 distinct_remove {H} entries i h distinct = all_pairs_remove (λ (x y : Event × H). IsFalse (same_event x.0 y.0)) entries i h distinct
 
-pub distinct_either : {H : Type 0} (pushed : Bool) (entries more less : List (Event × H)) → entries ≡ cond pushed more less
-    → AreDistinct more → AreDistinct less → AreDistinct entries
-distinct_either {H} true entries more less is first second = subst (λ (x : List (Event × H)). AreDistinct x) (sym is) first
-distinct_either {H} false entries more less is first second = subst (λ (x : List (Event × H)). AreDistinct x) (sym is) second
-
 -- ---- each bound event is in its normal form, after each edit
 
 normal_set : {H : Type 0} (entries : List (Event × H)) (i : ℕ) (d b : Event × H) → i < length entries → b.0 ≡ (get_or entries i d).0 → AreNormal entries → AreNormal (set entries i b)
@@ -210,10 +201,6 @@ map_set entries i d b h kept is = record { distinct = distinct_set entries i d b
 
 pub map_push : {H : Type 0} (entries : List (Event × H)) (b : Event × H) → IsNormal b.0 → position (has_event b.0) entries ≡ None → IsMap entries → IsMap (entries ++ b ∷ [])
 map_push entries b normal at is = record { distinct = distinct_push b.0 entries b at refl is.distinct; normal = normal_push entries b normal is.normal }
-
-pub map_if : {H : Type 0} (pushed : Bool) (entries more less : List (Event × H)) → entries ≡ cond pushed more less → IsMap more → IsMap less → IsMap entries
-map_if true entries more less is first second = subst (λ x. IsMap x) (sym is) first
-map_if false entries more less is first second = subst (λ x. IsMap x) (sym is) second
 
 pub map_remove : {H : Type 0} (entries : List (Event × H)) (i : ℕ) → i < length entries → IsMap entries → IsMap (remove entries i)
 map_remove entries i h is = record { distinct = distinct_remove entries i h is.distinct; normal = normal_remove entries i is.normal }

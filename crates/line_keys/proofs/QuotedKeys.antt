@@ -1,11 +1,11 @@
 -- Quoted keys insert the characters that they were sent as.
-use Rattle.std.proofs.Common.{◌≡◌, ◌<◌, ◌≤◌, ◌+◌, ◌-◌, ℕ, Bool, true, false, not, ◌&&◌, ◌||◌, IsTrue, refl, ap, sym, arith, true≢false, eqb-true}
+use Rattle.std.proofs.Common.{◌≡◌, ◌+◌, ◌-◌, ℕ, Bool, true, false, not, ◌||◌, refl, ap, sym, arith, eqb-true}
 use Rattle.std.specs.Prelude.{◌==◌, nat_lt, nat_le}
 use Rattle.std.proofs.lemmas.Bool.Decides.{nat_tests}
 use Rattle.std.specs.Char.{is_control}
 use Rattle.line_keys.specs.declared.command.Cmd.TheVariants.{SelfInsert}
 use Rattle.line_keys.specs.Keys.{none, control_key, key_of}
-use Rattle.line_keys.specs.Quoting.{QuotedAsSent, control_of, is_told, quoted_command}
+use Rattle.line_keys.specs.Quoting.{QuotedAsSent, control_of, quoted_command}
 
 low_told : (c : ℕ) → nat_lt c 0x20 ≡ true → control_of (c + 0x40) ≡ SelfInsert 1 c
 low_told c low =

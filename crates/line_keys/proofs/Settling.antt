@@ -1,10 +1,10 @@
 -- A phrase that gives a command leaves the session's own prompt: every count ends in a drawing of the line.
 use Rattle.std.proofs.Common.{ℕ, zero, suc, Bool, true, false, List, [], ◌∷◌, ◌++◌, refl, sym, true≢false, if◌then◌else◌}
-use Rattle.std.specs.Prelude.{Option, Some, None}
+use Rattle.std.specs.Prelude.{Option, Some, None, ℤ}
 use Rattle.line_config.specs.declared.settings.EditMode.{EditMode}
 use Rattle.line_config.specs.declared.settings.EditMode.TheVariants.{Emacs, Vi}
 use Rattle.line_keys.specs.declared.command.Cmd.{Cmd}
-use Rattle.line_keys.specs.declared.command.Cmd.TheVariants.{Insert, QuotedInsert}
+use Rattle.line_keys.specs.declared.command.Cmd.TheVariants.{Insert, QuotedInsert, Noop, Unknown}
 use Rattle.line_keys.specs.declared.key.KeyEvent.{KeyEvent}
 use Rattle.line_keys.specs.CustomBindings.{Custom}
 use Rattle.line_keys.specs.Commands.{holds_text, flags_of}
@@ -23,8 +23,7 @@ use Rattle.line_keys.specs.Common.{common, common_action, common_done, command_o
 use Rattle.line_keys.specs.Counts.{Counted, count_and_key, rest_of_count, count_or_key, rest_of_count_in, rest_of_count_by, count_from_key, count_with_key, how_often, is_plus, count_times, typed_count}
 use Rattle.line_keys.specs.declared.keymap.custom.Followed.{Followed}
 use Rattle.line_keys.specs.declared.keymap.custom.Followed.TheVariants.{Bound, Unbound}
-use Rattle.line_keys.specs.CustomKeys.{Situation, rest_of_sequence, sequence_upto, key_sequence, sequence_or, sequence_answer}
-use Rattle.line_keys.specs.CustomKeys.{situation, custom_answer}
+use Rattle.line_keys.specs.CustomKeys.{Situation, rest_of_sequence, sequence_upto, key_sequence, sequence_or, sequence_answer, situation, custom_answer}
 use Rattle.line_keys.specs.Emacs.{after_first_key, emacs_command, emacs_counted, emacs_decided, emacs_action, emacs_done, emacs_phrase, move_to_char, second_command}
 use Rattle.line_keys.specs.KeyFeeds.{InputItem, InputOf, Key, Paste}
 use Rattle.script.specs.Scripts.{Ends, Asks}
@@ -35,9 +34,7 @@ use Rattle.line_keys.specs.Redone.{anew, anew_or}
 use Rattle.line_keys.specs.Refreshing.{Shown, DoingInsert, DoneInserting}
 use Rattle.line_keys.specs.Replies.{Reply}
 use Rattle.line_keys.specs.Settled.{own_by_key, Settles}
-use Rattle.std.specs.Prelude.{ℤ}
 use Rattle.line_buffer.specs.declared.types.Movement.TheVariants.{WholeLine}
-use Rattle.line_keys.specs.declared.command.Cmd.TheVariants.{Noop, Unknown}
 use Rattle.line_keys.specs.declared.command.InputMode.TheVariants.{Command}
 use Rattle.line_keys.specs.declared.key.KeyCode.TheVariants.{Char}
 use Rattle.line_keys.specs.Keys.{key_with, none, char_with}

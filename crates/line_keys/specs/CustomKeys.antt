@@ -1,6 +1,5 @@
 -- The effect of custom bindings on keys: on one, and on the sequence that it starts.
-use Rattle.std.specs.Prelude.{ℕ, Bool, List, [], ◌∷◌, ◌++◌, slice_get, if◌then◌else◌}
-use Rattle.std.specs.Prelude.{Option, Some, None, option_map, zero, suc}
+use Rattle.std.specs.Prelude.{ℕ, Bool, List, [], ◌∷◌, ◌++◌, slice_get, if◌then◌else◌, Option, Some, None, option_map, zero, suc}
 use Rattle.line_config.specs.declared.errors.ReadlineError.TheVariants.{Memory}
 use Rattle.script.specs.Scripts.{Ends, Asks}
 use Rattle.line_keys.specs.declared.command.Cmd.{Cmd}

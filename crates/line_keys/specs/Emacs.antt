@@ -21,8 +21,7 @@ use Rattle.line_keys.specs.declared.keymap.vi.motion.Search.TheVariants.{Forward
 use Rattle.line_keys.specs.Keys.{none, ctrl, alt, ctrl_alt, char_with}
 use Rattle.line_keys.specs.PhraseScripts.{Input, PhrasePart, Phrase, answer_part, from_key, and_then}
 use Rattle.line_keys.specs.Refreshing.{Shown}
-use Rattle.line_keys.specs.Tables.{Row, always, by_count, by_sign, moves, kills}
-use Rattle.line_keys.specs.Tables.{key_named, char, each_char, only, look}
+use Rattle.line_keys.specs.Tables.{Row, always, by_count, by_sign, moves, kills, key_named, char, each_char, only, look}
 use Rattle.line_keys.specs.ViSearches.{search_of}
 
 -- back over words, and forward over them

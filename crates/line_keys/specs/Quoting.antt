@@ -33,7 +33,7 @@ quoted_command k = unwrap_or (look 1 true k quoted_rows) Unknown
 abbrev pub quote_of_paste : PhrasePart Cmd
 quote_of_paste = with_paste (λ text. answer_part (Insert 1 text))
 
--- the key that is_paste_start a pasted text
+-- the key that announces a pasted text
 abbrev pub is_paste_start : KeyEvent → Bool
 is_paste_start k = (k.1.0 == 0) && is_code k.0 BracketedPasteStart
 

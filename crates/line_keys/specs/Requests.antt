@@ -35,9 +35,8 @@ IsKey single_esc_abort r = r ≡ NextKey single_esc_abort
 -- a request behind the first one of a command: a key or a pasted text
 abbrev pub IsLater : Request → Type 0
 IsLater (NextKey single_esc_abort) = ⊤
-IsLater (WaitForInput single_esc_abort) = ⊥
-IsLater NextChar = ⊥
 IsLater PastedText = ⊤
+IsLater r = ⊥
 
 -- the flag of a command's first request: Vi waits for the rest of a sequence
 abbrev pub abort_in : EditMode → Bool → Bool

@@ -1,6 +1,5 @@
 -- The keys of Vi mode.
-use Rattle.std.specs.Prelude.{◌≡◌, IsTrue, IfOk, IfErr, ℕ, Bool, true, false, not, ◌&&◌, if◌then◌else◌}
-use Rattle.std.specs.Prelude.{Option, Some, None, unwrap_or, Result}
+use Rattle.std.specs.Prelude.{◌≡◌, IsTrue, IfOk, IfErr, ℕ, Bool, true, false, not, ◌&&◌, if◌then◌else◌, Option, Some, None, unwrap_or, Result}
 use Rattle.line_buffer.specs.declared.types.Movement.{Movement}
 use Rattle.line_config.specs.declared.errors.ReadlineError.{ReadlineError}
 use Rattle.line_config.specs.declared.errors.ReadlineError.TheVariants.{Memory}

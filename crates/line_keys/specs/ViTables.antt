@@ -20,8 +20,7 @@ use Rattle.line_keys.specs.declared.keymap.vi.table.Operator.TheVariants as oper
 use Rattle.line_keys.specs.Common.{at_hint}
 use Rattle.line_keys.specs.Keys.{none, ctrl, alt}
 use Rattle.line_keys.specs.Refreshing.{Shown}
-use Rattle.line_keys.specs.Tables.{Row, always, by_count}
-use Rattle.line_keys.specs.Tables.{key_named, char, each_char, only, look}
+use Rattle.line_keys.specs.Tables.{Row, always, by_count, key_named, char, each_char, only, look}
 
 -- ---- insert mode
 

@@ -11,8 +11,8 @@ use Rattle.unicode_segmentation.specs.Grapheme.{graphemes, is_grapheme_break}
 use Rattle.unicode_segmentation.specs.Segments.{prepend}
 use Rattle.unicode_segmentation.proofs.SegmentsLemmas.{AllPieces, segments_nonempty, concat-segments}
 use Rattle.line_editor.specs.Characters.{starts_apart, begins_apart}
-use Rattle.line_editor.specs.SharedStyles.{span_styles, styles_to}
-use Rattle.line_help.specs.Paints.{plain}
+use Rattle.line_editor.specs.SharedStyles.{styles_to}
+use Rattle.line_help.specs.Paints.{plain, span_styles}
 use Rattle.line_help.specs.declared.helpers.style.Span.{Span}
 use Rattle.line_screen.specs.Colours.{SgrSpan, skip, span_of}
 use Rattle.line_screen.specs.Display.{is_printable}

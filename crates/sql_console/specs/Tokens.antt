@@ -1,8 +1,11 @@
 -- The tokens of a statement, and how each is drawn.
-use Rattle.std.specs.Prelude.{ℕ, zero, suc, ◌+◌, ◌-◌, ◌==◌, ◌||◌, ◌&&◌, nat_le, nat_lt, min, Bool, true, false, not, if◌then◌else◌, List, [], ◌∷◌, length, take, drop, slice_index}
+use Rattle.std.specs.Prelude.{ℕ, zero, suc, ◌+◌, ◌-◌, ◌==◌, ◌||◌, ◌&&◌, nat_le, nat_lt, min, Bool, true, not, if◌then◌else◌, List, [], ◌∷◌, length, take, drop, slice_index}
 use Rattle.std.specs.Char.{is_ascii_digit, is_ascii_alphanumeric}
+use Rattle.std.specs.Cmp.Lexicographic.{slice_cmp}
 use Rattle.std.specs.List.{list_any, prefix_len}
-use Rattle.std.specs.Str.{str_eq_ignore_ascii_case}
+use Rattle.std.specs.Ordering.{is_lt, nat_cmp}
+use Rattle.std.specs.Str.{str_eq_ignore_ascii_case, str_to_ascii_lowercase}
+use Rattle.std.specs.declared.cmp.Ordering.{Ordering}
 use Rattle.line_help.specs.declared.helpers.style.Colour.TheVariants.{Basic}
 use Rattle.line_help.specs.declared.helpers.style.Hue.{Hue}
 use Rattle.line_help.specs.declared.helpers.style.Hue.TheVariants.{Blue, Cyan, Green, Magenta}
@@ -27,6 +30,17 @@ is_in Row c = not (c == 0x0A)
 -- the first place from one on whose byte isn't of the class
 abbrev pub past : Class → List ℕ → ℕ → ℕ
 past class text at = at + prefix_len (is_in class) (drop at text)
+
+-- which of two words is first in the alphabet, in whatever case they are
+abbrev pub alphabet : List ℕ → List ℕ → Ordering
+alphabet a b = slice_cmp nat_cmp (str_to_ascii_lowercase a) (str_to_ascii_lowercase b)
+
+-- no element's word is before that of the element in front of it
+abbrev pub is_alphabetical : {X : Type 0} → (X → List ℕ) → List X → Bool
+is_alphabetical word_of [] = true
+is_alphabetical word_of (x ∷ []) = true
+is_alphabetical word_of (x ∷ y ∷ xs) =
+    not (is_lt (alphabet (word_of y) (word_of x))) && is_alphabetical word_of (y ∷ xs)
 
 unfoldable pub is_keyword : List ℕ → Bool
 is_keyword word = list_any (λ k. str_eq_ignore_ascii_case k.0.now word) KEYWORDS

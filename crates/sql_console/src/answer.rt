@@ -6,7 +6,7 @@ use sqlite_value::value::ValueRef;
 use std::alloc::{AllocError, Global};
 use std::io;
 
-/// The names of the tables; none where they can't be read.
+/// The names of the tables; none if they can't be read.
 pub(crate) fn tables(alloc: Global, conn: &mut Connection<MemStore>) -> Vec<String> {
     let mut names = Vec::new(alloc);
     if add_tables(conn, &mut names).is_err() {

@@ -1,13 +1,14 @@
 //! The tokens of a statement, and how each is drawn.
 
-ghost use Rattle.std.specs.Prelude.{◌≡◌, ◌<◌, ◌≤◌, length, slice_index, true};
+ghost use Rattle.std.specs.Prelude.{◌≡◌, ◌<◌, ◌≤◌, length, slice_index, true, IsTrue};
 ghost use Rattle.std.specs.List.{list_any};
 ghost use Rattle.std.specs.Str.{str_eq_ignore_ascii_case};
 ghost use Rattle.line_help.specs.Paints.{IsNextSpan};
-ghost use Rattle.sql_console.specs.Tokens.{style_with_hue, first_token, is_in, is_keyword, past, tokens_from, word_style};
+ghost use Rattle.sql_console.specs.Tokens.{alphabet, style_with_hue, first_token, is_alphabetical, is_in, is_keyword, past, tokens_from, word_style};
 
 use keyline::{Colour, Hue, Mark, Span, Style};
 use sqlite_syntax::token::{KEYWORDS, Kind};
+use std::cmp::Ordering;
 
 /// A class of bytes. Some tokens are runs of one.
 #[derive(Clone, Copy, Debug)]
@@ -47,22 +48,21 @@ fn past(class: Class, text: &[u8], at: usize) -> usize
     end
 }
 
-fn same_word(a: &[u8], b: &[u8]) -> bool
-    ensures { result ≡ str_eq_ignore_ascii_case a.now b.now }
+/// Which of two words is first in the alphabet, in whatever case they are.
+fn compare(a: &[u8], b: &[u8]) -> Ordering
+    ensures { result ≡ alphabet a.now b.now }
 {
-    a.eq_ignore_ascii_case(b)
+    let others = b.iter().map(|byte| byte.to_ascii_lowercase());
+    a.iter().map(|byte| byte.to_ascii_lowercase()).cmp(others)
 }
 
-fn has_word(mut table: &[(&[u8], Kind)], word: &[u8]) -> bool
-    ensures { result ≡ list_any (λ k. str_eq_ignore_ascii_case k.0.now word.now) table.entry.now }
+fn has_word(table: &[(&[u8], Kind)], word: &[u8]) -> bool
+    requires { IsTrue (is_alphabetical (λ k. k.0.now) table.now) }
+    ensures { result ≡ list_any (λ k. str_eq_ignore_ascii_case k.0.now word.now) table.now }
 {
-    while let [entry, rest @ ..] = table {
-        if same_word(entry.0, word) {
-            return true;
-        }
-        table = rest;
-    }
-    false
+    table
+        .binary_search_by(|entry| compare(entry.0, word))
+        .is_ok()
 }
 
 #[tactic(auto, unfolding(crate::specs::Tokens::is_keyword))]

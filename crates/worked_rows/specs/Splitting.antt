@@ -1,19 +1,10 @@
 -- A prompt with control sequences, as the program takes it under --extended.
-use Rattle.std.specs.Prelude.{ℕ, suc, ◌==◌, ◌&&◌, Bool, true, false, if◌then◌else◌, List, [], ◌∷◌}
+use Rattle.std.specs.Prelude.{ℕ, suc, Bool, if◌then◌else◌, List, [], ◌∷◌}
+use Rattle.line_editor.specs.SharedStyles.{same_style}
 use Rattle.line_help.specs.Paints.{plain}
-use Rattle.line_help.specs.SplitStyles.{pieces_after, same_colour, styles_of, text_of}
+use Rattle.line_help.specs.SplitStyles.{pieces_after, styles_of, text_of}
 use Rattle.line_help.specs.declared.helpers.style.Span.{Span}
 use Rattle.line_help.specs.declared.helpers.style.Style.{Style}
-
-abbrev pub same_flag : Bool → Bool → Bool
-same_flag true b = b
-same_flag false true = false
-same_flag false false = true
-
-abbrev pub same_style : Style → Style → Bool
-same_style s t = same_colour s.text t.text && (same_colour s.background t.background
-    && (same_flag s.bold t.bold && (same_flag s.faint t.faint && (same_flag s.italic t.italic
-    && (same_flag s.underline t.underline && same_flag s.reverse t.reverse)))))
 
 -- a byte of this style before spans; before none it needs one if it isn't plain
 abbrev pub byte_before : Style → List Span → List Span

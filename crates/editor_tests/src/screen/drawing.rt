@@ -318,6 +318,18 @@ fn layout_for(call: &str) -> Layout {
     layout
 }
 
+// Draws a line behind a prompt, over a drawing with its cursor in its first row.
+fn draw_plain<Out: Renderer>(screen: &mut Out, line: &LineBuffer) -> Result<(), ReadlineError> {
+    draw(
+        screen,
+        Shown {
+            prompt: "> ",
+            line,
+            info: None,
+        },
+    )
+}
+
 // Makes a call that sends bytes.
 fn call_made<Out: Renderer>(
     screen: &mut Out,
@@ -340,6 +352,7 @@ fn call_made<Out: Renderer>(
         "write_far" => written_over(screen, text.as_str(), THERE, NEXT),
         "append_text" => screen.append_text(text.as_str(), HERE).map(|_| ()),
         "refresh_rest" => draw_rest(screen, "plain", text, 0, ""),
+        "redraw" => draw_plain(screen, text),
         "clear_screen" => screen.clear_screen(),
         "clear_rows" => screen.clear_rows(&layout),
         "leftmost" => screen.move_cursor_at_leftmost(),
@@ -562,10 +575,11 @@ const FAILED_WRITES: &str = "
     11  = refused
 ";
 
-// Calls, and whether they write anything; nothing is buffered after them.
+// Calls, and whether they write anything: all of it is passed on together, at their end.
 const PASSED_ON: &str = "
     refresh_line ab     = written
     refresh_inside ab   = written
+    redraw ab           = written
     up                  = written
     write a             = written
     beep                = written
@@ -583,7 +597,7 @@ const PASSED_ON: &str = "
     stay                = nothing
 ";
 
-// What a row's call leaves buffered.
+// Whether a row's call passes on what it writes, at once.
 fn passed_on(alloc: Global, call: &str) -> Result<String, ReadlineError> {
     let (call, text) = word_and_rest(call);
     let line = line_of(alloc, text)?;

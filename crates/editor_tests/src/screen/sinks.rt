@@ -1,14 +1,15 @@
-//! A sink that knows what it has buffered.
+//! A sink that knows what it has buffered, and how often it passed something on.
 
 ghost use Rattle.std.specs.Prelude.{[], false, if◌then◌else◌};
 
 use line_config::{DeviceFailed, Log, Sink};
 
-/// A sink that knows whether it has something buffered.
+/// A sink that knows whether it has something buffered, and how often it passed something on.
 #[derive(Drop)]
 pub(crate) struct Gathers {
     waiting: bool,
     writes: u32,
+    flushes: u32,
     taken: Log,
 }
 
@@ -17,6 +18,7 @@ impl Gathers {
         Gathers {
             waiting: false,
             writes: 0,
+            flushes: 0,
             taken: Log::new(),
         }
     }
@@ -26,7 +28,8 @@ impl Gathers {
         match self {
             Gathers { waiting: true, .. } => "waiting",
             Gathers { writes: 0, .. } => "nothing",
-            _ => "written",
+            Gathers { flushes: 1, .. } => "written",
+            _ => "written in parts",
         }
     }
 }
@@ -47,6 +50,7 @@ impl Sink for Gathers {
 
     fn flush(&mut self) -> Result<(), DeviceFailed> {
         self.waiting = false;
+        self.flushes = self.flushes.saturating_add(1);
         Ok(())
     }
 

@@ -17,7 +17,7 @@ use std::borrow::CowStr;
 ///
 /// A display with colours is drawn by `highlight_char` and `next_span`. The calls `highlight` to
 /// `highlight_candidate` return a text with inserted control sequences that change how characters
-/// are drawn. So it takes the same number of columns.
+/// are drawn. So it takes the same number of columns. No session makes these calls.
 pub trait Highlighter {
     // Whether something in a line is highlighted, depending on the line, the place and the reason
     // for the drawing; and the spans of each text after a mark.

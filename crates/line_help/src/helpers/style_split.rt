@@ -1,7 +1,7 @@
 //! Splits a text with control sequences into the text without them and its styles.
 ghost use Rattle.std.specs.Prelude.{◌≡◌, ◌≤◌, ◌≢◌, ℕ, ⊤, List, ◌∷◌, ◌++◌, ◌<◌, IfErr, IfOk, OnOk, length, replicate, string_bytes, IsTrue};
 ghost use Rattle.std.specs.Bool.{Decides};
-ghost use Rattle.line_help.specs.SplitStyles.{Splits, pieces_after, text_of, TextStays, SpansFit, SplitsSequence, SpansStand, Differ, final_len, hue_at, hue_number, colour_at, bright_at, with_colour, with_colour_number, with_number, palette, rgb, style_after_numbers, open_numbers, style_after, styles_so_far, same_colour};
+ghost use Rattle.line_help.specs.SplitStyles.{Splits, pieces_after, text_of, TextStays, SpansFit, SplitsSequence, SpansStand, Differ, final_len, hue_at, colour_at, bright_at, with_colour, with_colour_number, with_number, palette, rgb, style_after_numbers, open_numbers, style_after, styles_so_far};
 
 use crate::helpers::style::{Colour, Hue, Span, Style};
 use std::alloc::{AllocError, Global};
@@ -38,21 +38,6 @@ fn hue_at(number: u16) -> Option<Hue>
         6 => Some(Hue::Cyan),
         7 => Some(Hue::White),
         _ => None,
-    }
-}
-
-fn hue_number(hue: Hue) -> u8
-    ensures { result ≡ hue_number hue }
-{
-    match hue {
-        Hue::Black => 0,
-        Hue::Red => 1,
-        Hue::Green => 2,
-        Hue::Yellow => 3,
-        Hue::Blue => 4,
-        Hue::Magenta => 5,
-        Hue::Cyan => 6,
-        Hue::White => 7,
     }
 }
 
@@ -249,32 +234,10 @@ fn sequence_in(after: &str) -> Option<(&str, &str)>
     Some(body.split_at(len))
 }
 
-fn same_colour(one: Colour, other: Colour) -> bool
-    ensures { result ≡ same_colour one other }
-{
-    match (one, other) {
-        (Colour::Terminal, Colour::Terminal) => true,
-        (Colour::Basic(a), Colour::Basic(b)) => hue_number(a) == hue_number(b),
-        (Colour::Bright(a), Colour::Bright(b)) => hue_number(a) == hue_number(b),
-        (Colour::Palette(a), Colour::Palette(b)) => a == b,
-        (Colour::Rgb(r, g, b), Colour::Rgb(x, y, z)) => r == x && g == y && b == z,
-        _ => false,
-    }
-}
-
 fn same_style(one: Style, other: Style) -> bool
     ensures { Decides result (one ≡ other) }
 {
-    if !same_colour(one.text, other.text) || !same_colour(one.background, other.background) {
-        return false;
-    }
-    if one.bold != other.bold || one.faint != other.faint || one.italic != other.italic {
-        return false;
-    }
-    if one.underline != other.underline {
-        return false;
-    }
-    one.reverse == other.reverse
+    one == other
 }
 
 /// The text so far, the spans before the place `start`, and the style from there on.

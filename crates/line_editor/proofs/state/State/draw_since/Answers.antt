@@ -1,5 +1,5 @@
-use Rattle.std.proofs.Common.{true, sym, ◌∙◌}
-use Rattle.line_editor.specs.Drawing.{draw_effect_since, draw_effect_behind}
+use Rattle.std.proofs.Common.{sym, ◌∙◌}
+use Rattle.line_editor.specs.Drawing.{draw_effect_since, repaint_effect}
 use Rattle.line_editor.specs.Redraws.Redraw.{DrawnFrom}
 use Rattle.line_editor.specs.States.{value_of, setting_of}
 use Rattle.line_editor.specs.Values.{Transition, draw_effect, shown_hint}
@@ -25,11 +25,11 @@ returns g c =
     let s = c.args.self.now in
     let since = c.args.since.now in
     record {
-      does = does_as (draw_effect_behind s.prompt.now true) (draw_effect_since since) s _ _
+      does = does_as repaint_effect (draw_effect_since since) s _ _
           (elim c.match-since.branch [
             | in-Some+in_default-place_since w ↦ whole_noted since (setting_of s) (value_of s) w.in-Some.since w.in-Some.is (sym w.in_default-place_since.is ∙ w.place_since.ensures.place)
             | in_default w ↦ whole_unnoted since (setting_of s) (value_of s) w.in_default.is
           ])
-          c.draw.ensures.does;
-      fault = c.draw.ensures.fault;
+          c.repaint.ensures.does;
+      fault = c.repaint.ensures.fault;
     }

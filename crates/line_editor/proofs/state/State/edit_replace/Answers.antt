@@ -1,15 +1,11 @@
 use Rattle.line_editor.specs.Killing.{kill_effect, insert_text_if}
-use Rattle.line_editor.proofs.DoesLemmas.{does_both, does_both_by, does_cut_by}
+use Rattle.line_editor.proofs.DoesLemmas.{does_both, does_cut_by}
 use Rattle.line_editor.proofs.state.State.edit_replace.Goals as goal
 
 pub returns-in_err-edit_kill-clause-does : goal.returns-in_err-edit_kill-clause-does
 returns-in_err-edit_kill-clause-does g c =
     does_cut_by (kill_effect c.args.movement.now) (insert_text_if c.args.text.now) _ _ _ _ c.from_residual.ensures.1 c.in_err-edit_kill.ensures.does
 
-pub returns-in_err-insert_some-clause-does : goal.returns-in_err-insert_some-clause-does
-returns-in_err-insert_some-clause-does g c =
-    does_both_by (kill_effect c.args.movement.now) (insert_text_if c.args.text.now) _ _ _ _ _ _ c.from_residual-in_err-insert_some.ensures.1 c.in_ok-edit_kill.ensures.does c.in_err-insert_some.ensures.does
-
 pub returns-clause-does : goal.returns-clause-does
 returns-clause-does g c =
-    does_both (kill_effect c.args.movement.now) (insert_text_if c.args.text.now) _ _ _ _ _ c.in_ok-edit_kill.ensures.does c.in_ok-insert_some.ensures.does
+    does_both (kill_effect c.args.movement.now) (insert_text_if c.args.text.now) _ _ _ _ _ c.in_ok-edit_kill.ensures.does c.insert_some.ensures.does

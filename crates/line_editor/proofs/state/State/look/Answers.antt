@@ -10,11 +10,11 @@ returns-in_err-put_hit-in-Some-clause-does g c =
     let q = modal_of c.args.modal.now in
     let hit = hit_of c.in-Some.hit in
     look_as c.args.dir c.args.from q (Some hit) _ _ _ (search rules)
-    (found_cut c.args.dir hit q _ _ _ _ c.from_residual.ensures.1 (rw c.entry_of.ensures at c.in_err-put_hit-in-Some.ensures.does))
+    (found_cut c.args.dir hit q _ _ _ _ c.from_residual.ensures.1 c.in_err-put_hit-in-Some.ensures.does)
 
 pub returns-in_ok-put_hit-in-Some-clause-does : goal.returns-in_ok-put_hit-in-Some-clause-does
 returns-in_ok-put_hit-in-Some-clause-does g c =
     let q = modal_of c.args.modal.now in
     let hit = hit_of c.in-Some.hit in
     look_as c.args.dir c.args.from q (Some hit) _ _ _ (search rules)
-    (found_shown c.args.dir hit q _ _ _ _ _ (rw c.entry_of.ensures at c.in_ok-put_hit-in-Some.ensures.does) c.show_search.ensures.does)
+    (found_shown c.args.dir hit q _ _ _ _ _ c.in_ok-put_hit-in-Some.ensures.does c.show_search.ensures.does)

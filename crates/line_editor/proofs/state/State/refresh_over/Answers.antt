@@ -1,4 +1,4 @@
-use Rattle.std.proofs.Common.{◌≡◌, ◌&&◌, false, refl, sym, ap, ◌∙◌}
+use Rattle.std.proofs.Common.{◌≡◌, ◌&&◌, false, sym, ap, ◌∙◌}
 use Rattle.std.proofs.Math.Bool.{and-false}
 use Rattle.std.proofs.lemmas.Bool.{and_from, and_parts}
 use Rattle.line_editor.specs.Drawing.{ask_anew_effect}
@@ -27,7 +27,7 @@ returns-else-over g c =
       | else-over-via-then-over+else-has_letters w ↦ ap (λ b. over && b) (sym w.has_letters.ensures ∙ w.if-has_letters.false) ∙ and-false over
       | else-over-via-else-over w ↦ ap (λ b. b && has) w.if-over.false
     ] in
-    record { does = drawn_anew over c.args.from c.args.upto _ _ _ _ _ _ refl none c.in_ok-ask_anew.ensures.does c.draw.ensures.does }
+    record { does = drawn_anew over c.args.from c.args.upto _ _ _ _ _ none c.in_ok-ask_anew.ensures.does c.repaint.ensures.does }
 
 pub show_rewritten-requires-clause-bare : goal.show_rewritten-requires-clause-bare
 show_rewritten-requires-clause-bare g c =

@@ -8,5 +8,5 @@ pub returns : goal.returns
 returns g c = record {
   does = found_shown c.args.dir c.args.place (hit_of c.in-Some.found) c.args.self.now _ _ _ (search rules)
       (ap (λ place. record (value_of c.args.self.now) { history = place }) c.set_history_index.ensures.place) refl
-      (record { ruler = refl; prompt = refl; history_is = c.set_history_index.ensures.history; hooks_are = refl; marks_are = refl; config_is = refl }) (rw c.entry_of.ensures at c.show_entry.ensures.does);
+      (record { ruler = refl; prompt = refl; history_is = c.set_history_index.ensures.history; hooks_are = refl; marks_are = refl; config_is = refl }) c.show_entry.ensures.does;
 }

@@ -1,7 +1,7 @@
 use Rattle.std.proofs.Common.{◌∙◌, ◌-◌, sym, ap, arith, rules, length, string_bytes}
 use Rattle.std.proofs.lemmas.Str.Pattern.{split_parts}
 use Rattle.line_help.specs.SplitStyles.{style_after, styles_so_far}
-use Rattle.line_help.proofs.SplitLemmas.{sequence_text, sequence_styles, escape_left, escape_text, escape_styles, if_err, last_left, last_text, last_styles, some_left}
+use Rattle.line_help.proofs.SplitLemmas.{as_styles, as_text, escape_left, escape_step, if_err, last_left, last_step, sequence_step, some_left}
 use Rattle.line_help.proofs.helpers.style_split.split_styles.Goals as goal
 
 pub loop-front-preserved-in-Some-sequence_in : goal.loop-front-preserved-in-Some-sequence_in
@@ -16,9 +16,9 @@ loop-front-preserved-in-Some-sequence_in c =
     record {
       utf8 = search rules;
       text = rw c.in_ok-put.ensures.text
-          (c.loop-front.invariant.text ∙ sequence_text (string_bytes split.text) rest c.in-Some.front.now c.in-Some.after.now sequence c.in-Some-sequence_in.behind.now parts.0 parts.1 found.0 found.1);
+          (c.loop-front.invariant.text ∙ sequence_step as_text (string_bytes split.text) rest c.in-Some.front.now c.in-Some.after.now sequence c.in-Some-sequence_in.behind.now parts.0 parts.1 found.0 found.1);
       styles = rw (style, c.in_ok-put.ensures.styles)
-          (c.loop-front.invariant.styles ∙ sequence_styles so_far c.loop-front.style rest c.in-Some.front.now c.in-Some.after.now sequence c.in-Some-sequence_in.behind.now parts.0 parts.1 found.0 found.1);
+          (c.loop-front.invariant.styles ∙ sequence_step (as_styles c.loop-front.style) so_far rest c.in-Some.front.now c.in-Some.after.now sequence c.in-Some-sequence_in.behind.now parts.0 parts.1 found.0 found.1);
       stands = c.in_ok-put.ensures.stands;
     }
 
@@ -31,9 +31,9 @@ loop-front-preserved c =
     record {
       utf8 = search rules;
       text = rw (c.in_ok-put-in-None.ensures.text, c.in_ok-put.ensures.text)
-          (c.loop-front.invariant.text ∙ escape_text (string_bytes split.text) rest c.in-Some.front.now c.in-Some.after.now parts.0 parts.1 c.in-None.ensures);
+          (c.loop-front.invariant.text ∙ escape_step as_text (string_bytes split.text) rest c.in-Some.front.now c.in-Some.after.now parts.0 parts.1 c.in-None.ensures);
       styles = rw (c.in_ok-put-in-None.ensures.styles, c.in_ok-put.ensures.styles)
-          (c.loop-front.invariant.styles ∙ escape_styles so_far c.loop-front.style rest c.in-Some.front.now c.in-Some.after.now parts.0 parts.1 c.in-None.ensures);
+          (c.loop-front.invariant.styles ∙ escape_step (as_styles c.loop-front.style) so_far rest c.in-Some.front.now c.in-Some.after.now parts.0 parts.1 c.in-None.ensures);
       stands = c.in_ok-put-in-None.ensures.stands;
     }
 
@@ -45,9 +45,9 @@ returns-clause-parts c =
     let so_far = styles_so_far (length (string_bytes split.text)) split.start split.spans.items split.style in
     let none = rw c.in_default.is at (split_parts 0x1B rest c.split_once.result c.split_once.ensures.cases (omega arith)) in
     record {
-      bytes = c.turn.ensures.text ∙ c.in_ok-put-2.ensures.text ∙ sym (c.loop-front.invariant.text ∙ last_text (string_bytes split.text) rest none);
+      bytes = c.turn.ensures.text ∙ c.in_ok-put-2.ensures.text ∙ sym (c.loop-front.invariant.text ∙ last_step as_text (string_bytes split.text) rest none);
       rest = length (string_bytes last.text) - last.start;
-      styles = c.loop-front.invariant.styles ∙ last_styles so_far c.loop-front.style rest none
+      styles = c.loop-front.invariant.styles ∙ last_step (as_styles c.loop-front.style) so_far rest none
           ∙ sym (c.in_ok-turn.ensures.styles ∙ c.in_ok-put-2.ensures.styles)
           ∙ ap (styles_so_far (length (string_bytes last.text)) last.start last.spans.items) (c.in_ok-turn.ensures.style ∙ c.plain-2.ensures);
       differ = rw c.plain-2.ensures at c.in_ok-turn.ensures.differ;
@@ -80,4 +80,4 @@ returns-in_err-turn-clause-memory c =
     let old = string_bytes c.loop-front.split.text in
     let none = rw c.in_default.is at (split_parts 0x1B rest c.split_once.result c.split_once.ensures.cases (omega arith)) in
     if_err c.from_residual-in_err-turn.result
-    (rw (c.loop-front.invariant.text ∙ last_text old rest none ∙ sym c.in_ok-put-2.ensures.text) c.in_err-turn.ensures.memory)
+    (rw (c.loop-front.invariant.text ∙ last_step as_text old rest none ∙ sym c.in_ok-put-2.ensures.text) c.in_err-turn.ensures.memory)

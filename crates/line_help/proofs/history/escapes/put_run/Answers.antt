@@ -1,5 +1,5 @@
 -- A run is sent as it is, and then an escape.
-use Rattle.std.proofs.Common.{rules, arith, length, take, sym, ap, ◌∙◌, ◌+◌, subst, get_or}
+use Rattle.std.proofs.Common.{rules, arith, length, sym, ap, ◌∙◌, ◌+◌, subst}
 use Rattle.std.proofs.lemmas.List.{take_all}
 use Rattle.line_config.specs.Sending.{Takes, TakesSome}
 use Rattle.line_help.specs.HistoryText.{escaped_entry}

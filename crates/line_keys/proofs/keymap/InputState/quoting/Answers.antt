@@ -5,7 +5,7 @@ use Rattle.line_keys.specs.InputStates.{input_of}
 use Rattle.line_keys.specs.PhraseScripts.{answer_part}
 use Rattle.line_keys.specs.Quoting.{is_paste_start, quotes, quote_of_key}
 use Rattle.line_keys.proofs.Asking.{key_asked, key_then, text_asked}
-use Rattle.line_keys.proofs.Following.{as_follows, ends_follow, no_key, key_follows, no_paste, paste_follows}
+use Rattle.line_keys.proofs.Following.{ends_follow, no_key, key_follows, no_paste, paste_follows}
 use Rattle.line_keys.proofs.keymap.InputState.quoting.Goals as goal
 
 pub returns-then-not-self-clause-phrase : goal.returns-then-not-self-clause-phrase

@@ -1,7 +1,7 @@
 use Rattle.std.proofs.Common.{rules}
 use Rattle.line_editor.specs.Modal.{modal_of}
 use Rattle.line_editor.proofs.MeetLemmas.{erased_taken}
-use Rattle.line_editor.proofs.state.State.met_standing.Goals as goal
+use Rattle.line_editor.proofs.state.State.met_searches.Goals as goal
 
 pub returns-in_ok-search_erased-in-Erases : goal.returns-in_ok-search_erased-in-Erases
 returns-in_ok-search_erased-in-Erases g c =
