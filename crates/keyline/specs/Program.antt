@@ -213,10 +213,12 @@ pub record PlaysOver {R K E W T : Type 0}
       ≡ bytes_taken ended.lines
 
 -- no session was opened, and the reader and the writers are as they were passed in: no call of them
--- was made
-pub record UnopensOver {F R E W T : Type 0} (feed : F → Feed) (config : Config) (old : List ℕ)
-    (keys : R) (display : E) (lines : W) (unopened : Unopened F R E W T) : Type 0 where
+-- was made. The sink of the history's text has taken nothing
+pub record UnopensOver {F R E W T : Type 0} (feed : F → Feed) (held : T → List ℕ) (config : Config)
+    (old : List ℕ) (keys : R) (display : E) (lines : W) (unopened : Unopened F R E W T)
+    : Type 0 where
   pub fault : LoadRefused config (fresh_feed old End) (feed unopened.history) unopened.why
   pub keys_are : unopened.source ≡ keys
   pub display_is : unopened.display ≡ display
   pub lines_are : unopened.lines ≡ lines
+  pub text_is : held unopened.text ≡ []

@@ -240,7 +240,7 @@ pub fn play<'a, K: Foretold<R>, R: Read + Drop, E: Write + Drop, W: Write + Drop
         (config_of options.now) options.now (word_texts words) (had_by E.contents display)
         (had_by W.contents lines) old.entry.now (K.left keys []) K.last) }
     ensures refused { IfErr result (UnopensOver ⟦<SliceSource<'a> as Source>⟧.feed
-        (config_of options.now) old.entry.now keys display lines) }
+        ⟦<VecSink as Sink>⟧.held (config_of options.now) old.entry.now keys display lines) }
 {
     play_with(
         alloc,
@@ -277,8 +277,8 @@ pub fn play_with<'a, K: Foretold<R>, R: Read + Drop, E: Write + Drop, W: Write +
         IfOk result (PlaysOver known ⟦<VecSink as Sink>⟧.held ⟦<VecSink as Sink>⟧.has_failed
         config options.now (word_texts words) (had_by E.contents display)
         (had_by W.contents lines) old.entry.now (K.left keys []) K.last) }
-    ensures refused { IfErr result (UnopensOver ⟦<SliceSource<'a> as Source>⟧.feed config
-        old.entry.now keys display lines) }
+    ensures refused { IfErr result (UnopensOver ⟦<SliceSource<'a> as Source>⟧.feed
+        ⟦<VecSink as Sink>⟧.held config old.entry.now keys display lines) }
 {
     let Devices {
         source,

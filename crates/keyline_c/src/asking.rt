@@ -103,7 +103,7 @@ pub(crate) fn bindings_of(
     mode: EditMode,
     text: &[u8],
 ) -> Result<EventMap<Asking>, CallStatus>
-    ensures { MatchResult result (AreAsked mode text.now) (λ e. e ≡ Memory) }
+    ensures { MatchResult result (AreAsked mode text.now) (λ e. (e ≡ Memory) × (text.now ≢ [])) }
 {
     let mut bindings = EventMap::new(alloc)?;
     let mut rest = text;

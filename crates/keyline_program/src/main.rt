@@ -2,14 +2,17 @@
 //! on standard error.
 #![tactic(auto)]
 
-ghost use Rattle.std.specs.Prelude.{◌≤◌, [], IfErr, IfOk};
+ghost use Rattle.std.specs.Prelude.{◌≡◌, ◌≤◌, [], IfErr, IfOk};
+ghost use Rattle.std.specs.Process.{exit_status};
 ghost use Rattle.std.specs.declared.io.Stdin.{Stdin};
 ghost use Rattle.line_config.specs.Feed.{fresh_feed};
 ghost use Rattle.line_config.specs.declared.device.Last.TheVariants.{End};
+ghost use Rattle.keyline.specs.Endings.{status_of};
 ghost use Rattle.keyline.specs.KnownDevices.{devices_by};
 ghost use Rattle.keyline.specs.SessionRuns.{LoadRefused};
 ghost use Rattle.line_config.specs.declared.config.Config.{Config};
 ghost use Rattle.keyline.specs.Program.{IsByEnvironment, PlaysOver, invoked_config, word_texts};
+ghost use Rattle.keyline_program.specs.Saving.{EndsSaved, ending_after};
 
 use keyline::{
     Boxed, Ended, Ending, Foretold, Invocation, Invoked, Options, ReadlineError, Sink, SliceSource,
@@ -18,7 +21,7 @@ use keyline::{
 };
 use keyline_files::{load_history, read_file, save_history};
 use std::env;
-use std::io::{ErrorKind, IsTerminal, Stderr, Stdin, Stdout};
+use std::io::{self, ErrorKind, IsTerminal, Stderr, Stdin, Stdout};
 use std::marker::Brand;
 use std::process::ExitCode;
 
@@ -150,14 +153,23 @@ fn play<'a, K: Foretold<Stdin>>(
 }
 
 /// Saves the history in its file, and answers what the session ends with then.
-fn kept<K: Foretold<Stdin>>(rt: &HostRuntime, options: &Options, played: &Played<K>) -> Ending {
+fn kept<K: Foretold<Stdin>>(rt: &HostRuntime, options: &Options, played: &Played<K>) -> Ending
+    ensures { EndsSaved options.now.history played.now.ending result }
+{
     let Some(path) = &options.history else {
         return played.ending;
     };
-    match (
+    ending_after(
         save_history(rt, path.as_str(), played.text_to_save()),
         played.ending,
-    ) {
+    )
+}
+
+/// The ending after the history was saved, or wasn't.
+fn ending_after(saved: io::Result<()>, ending: Ending) -> Ending
+    ensures { result ≡ ending_after saved ending }
+{
+    match (saved, ending) {
         (Err(_), Ending::Eof | Ending::Interrupted | Ending::NotUtf8 | Ending::PasteOutOfPlace) =>
             Ending::HistoryText,
         (_, ending) => ending,
@@ -179,13 +191,17 @@ fn words_of(rt: &HostRuntime, options: &Options) -> Result<Option<Vec<String>>, 
 }
 
 /// Says what does not load, and answers its status.
-fn not_loaded(rt: &HostRuntime, what: &str, status: u8) -> ExitCode {
+fn not_loaded(rt: &HostRuntime, what: &str, status: u8) -> ExitCode
+    ensures { exit_status result ≡ status }
+{
     let _ = eprintln!(rt; "keyline: {what}");
     ExitCode::from(status)
 }
 
 /// Prints how the session ended, if that was a fault.
-fn ended(rt: &HostRuntime, ending: Ending) -> ExitCode {
+fn ended(rt: &HostRuntime, ending: Ending) -> ExitCode
+    ensures { exit_status result ≡ status_of ending }
+{
     if !matches!(ending, Ending::Eof | Ending::Interrupted) {
         let before = if rt.stderr().is_terminal() {
             NEW_ROW
