@@ -52,7 +52,7 @@ CASES = [
     Case("`é` and Backspace at the end of 40", b"a" * 40, [ACCENTED, BACKSPACE] * 5),
     Case("Backspace in the middle of 150", b"a" * 150 + LEFT * 75, [BACKSPACE] * 5),
     Case("Ctrl-T at the front of 40", b"ab" * 20 + HOME + RIGHT, [TRANSPOSE] * 10),
-    Case("Ctrl-K and Ctrl-Y before 40", b"a" * 40 + HOME, [KILL, YANK] * 5),
+    Case("Ctrl-K, Ctrl-Y and Home before 40", b"a" * 40 + HOME, [KILL, YANK, HOME] * 5),
 ]
 
 
