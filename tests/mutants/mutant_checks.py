@@ -5,7 +5,7 @@ import re
 import shutil
 from collections import Counter
 
-from functions import Sources, blanked, closing, functions
+from functions import NO_CODE, Sources, blanked, closing, functions
 
 # What comes before the word `fn` of a function: attributes and visibility.
 ATTRIBUTES = re.compile(r"(?:#\[(?:[^][]|\[[^][]*\])*\]\s*)*(?:pub(?:\([^)]*\))?\s+)?(?:(?:const|unsafe)\s+)*\Z")
@@ -52,7 +52,7 @@ class Edit:
     is_right = False
 
     def __init__(self, path, sources, unasked=(), case=""):
-        self.name, self.unasked = os.path.basename(path).removesuffix(".edit"), unasked
+        self.name, self.unasked, self.case = os.path.basename(path).removesuffix(".edit"), unasked, case
         self.clause, self.blamed = None, re.findall(r"`([\w-]+)`", case)
         self.bodies, self.right = {}, {}
         changes = [(file, *it) for file, text in changed(read(path), sources).items()
@@ -210,7 +210,7 @@ class Crate:
     def __init__(self, top, name, unasked=None, cases=None):
         self.name, self.folder = name, os.path.join(top, "crates", name)
         self.assumes_lemmas = LEMMAS in (unasked or {}).get(name, ())
-        self.checks, self.taken = [], []
+        self.checks, self.taken, self.claims = [], [], []
         self.edits, self.controls, self.unfit = [], [], {}
         room = os.path.join(self.folder, "mutants")
         files = sorted(it for it in os.listdir(room) if it.endswith(".edit")) if os.path.isdir(room) else []
@@ -302,6 +302,14 @@ class Crate:
         stored = [(name, read(file)) for path in edit.paths() for name, file in sorted(self.stored(path).items())]
         assumed = self.assumes_lemmas, sorted(edit.unasked)
         return sum_of(self.name, self.taken, edit.name, edit.clause, bodies, stored, assumed)
+
+    def claim_sum(self, edit):
+        """A checksum of what decides, in the crate, whether a clause is false of a mutant: its bodies and its case, definitions,
+        types and contracts. Proofs, lemmas and the other bodies don't."""
+        if not self.claims:
+            self.claims = [*map(bare_definitions, texts_under(self.folder, "specs")), *map(bare_code, self.outlines())]
+        bodies = [(path, edit.right[path], bare_code((file, new))) for (file, path), (_, new) in edit.bodies.items()]
+        return sum_of(self.name, self.claims, edit.clause, edit.case, bodies)
 
     def outlines(self):
         """The crate's files without the lines of bodies that are assumed."""
@@ -447,6 +455,38 @@ def seen_sum(top, name, uses):
         keeps = lambda it: "const" in head(text, it)[1].split() or it.owner is not None and it.owner[0] == "trait"
         texts.append((file, outline(text, sources.found[file], keeps)))
     return sum_of(name, uses[name], texts)
+
+
+def public_sum(top, name):
+    """A checksum of what contracts above a library are about: its definitions, and its files without bodies and without the
+    functions that only the library itself calls."""
+    folder = os.path.join(top, "crates", name)
+    sources, texts = Sources(folder, name), [*map(bare_definitions, texts_under(folder, "specs"))]
+    for file, text in sources.texts.items():
+        for it in sorted(sources.found[file], key=lambda it: it.body, reverse=True):
+            at, before = head(text, it)
+            if is_public(it, before):
+                at = it.body[1] if "const" in before.split() else it.body[0]
+            text = text[:at] + text[it.body[1] :]
+        texts.append(bare_code((file, text)))
+    return sum_of(name, texts)
+
+
+def is_public(function, before):
+    """Whether a library above may call a function, by what comes before its `fn`; one of a trait or of its impl is public too."""
+    return bool(re.search(r"\bpub\s", before)) or not function.may_have_others_beside()
+
+
+def bare_code(named):
+    """A file's text without comments and layout, after its name."""
+    file, text = named
+    return file, " ".join(NO_CODE.sub(lambda it: " " if it[0][:2] in ("//", "/*") else it[0], text).split())
+
+
+def bare_definitions(named):
+    """A file's definitions without comments, after its name."""
+    file, text = named
+    return file, [it.rstrip() for it in text.split("\n") if it.strip() and not it.lstrip().startswith("--")]
 
 
 def sum_of(*of):

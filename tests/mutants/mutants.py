@@ -15,8 +15,14 @@ fits or changes nothing. It is a failure too if a function or a file of lemmas i
 The result of a killed mutant is kept on this machine, beside what `rt ci` keeps, by the checksums of everything that its
 check read. A later run, in any clone, tries only the mutants for which something changed (tests/mutants/kept.py).
 
+The repository notes the killed ones too, by a checksum of what decides whether a clause is false of each
+(tests/mutants/mutants-rejected.txt). A noted one is not tried again until that changes; those of
+tests/mutants/mutants-named.txt are always tried.
+
     tests/mutants/mutants.py [CRATE..]          all crates, or these
-    tests/mutants/mutants.py --anew [CRATE..]   tries the kept ones again, too
+    tests/mutants/mutants.py --all [CRATE..]    tries the noted ones again, too
+    tests/mutants/mutants.py --anew [CRATE..]   tries the noted and the kept ones again, too
+    tests/mutants/mutants.py --note [CRATE..]   writes tests/mutants/mutants-rejected.txt again for these crates
     tests/mutants/mutants.py --fit [CRATE..]    says in a second which mutants no longer fit, and tries none
     tests/mutants/mutants.py --right ..         the control: tries the right bodies in place of the mutants, under the same
                                         assumptions, and each must be proved
@@ -47,19 +53,22 @@ import time
 from concurrent.futures import FIRST_COMPLETED, ThreadPoolExecutor, wait
 from threading import Thread
 
-from judging import FAULT, OPEN, Said, judged
+from judging import FALSE, FAULT, OPEN, Said, judged
 from kept import Kept, folder_beside
 from mutant_checks import LEMMAS, Crate, below, crates_of, joined, read, write
+from noted import Noted, noted
 
 TOP = os.path.dirname(os.path.dirname(os.path.dirname(os.path.realpath(__file__))))
 # The memory limit of a check, in bytes.
 NEED = 2_500_000_000
 BY_HAND = os.path.join(TOP, "tests", "mutants", "mutants-by-hand.txt")
 UNASKED = os.path.join(TOP, "tests", "mutants", "mutants-unasked.txt")
+NAMED = os.path.join(TOP, "tests", "mutants", "mutants-named.txt")
+REJECTED = os.path.join(TOP, "tests", "mutants", "mutants-rejected.txt")
 # What a kept file says of a module, and the names of goals that may be dear.
 INTERFACE = re.compile(rb"(?m)^--@ interface (.*)$")
 DEAR = re.compile(r"(?!lives-|drop-|branch-|from_residual-)(?:returns|invariant_of|.*-requires)")
-OPTIONS = ("--anew", "--fit", "--all-goals", "--right", "--beside")
+OPTIONS = ("--all", "--anew", "--note", "--fit", "--all-goals", "--right", "--beside")
 
 
 class Checker:
@@ -170,14 +179,16 @@ class Trial:
     Of several checks the first one keeps what serves the others, of which each has a copy; so these begin when it has ended.
     """
 
-    def __init__(self, crate, checker, by_hand, kept, of_right_bodies=False):
+    def __init__(self, crate, checker, by_hand, kept, of_right_bodies=False, noted=()):
         self.crate, self.checker, self.by_hand, self.kept = crate, checker, by_hand, kept
         self.is_of_right_bodies, self.edits = of_right_bodies, crate.controls if of_right_bodies else crate.edits
+        self.noted = {it for it in noted if it in self.edits}
         self.found = [(False, f"{crate.name}/{name}", f"it no longer fits: {why}") for name, why in crate.unfit.items()]
-        self.sums = {it: kept.name(crate, it) for it in self.edits}
-        known = {it: found for it in self.edits for found in [kept.found(self.sums[it])] if found}
+        self.sums = {it: kept.name(crate, it) for it in self.edits if it not in self.noted}
+        known = {it: (FALSE, "noted as rejected") for it in self.edits if it in self.noted}
+        known |= {it: found for it in self.sums for found in [kept.found(self.sums[it])] if found}
         self.found += [self.settled(kind, f"{crate.name}/{it.name}", why) for it, (kind, why) in known.items()]
-        self.known, self.full, self.killed, self.running, self.spared = len(known), set(), set(), 0, {}
+        self.known, self.full, self.killed, self.running, self.spared = len(known) - len(self.noted), set(), set(), 0, {}
         self.left = crate.groups([it for it in self.edits if it not in known])
         self.folder = tempfile.TemporaryDirectory(prefix="mutants-kept-") if len(self.left) > 1 else None
 
@@ -315,10 +326,10 @@ def save(top, name, text):
     write(os.path.join(top, "build", "mutants", name), text)
 
 
-def noted(path):
-    """The lines of a file about mutants, each after its crate and name."""
-    lines = [line.strip() for line in read(path).split("\n") if line.strip() and not line.startswith("#")]
-    return dict(line.split(": ", 1) for line in lines)
+def named():
+    """The mutants that stand for a rule of the design, each by its crate and name."""
+    rows = [line.split(" | ") for line in read(NAMED).split("\n") if not line.startswith("#")]
+    return {f"{crate}/{name.strip()}" for _, crate, name in (it for it in rows if len(it) == 3)}
 
 
 def noted_unasked():
@@ -383,7 +394,10 @@ def main(words):
     anew = not {"--anew", "--all-goals"}.isdisjoint(words)
     kept = Kept(TOP, uses, checker.kit, folder_beside(checker.kit), anew)
     crates.sort(key=Crate.weight, reverse=True)
-    trials = [Trial(it, checker, by_hand, kept, "--right" in words) for it in crates]
+    rejected = Noted(TOP, uses, REJECTED, noted(REJECTED), named())
+    is_noted = lambda crate, edit: not (anew or {"--all", "--right"} & {*words}) and rejected.has(crate, edit)
+    trials = [Trial(it, checker, by_hand, kept, "--right" in words, [edit for edit in it.edits if is_noted(it, edit)])
+              for it in crates]
     proofs = Proofs(open(0, encoding="utf-8", errors="replace") if "--beside" in words else None)
     found = told(trials, proofs)
     proofs.hear_out()
@@ -392,6 +406,8 @@ def main(words):
         controls = [Trial(Crate(TOP, it.name, noted_unasked(), by_hand), checker, by_hand, kept, True) for it in crates]
         found += told(controls, proofs)
         note_unasked(UNASKED, trials, [it.crate.name for it in controls if not all(well for well, _, _ in it.found)])
+    if "--note" in words:
+        rejected.note(trials)
     kept.shrink()
     return finished(sum(found), failed + found.count(False))
 
@@ -410,7 +426,8 @@ def tell(trial):
     crate = trial.crate
     kind, well = ("right bodies", "proved") if trial.is_of_right_bodies else ("mutants", "killed")
     cost = f"checks {len(crate.checks)}, {sum(cost for cost, _ in crate.checks):.0f} s of processor"
-    print(f"-- {crate.name}: {kind} {len(trial.edits)}, of them kept {trial.known}, {cost}", flush=True)
+    known = f"noted {len(trial.noted)}, kept {trial.known}"
+    print(f"-- {crate.name}: {kind} {len(trial.edits)}, of them {known}, {cost}", flush=True)
     for at, (cost, names) in enumerate(crate.checks, 1):
         of = ", ".join(names[:8]) + " .." * (len(names) > 8)
         print(f"   check {at}: {cost:.0f} s, {kind} {len(names)}: {of}", flush=True)

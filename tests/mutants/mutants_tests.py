@@ -19,6 +19,7 @@ import mutant_checks
 from checks import run_all, same
 from functions import Sources
 from kept import Kept
+from noted import Noted, noted
 
 SOURCE = """//! Numbers, for mutants.
 #![tactic(auto)]
@@ -682,6 +683,8 @@ pub fn one() -> u8
 }
 """
 
+NUMBERS = "pub zero : Nat\n"
+
 
 def what_is_refused_is_kept_until_something_that_its_check_read_changes():
     small = Small("added-once")
@@ -723,6 +726,58 @@ def what_is_refused_is_kept_until_something_that_its_check_read_changes():
     same("what is known in the end", known(), 1)
 
 
+def what_is_noted_is_not_tried_until_what_decides_it_changes():
+    small = Small("added-once", "half-of-it")
+    small.write("crates.txt", "low:\nsmall: low\n")
+    small.write("crates/low/src/lib.rt", LOW)
+    small.write("crates/low/specs/Numbers.antt", NUMBERS)
+    file = os.path.join(small.folder.name, "rejected.txt")
+    of_file = lambda tried=(): Noted(small.folder.name, small.uses(), file, noted(file), tried)
+    crate = lambda case: small.crate(None, {"small/added-once": case})
+    known = lambda case="a case", tried=(): [of_file(tried).has(it, edit) for it in [crate(case)] for edit in it.edits]
+    same("what is noted without a file", known(), [False, False])
+    small.write("rejected.txt", "other/one: 0\nsmall/gone: 1\n")
+    trial = small.tried_by(None, CASE)
+    trial.crate = crate("a case")
+    trial.edits = trial.crate.edits
+    trial.found = [(True, "small/added-once", ""), (False, "small/half-of-it", "")]
+    of_file().note([trial])
+    same("the lines that are left", [*noted(file)], ["other/one", "small/added-once"])
+    same("what is noted then", known(), [True, False])
+    same("what is noted with another case", known("another case"), [False, False])
+    same("whether a named mutant is tried all the same", known(tried=["small/added-once"]), [False, False])
+    for path, old, new, count in (
+        ("small/src/lib.rt", "n // said of nothing", "n + 0", True),
+        ("small/src/lib.rt", "/// The crate's type.", "/// A type.", True),
+        ("small/src/lib.rt", "{ result \u2261 n + n }", "{ result \u2261 n + n + 0 }", False),
+        ("small/src/lib.rt", "pub other: u16", "pub other: u32", False),
+        ("small/mutants/added-once.edit", "new: u16", "new: 0 + u16", False),
+        ("low/src/lib.rt", "2 - 1", "1 + 0", True),
+        ("low/src/lib.rt", "1 - 1", "0 + 0", False),
+        ("low/src/lib.rt", "pub fn one", "pub fn two", False),
+        ("low/src/lib.rt", "result \u2261 1", "result \u2261 1 + 0", False),
+        ("low/src/lib.rt", "pub fn one", "fn of_its_own() {}\n\npub fn one", True),
+    ):
+        whole = mutant_checks.read(os.path.join(small.folder.name, "crates", path))
+        same(f"how often {old} is in {path}", whole.count(old), 1)
+        small.write(f"crates/{path}", whole.replace(old, new))
+        same(f"what is noted with {new} in {path}", known()[0], count)
+        small.write(f"crates/{path}", whole)
+    for path, text, count in (
+        ("low/specs/Numbers.antt", "-- Numbers.\npub zero : Nat\n", True), ("low/specs/Numbers.antt", "pub one : Nat\n", False),
+        ("small/specs/Numbers.antt", "pub one : Nat\n", False), ("small/proofs/Sums.antt", "pub one : Nat\n", True),
+        ("small/proofs/doubled/Answers.antt", "pub one : Nat\n", True), ("low/proofs/Sums.antt", "pub one : Nat\n", True),
+    ):
+        small.write(f"crates/{path}", text)
+        same(f"what is noted with `{text.strip()}` in {path}", known()[0], count)
+        os.remove(os.path.join(small.folder.name, "crates", path))
+        small.write("crates/low/specs/Numbers.antt", NUMBERS)
+    trial = small.trial()
+    again = mutants.Trial(trial.crate, trial.checker, CASE, trial.kept, False, trial.crate.edits[:1])
+    same("which mutants are left to try", [it.name for group in again.left for it in group], ["half-of-it"])
+    same("what passes without a check", [(well, name) for well, name, _ in again.found], [(True, "small/added-once")])
+
+
 def what_shares_a_check_with_another_fault_is_not_kept():
     small = Small("added-once")
     caller = "fn small::fourfold: no proof: `search` did not prove `returns`\n"
@@ -752,6 +807,7 @@ STAND_INS = [
     an_open_goal_alone_shows_nothing,
     a_check_that_is_killed_is_tried_once_more,
     what_is_refused_is_kept_until_something_that_its_check_read_changes,
+    what_is_noted_is_not_tried_until_what_decides_it_changes,
     what_shares_a_check_with_another_fault_is_not_kept,
     a_body_that_waits_for_its_callee_is_tried_again,
     a_crate_waits_for_its_libraries,
