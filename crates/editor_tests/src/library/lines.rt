@@ -35,6 +35,7 @@ type Editor<'k> = LineEditor<
 fn opened<'k>(alloc: Global, keys: &'k [u8]) -> Result<InMemory<'k>, ReadlineError> {
     raised(
         session_builder(alloc, SliceSource::new(keys), VecSink::new(alloc))
+            .prompt("> ")
             .lines(VecSink::new(alloc))
             .history(SliceSource::new(b"#V2\nold\n"), VecSink::new(alloc))
             .helper(HelperParts {
@@ -128,9 +129,11 @@ fn tell_calls(
     shown: &str,
     said: &mut String,
 ) -> Result<(), ReadlineError> {
-    let mut editor = LineEditor::new(opened(alloc, keys)?);
-    call_each(alloc, &mut editor, words, said)?;
+    let session = opened(alloc, keys)?;
+    let mut editor = LineEditor::new(session);
+    let told = call_each(alloc, &mut editor, words, said);
     let end = editor.finish();
+    told?;
     raised(tell_end(alloc, end.text_to_save(), end.display.bytes(), shown, said))
 }
 
