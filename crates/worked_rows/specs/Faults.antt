@@ -26,15 +26,56 @@ row_4 = record (row 4 settings_4 (codes "ab\rc") (codes "ab\n")) {
       codes "\u{1b}[m\u{1b}[mc");
 }
 
+-- nothing = nothing | ends Reader | shows {}
+abbrev pub row_5 : Row
+row_5 = record (row 5 settings_4 [] []) {
+  ends = Reader;
+  shows = Some (codes "\r\u{1b}[J\u{1b}[m> \u{1b}[m\u{1b}[m\u{1b}[m");
+}
+
+-- a Left M-2 = nothing | ends Reader | shows {} a ␛[1D ␍␛[J␛[m(arg:␠2)␠␛[ma␛[m␛[m␛[1D
+abbrev pub row_6 : Row
+row_6 = record (row 6 settings_4 (codes "a\u{1b}[D\u{1b}2") []) {
+  ends = Reader;
+  shows = Some
+      (codes "\r\u{1b}[J\u{1b}[m> \u{1b}[m\u{1b}[m\u{1b}[ma\u{1b}[1D\r\u{1b}[J\u{1b}[m(arg: " ++
+      codes "2) \u{1b}[ma\u{1b}[m\u{1b}[m\u{1b}[1D");
+}
+
+-- a Left M-2 b = nothing | ends Reader | shows {} a ␛[1D ␍␛[J␛[m(arg:␠2)␠␛[ma␛[m␛[m␛[1D {a}␛[1D {bba}␛[1D
+abbrev pub row_7 : Row
+row_7 = record (row 7 settings_4 (codes "a\u{1b}[D\u{1b}2b") []) {
+  ends = Reader;
+  shows = Some
+      (codes "\r\u{1b}[J\u{1b}[m> \u{1b}[m\u{1b}[m\u{1b}[ma\u{1b}[1D\r\u{1b}[J\u{1b}[m(arg: " ++
+      codes "2) \u{1b}[ma\u{1b}[m\u{1b}[m\u{1b}[1D\r\u{1b}[J\u{1b}[m> \u{1b}[ma\u{1b}[m" ++
+      codes "\u{1b}[m\u{1b}[1D\r\u{1b}[J\u{1b}[m> \u{1b}[mbba\u{1b}[m\u{1b}[m\u{1b}[1D");
+}
+
+-- C-x = nothing | ends Reader | shows {}
+abbrev pub row_8 : Row
+row_8 = record (row 8 settings_4 (codes "\u{18}") []) {
+  ends = Reader;
+  shows = Some (codes "\r\u{1b}[J\u{1b}[m> \u{1b}[m\u{1b}[m\u{1b}[m");
+}
+
+-- Paste ab Pasted = nothing | ends Reader | shows {} {ab}
+abbrev pub row_9 : Row
+row_9 = record (row 9 settings_4 (codes "\u{1b}[200~ab\u{1b}[201~") []) {
+  ends = Reader;
+  shows = Some (codes "\r\u{1b}[J\u{1b}[m> \u{1b}[m\u{1b}[m\u{1b}[m\r\u{1b}[J\u{1b}[m> \u{1b}[mab"
+      ++ codes "\u{1b}[m\u{1b}[m");
+}
+
 -- bind:C-O⇒Fails
-abbrev pub settings_30 : Settings
-settings_30 = record plain {
+abbrev pub settings_35 : Settings
+settings_35 = record plain {
   custom = bound ((KeySeq ((key_with (Char 79) ctrl) ∷ []), one_way Fails) ∷ []);
 }
 
 -- a Enter b C-O = a | ends Handler | shows {} a ␍␊ {} b
-abbrev pub row_30 : Row
-row_30 = record (row 30 settings_30 (codes "a\rb\u{f}") (codes "a\n")) {
+abbrev pub row_35 : Row
+row_35 = record (row 35 settings_35 (codes "a\rb\u{f}") (codes "a\n")) {
   ends = Handler;
   shows = Some
       (codes "\r\u{1b}[J\u{1b}[m> \u{1b}[m\u{1b}[m\u{1b}[ma\r\n\r\u{1b}[J\u{1b}[m> \u{1b}[m" ++
@@ -42,30 +83,30 @@ row_30 = record (row 30 settings_30 (codes "a\rb\u{f}") (codes "a\n")) {
 }
 
 -- bind:Esc⇒AcceptLine keys@end
-abbrev pub settings_33 : Settings
-settings_33 = record plain {
+abbrev pub settings_38 : Settings
+settings_38 = record plain {
   custom = bound ((KeySeq ((key_with Esc none) ∷ []), command AcceptLine) ∷ []);
   last = Failed;
 }
 
 -- ab Esc = nothing | ends Reader | shows {} a b
-abbrev pub row_33 : Row
-row_33 = record (row 33 settings_33 (codes "ab\u{1b}") []) {
+abbrev pub row_38 : Row
+row_38 = record (row 38 settings_38 (codes "ab\u{1b}") []) {
   ends = Reader;
   shows = Some (codes "\r\u{1b}[J\u{1b}[m> \u{1b}[m\u{1b}[m\u{1b}[mab");
 }
 
 -- modal keys@end loaded:#V2␊make␠test␊
-abbrev pub settings_37 : Settings
-settings_37 = record plain {
+abbrev pub settings_46 : Settings
+settings_46 = record plain {
   config = modal plain.config;
   loaded = codes "#V2\nmake test\n";
   last = Failed;
 }
 
 -- C-R t = nothing | ends Reader | shows {} ''} 't'make␠test}␛[4D
-abbrev pub row_37 : Row
-row_37 = record (row 37 settings_37 (codes "\u{12}t") []) {
+abbrev pub row_46 : Row
+row_46 = record (row 46 settings_46 (codes "\u{12}t") []) {
   ends = Reader;
   shows = Some
       (codes "\r\u{1b}[J\u{1b}[m> \u{1b}[m\u{1b}[m\u{1b}[m\r\u{1b}[J\u{1b}[m(reverse-i-searc" ++
@@ -74,16 +115,16 @@ row_37 = record (row 37 settings_37 (codes "\u{12}t") []) {
 }
 
 -- modal bind:C-O⇒Fails loaded:#V2␊make␠test␊
-abbrev pub settings_40 : Settings
-settings_40 = record plain {
+abbrev pub settings_49 : Settings
+settings_49 = record plain {
   config = modal plain.config;
   custom = bound ((KeySeq ((key_with (Char 79) ctrl) ∷ []), one_way Fails) ∷ []);
   loaded = codes "#V2\nmake test\n";
 }
 
 -- C-R t C-O = nothing | ends Handler | shows {} ''} 't'make␠test}␛[4D
-abbrev pub row_40 : Row
-row_40 = record (row 40 settings_40 (codes "\u{12}t\u{f}") []) {
+abbrev pub row_49 : Row
+row_49 = record (row 49 settings_49 (codes "\u{12}t\u{f}") []) {
   ends = Handler;
   shows = Some
       (codes "\r\u{1b}[J\u{1b}[m> \u{1b}[m\u{1b}[m\u{1b}[m\r\u{1b}[J\u{1b}[m(reverse-i-searc" ++
@@ -92,16 +133,16 @@ row_40 = record (row 40 settings_40 (codes "\u{12}t\u{f}") []) {
 }
 
 -- modal keys@end listed words:alpha,alpine
-abbrev pub settings_47 : Settings
-settings_47 = record plain {
+abbrev pub settings_59 : Settings
+settings_59 = record plain {
   config = listed (modal plain.config);
   helping = aide false (Some ((codes "alpha") ∷ (codes "alpine") ∷ []));
   last = Failed;
 }
 
 -- alp Tab Tab = nothing | ends Reader | shows {} a l p ␇ {alp␛[m␍␊alpha␍␊alpine␛[m␛[2A␛[1D
-abbrev pub row_47 : Row
-row_47 = record (row 47 settings_47 (codes "alp\t\t") []) {
+abbrev pub row_59 : Row
+row_59 = record (row 59 settings_59 (codes "alp\t\t") []) {
   ends = Reader;
   shows = Some
       (codes "\r\u{1b}[J\u{1b}[m> \u{1b}[m\u{1b}[m\u{1b}[malp\u{7}\r\u{1b}[J\u{1b}[m> \u{1b}" ++
@@ -109,16 +150,16 @@ row_47 = record (row 47 settings_47 (codes "alp\t\t") []) {
 }
 
 -- modal keys@end words:alpha,alpine
-abbrev pub settings_50 : Settings
-settings_50 = record plain {
+abbrev pub settings_62 : Settings
+settings_62 = record plain {
   config = modal plain.config;
   helping = aide false (Some ((codes "alpha") ∷ (codes "alpine") ∷ []));
   last = Failed;
 }
 
 -- al Tab Tab Tab = nothing | ends Reader | shows {} a l {alpha} {alpine} {al} ␇
-abbrev pub row_50 : Row
-row_50 = record (row 50 settings_50 (codes "al\t\t\t") []) {
+abbrev pub row_62 : Row
+row_62 = record (row 62 settings_62 (codes "al\t\t\t") []) {
   ends = Reader;
   shows = Some
       (codes "\r\u{1b}[J\u{1b}[m> \u{1b}[m\u{1b}[m\u{1b}[mal\r\u{1b}[J\u{1b}[m> \u{1b}[malph" ++
@@ -127,16 +168,16 @@ row_50 = record (row 50 settings_50 (codes "al\t\t\t") []) {
 }
 
 -- modal bind:C-O⇒Fails words:alpha,alpine
-abbrev pub settings_53 : Settings
-settings_53 = record plain {
+abbrev pub settings_65 : Settings
+settings_65 = record plain {
   config = modal plain.config;
   custom = bound ((KeySeq ((key_with (Char 79) ctrl) ∷ []), one_way Fails) ∷ []);
   helping = aide false (Some ((codes "alpha") ∷ (codes "alpine") ∷ []));
 }
 
 -- al Tab C-O = nothing | ends Handler | shows {} a l {alpha}
-abbrev pub row_53 : Row
-row_53 = record (row 53 settings_53 (codes "al\t\u{f}") []) {
+abbrev pub row_65 : Row
+row_65 = record (row 65 settings_65 (codes "al\t\u{f}") []) {
   ends = Handler;
   shows = Some
       (codes "\r\u{1b}[J\u{1b}[m> \u{1b}[m\u{1b}[m\u{1b}[mal\r\u{1b}[J\u{1b}[m> \u{1b}[malph" ++
@@ -144,16 +185,16 @@ row_53 = record (row 53 settings_53 (codes "al\t\u{f}") []) {
 }
 
 -- modal vi keys@end loaded:#V2␊test␊make␠test␊
-abbrev pub settings_56 : Settings
-settings_56 = record plain {
+abbrev pub settings_71 : Settings
+settings_71 = record plain {
   config = modal (vi plain.config);
   loaded = codes "#V2\ntest\nmake test\n";
   last = Failed;
 }
 
 -- C-R t Esc n = nothing | ends Reader | shows {} ''} 't'make␠test}␛[4D {make␠test}␛[4D ␛[1D {test}␛[4D
-abbrev pub row_56 : Row
-row_56 = record (row 56 settings_56 (codes "\u{12}t\u{1b}n") []) {
+abbrev pub row_71 : Row
+row_71 = record (row 71 settings_71 (codes "\u{12}t\u{1b}n") []) {
   ends = Reader;
   shows = Some
       (codes "\r\u{1b}[J\u{1b}[m> \u{1b}[m\u{1b}[m\u{1b}[m\r\u{1b}[J\u{1b}[m(reverse-i-searc" ++
@@ -164,4 +205,5 @@ row_56 = record (row 56 settings_56 (codes "\u{12}t\u{1b}n") []) {
 }
 
 abbrev pub faults_rows : List Row
-faults_rows = row_4 ∷ row_30 ∷ row_33 ∷ row_37 ∷ row_40 ∷ row_47 ∷ row_50 ∷ row_53 ∷ row_56 ∷ []
+faults_rows = row_4 ∷ row_5 ∷ row_6 ∷ row_7 ∷ row_8 ∷ row_9 ∷ row_35 ∷ row_38 ∷ row_46 ∷ row_49 ∷
+    row_59 ∷ row_62 ∷ row_65 ∷ row_71 ∷ []
