@@ -1,7 +1,8 @@
 """The cost of keys that examine clusters, words or rows: the built program, its display and lines thrown away.
 
 Called by `bench/run clusters` with the built program. Each key is pressed a hundred times in lines of two sizes, less a
-session with only the line. The cost is counted in instructions if valgrind is installed, and otherwise in processor time.
+session with only the line. Rows have 1,000 columns, and 10 where the keys are to go over row breaks. The cost is counted in
+instructions if valgrind is installed, and otherwise in processor time.
 """
 import os
 import re
@@ -17,6 +18,7 @@ SENTENCE = b"some words, and 17 more. "
 PATH = b"/usr/x-y.d"
 HAN = "漢".encode()
 CYRILLIC = "я".encode()
+LATIN = "é".encode()
 EMOJI = "👍".encode()
 KEYS = 100
 
@@ -26,7 +28,9 @@ def pasted(text):
     return b"\x1b[200~" + text + b"\x1b[201~"
 
 
-EMACS, VI, PART = ["--mode=emacs"], ["--mode=vi"], ["--mode=emacs", "--extended"]
+WIDE = "--columns=1000"
+EMACS, VI, PART = ["--mode=emacs", WIDE], ["--mode=vi", WIDE], ["--mode=emacs", "--extended", WIDE]
+NARROW = ["--mode=emacs", "--extended", "--columns=10"]
 # The keys, the program's arguments, the characters of the line, the text before the keys, each key, and the line's sizes.
 CASES = [
     ("Ctrl-T at the front of a line", EMACS, b"a", HOME + RIGHT, TRANSPOSE, (1_000, 10_000)),
@@ -47,6 +51,8 @@ CASES = [
     ("--extended: Cyrillic typed after Cyrillic", PART, CYRILLIC, b"", CYRILLIC, (300, 3_000)),
     ("--extended: an emoji typed after emoji", PART, EMOJI, b"", EMOJI, (300, 3_000)),
     ("--extended: Backspace after Han", PART, HAN, b"", BACKSPACE, (300, 3_200)),
+    ("--extended: Backspace over a row break after é", NARROW, LATIN, b"", BACKSPACE, (100, 100_000)),
+    ("--extended: Backspace over a row break after Han", NARROW, HAN, b"", BACKSPACE, (100, 100_000)),
 ]
 
 
@@ -81,7 +87,7 @@ def main(program):
     for name, arguments, character, before, key, sizes in CASES:
         costs = []
         for size in sizes:
-            command = [program, *arguments, "--columns=1000"]
+            command = [program, *arguments]
             line = pasted(character * size) + before
             more = cost(command, line + KEYS * key + ENTER) - cost(command, line + ENTER)
             costs.append(f"{size} characters: {more / KEYS:,.0f}")

@@ -210,7 +210,7 @@ class Crate:
     def __init__(self, top, name, unasked=None, cases=None):
         self.name, self.folder = name, os.path.join(top, "crates", name)
         self.assumes_lemmas = LEMMAS in (unasked or {}).get(name, ())
-        self.checks, self.taken, self.claims = [], [], []
+        self.checks, self.taken, self.claims = [], [], ()
         self.edits, self.controls, self.unfit = [], [], {}
         room = os.path.join(self.folder, "mutants")
         files = sorted(it for it in os.listdir(room) if it.endswith(".edit")) if os.path.isdir(room) else []
@@ -305,11 +305,15 @@ class Crate:
 
     def claim_sum(self, edit):
         """A checksum of what decides, in the crate, whether a clause is false of a mutant: its bodies and its case, definitions,
-        types and contracts. Proofs, lemmas and the other bodies don't."""
+        types, and the heads of the functions that it names. Proofs, lemmas and other functions don't."""
         if not self.claims:
-            self.claims = [*map(bare_definitions, texts_under(self.folder, "specs")), *map(bare_code, self.outlines())]
-        bodies = [(path, edit.right[path], bare_code((file, new))) for (file, path), (_, new) in edit.bodies.items()]
-        return sum_of(self.name, self.claims, edit.clause, edit.case, bodies)
+            specs = [*map(bare_definitions, texts_under(self.folder, "specs"))]
+            parts = [parts_of_code(text, self.sources.found[file]) for file, text in self.sources.texts.items()]
+            self.claims = sum_of(specs, [frame for frame, _ in parts]), [it for _, heads in parts for it in heads]
+        shared, heads = self.claims
+        bodies = [(path, edit.right[path], bare_code(new)) for (_, path), (_, new) in edit.bodies.items()]
+        words = {word for _, right, new in bodies for word in [right.rpartition("::")[2], *re.findall(r"\w+", new)]}
+        return sum_of(self.name, shared, [head for name, head in heads if name in words], edit.clause, edit.case, bodies)
 
     def outlines(self):
         """The crate's files without the lines of bodies that are assumed."""
@@ -458,18 +462,23 @@ def seen_sum(top, name, uses):
 
 
 def public_sum(top, name):
-    """A checksum of what contracts above a library are about: its definitions, and its files without bodies and without the
-    functions that only the library itself calls."""
+    """A checksum of what contracts above a library are about: its definitions, its types, and the heads of its public functions."""
     folder = os.path.join(top, "crates", name)
-    sources, texts = Sources(folder, name), [*map(bare_definitions, texts_under(folder, "specs"))]
-    for file, text in sources.texts.items():
-        for it in sorted(sources.found[file], key=lambda it: it.body, reverse=True):
-            at, before = head(text, it)
-            if is_public(it, before):
-                at = it.body[1] if "const" in before.split() else it.body[0]
-            text = text[:at] + text[it.body[1] :]
-        texts.append(bare_code((file, text)))
-    return sum_of(name, texts)
+    sources = Sources(folder, name)
+    parts = [parts_of_code(text, sources.found[file], is_public) for file, text in sources.texts.items()]
+    return sum_of(name, [*map(bare_definitions, texts_under(folder, "specs"))], parts)
+
+
+def parts_of_code(text, found, takes=lambda _function, _before: True):
+    """A file's text without its functions, and the head of each that is to be taken, after its name. (A constant's value may come
+    from a `const fn`, so the head of such a one has its body.)"""
+    heads, frame = [], text
+    for it in sorted(found, key=lambda it: it.body, reverse=True):
+        at, before = head(text, it)
+        if takes(it, before):
+            heads.append((it.name, bare_code(text[at : it.body["const" in before.split()]])))
+        frame = frame[:at] + frame[it.body[1] :]
+    return bare_code(frame), heads
 
 
 def is_public(function, before):
@@ -477,10 +486,9 @@ def is_public(function, before):
     return bool(re.search(r"\bpub\s", before)) or not function.may_have_others_beside()
 
 
-def bare_code(named):
-    """A file's text without comments and layout, after its name."""
-    file, text = named
-    return file, " ".join(NO_CODE.sub(lambda it: " " if it[0][:2] in ("//", "/*") else it[0], text).split())
+def bare_code(text):
+    """A text without comments and layout."""
+    return " ".join(NO_CODE.sub(lambda it: " " if it[0][:2] in ("//", "/*") else it[0], text).split())
 
 
 def bare_definitions(named):

@@ -5,7 +5,7 @@ from mutant_checks import below, public_sum, read, sum_of, write
 
 COMMENT = """\
 # The mutants that the prover has rejected, as `tests/mutants/mutants.py --note` writes them. CRATE/NAME: a checksum of what
-# decides whether a clause is false of it: its body and its case, and the definitions, types and contracts in sight.
+# decides whether a clause is false of it: its body and its case, and the definitions, types and contracts that these name.
 """
 
 

@@ -1,5 +1,5 @@
 //! The promises of `line_editor` at work: tables of text in which each row is a line and what is
-//! done to it. In `screen` those of `line_screen`; in `library` and `sessions` those of `keyline`.
+//! done to it. In `screen` those of `line_screen`; in `library` those of `keyline`.
 #![tactic(auto)]
 
 #[cfg(test)]
@@ -28,7 +28,5 @@ mod remembering;
 mod rewording;
 #[cfg(test)]
 mod screen;
-#[cfg(test)]
-mod sessions;
 #[cfg(test)]
 mod yanking;

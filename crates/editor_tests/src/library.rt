@@ -1,9 +1,6 @@
-//! The calls of `keyline` by themselves.
+//! The calls of `keyline` by themselves. Whole sessions are in the rows of `sessions_program`.
 
 mod by_options;
-mod command_lines;
-mod editors;
-mod endings;
 mod lines;
 mod over_memory;
 pub(crate) mod told;

@@ -1,5 +1,5 @@
 //! Kills texts, and copies texts into the ring.
-ghost use Rattle.std.specs.Prelude.{◌≡◌, ◌&&◌, if◌then◌else◌, nat_lt, OnOk, IfErr, IfSome, length, drop, is_some, IsTrue};
+ghost use Rattle.std.specs.Prelude.{◌≡◌, ◌&&◌, if◌then◌else◌, nat_lt, OnOk, IfErr, IfSome, IsCharBoundary, length, drop, is_some, IsTrue};
 ghost use Rattle.line_buffer.specs.Range.{FindsSpan, IsSpanOf, copied_range, deletion_line, range_of};
 ghost use Rattle.line_config.specs.declared.errors.ReadlineError.{ReadlineError};
 ghost use Rattle.line_buffer.specs.Printable.{at_plain_end, is_printable};
@@ -112,12 +112,24 @@ impl<'p, 'h, Out: Renderer, H: Helper + Drop, Hi: History> State<'p, 'h, Out, H,
 
     /// The place at which a kill of a range leaves the cursor.
     fn place_of_kill(&self, span: Option<TextSpan>) -> usize
-        ensures { result ≡ (deletion_line span self.now.recorded.line).place }
+        requires { IfSome span (λ s. IsSpanOf self.now.recorded.line.text s) }
+        ensures value { result ≡ (deletion_line span self.now.recorded.line).place }
+        ensures boundary { IsCharBoundary self.now.recorded.line.text result }
     {
         match span {
             Some(span) => span.from,
             None => self.recorded.line.pos(),
         }
+    }
+
+    /// Whether the known place follows a kill back: over characters of a plain line, each of which
+    /// is a byte, or if the drawing has several rows and the line may be drawn from the kill on.
+    /// Else a kill over a row break would measure the line from its start.
+    fn known_follows(&self, movement: &Movement, since: &Option<Since<'_>>) -> bool {
+        if since.is_some() && 0 < self.layout.end.row {
+            return true;
+        }
+        self.recorded.plain && matches!(movement, Movement::BackwardChar(_))
     }
 
     /// Shows that `count` bytes were killed in this way, if the line is still bare, with a new
@@ -206,9 +218,11 @@ impl<'p, 'h, Out: Renderer, H: Helper + Drop, Hi: History> State<'p, 'h, Out, H,
         let alone = self.may_be_taken(span);
         let inside = self.may_be_taken_out(span);
         let last = self.last_of_bare();
-        let since = self.since(self.place_of_kill(span), noted);
+        let place = self.place_of_kill(span);
+        let since = self.since(place, noted);
         let before = self.recorded.line.len();
-        let known = self.known_before(movement);
+        let follows = self.known_follows(movement, &since);
+        let known = self.known_before(follows, place);
         self.known = None;
         let killed = self.recorded.kill_range(self.alloc, ring, movement, span)?;
         self.known = known_within(self.recorded.line.pos(), known);

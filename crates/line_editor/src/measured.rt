@@ -6,7 +6,7 @@ ghost use Rattle.line_editor.specs.Redraws.{layout_of};
 use crate::drawing::display_of;
 use crate::renderer::Renderer;
 use crate::state::State;
-use line_buffer::{Layout, Movement, Position};
+use line_buffer::{Layout, Position};
 use line_help::{Helper, History};
 
 /// The known place, if it isn't past another one: changes after that one leave it.
@@ -85,20 +85,16 @@ impl<'p, 'h, Out: Renderer, H: Helper + Drop, Hi: History> State<'p, 'h, Out, H,
         }
     }
 
-    /// The known place, moved back before the characters that a movement back passes, if each of
-    /// them is one byte.
-    pub(crate) fn known_before(&self, movement: &Movement) -> Option<(usize, Position)>
+    /// The known place, or an earlier one in its stead, if it is to `follow` a deletion back there.
+    pub(crate) fn known_before(&self, follow: bool, earlier: usize) -> Option<(usize, Position)>
+        requires boundary { IsCharBoundary self.now.recorded.line.text earlier }
         ensures { IsKnownOn (Out.canvas.ruler self.now.out) self.now.layout
             self.now.recorded.line.text result }
     {
-        let Movement::BackwardChar(n) = movement else {
-            return self.known;
-        };
-        let place = self.recorded.line.pos().saturating_sub(usize::from(*n));
         match self.known {
-            Some((known, _)) if self.recorded.plain && place < known => Some((
-                place,
-                self.position_at(place),
+            Some((known, _)) if follow && earlier < known => Some((
+                earlier,
+                self.position_at(earlier),
             )),
             _ => self.known,
         }

@@ -1,8 +1,7 @@
-//! Readers and writers of std that transfer pieces, are interrupted or fail, and that log their
-//! calls.
+//! Readers and writers of std that transfer pieces, are interrupted or fail.
 
 use crate::tables::word_and_rest;
-use std::cell::{Cell, RefCell};
+use std::cell::Cell;
 use std::io;
 use std::io::{ErrorKind, Read, Write};
 
@@ -76,54 +75,5 @@ impl Write for Taker<'_> {
     fn flush(&mut self) -> io::Result<()> {
         self.flushes.next()?;
         Ok(())
-    }
-}
-
-/// What several devices did, in order: an entry is a name, a colon, the bytes and a semicolon.
-pub type Log = RefCell<Vec<u8>>;
-
-fn note(log: &Log, name: &str, bytes: &[u8]) -> io::Result<()> {
-    let Ok(mut entries) = log.try_borrow_mut() else {
-        return Err(io::Error::from(ErrorKind::Other));
-    };
-    for piece in [name.as_bytes(), b":".as_slice(), bytes, b";".as_slice()] {
-        entries.extend_from_slice(piece)?;
-    }
-    Ok(())
-}
-
-/// A reader that gives one byte per call, and logs `read`.
-#[derive(Drop)]
-pub struct LoggedReader<'a> {
-    pub bytes: &'a [u8],
-    pub log: &'a Log,
-}
-
-impl Read for LoggedReader<'_> {
-    fn read(&mut self, buf: &mut [u8]) -> io::Result<usize> {
-        let count = buf.len().min(self.bytes.len()).min(1);
-        let (given, left) = self.bytes.split_at(count);
-        note(self.log, "read", given)?;
-        buf[..count].copy_from_slice(given);
-        self.bytes = left;
-        Ok(count)
-    }
-}
-
-/// A writer that logs the bytes it takes under its name, and each flush.
-#[derive(Drop)]
-pub struct LoggedWriter<'a> {
-    pub name: &'static str,
-    pub log: &'a Log,
-}
-
-impl Write for LoggedWriter<'_> {
-    fn write(&mut self, buf: &[u8]) -> io::Result<usize> {
-        note(self.log, self.name, buf)?;
-        Ok(buf.len())
-    }
-
-    fn flush(&mut self) -> io::Result<()> {
-        note(self.log, self.name, b"flush")
     }
 }

@@ -19,7 +19,6 @@ pub struct FailingSink {
     marks_flushes: bool,
     taken: Log,
     failed: bool,
-    failed_in_flush: bool,
     asked_again: bool,
     pub ghost within: { len ≤ SIZE },
 }
@@ -51,7 +50,6 @@ impl FailingSink {
             marks_flushes: false,
             taken: Log::new(),
             failed: false,
-            failed_in_flush: false,
             asked_again: false,
         }
     }
@@ -65,11 +63,6 @@ impl FailingSink {
     pub fn bytes(&self) -> &[u8] {
         let all = &self.bytes[..];
         &all[..self.len]
-    }
-
-    /// Whether the call that failed was a flush.
-    pub fn failed_in_flush(&self) -> bool {
-        self.failed_in_flush
     }
 
     /// Whether it was called after it had failed.
@@ -139,8 +132,7 @@ impl Sink for FailingSink {
             self.asked_again = true;
             return Err(DeviceFailed);
         }
-        self.failed_in_flush = self.fails_now() || !self.mark();
-        self.failed = self.failed_in_flush;
+        self.failed = self.fails_now() || !self.mark();
         if self.failed {
             Err(DeviceFailed)
         } else {

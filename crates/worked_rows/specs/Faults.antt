@@ -12,30 +12,77 @@ use Rattle.worked_rows.specs.Playing.{Row, row}
 use Rattle.worked_rows.specs.Settings.{Settings, aide, bound, command, listed, modal, plain, vi}
 
 -- keys@end
-abbrev pub settings_4 : Settings
-settings_4 = record plain {
+abbrev pub settings_5 : Settings
+settings_5 = record plain {
   last = Failed;
 }
 
+-- nothing = nothing | ends Reader | shows {}
+abbrev pub row_5 : Row
+row_5 = record (row 5 settings_5 [] []) {
+  ends = Reader;
+  shows = Some (codes "\r\u{1b}[J\u{1b}[m> \u{1b}[m\u{1b}[m\u{1b}[m");
+}
+
+-- a = nothing | ends Reader | shows {} a
+abbrev pub row_6 : Row
+row_6 = record (row 6 settings_5 (codes "a") []) {
+  ends = Reader;
+  shows = Some (codes "\r\u{1b}[J\u{1b}[m> \u{1b}[m\u{1b}[m\u{1b}[ma");
+}
+
+-- ab Esc = nothing | ends Reader | shows {} a b
+abbrev pub row_7 : Row
+row_7 = record (row 7 settings_5 (codes "ab\u{1b}") []) {
+  ends = Reader;
+  shows = Some (codes "\r\u{1b}[J\u{1b}[m> \u{1b}[m\u{1b}[m\u{1b}[mab");
+}
+
+-- ab ␛[ = nothing | ends Reader | shows {} a b
+abbrev pub row_8 : Row
+row_8 = record (row 8 settings_5 (codes "ab\u{1b}[") []) {
+  ends = Reader;
+  shows = Some (codes "\r\u{1b}[J\u{1b}[m> \u{1b}[m\u{1b}[m\u{1b}[mab");
+}
+
+-- ab Left = nothing | ends Reader | shows {} a b ␛[1D
+abbrev pub row_9 : Row
+row_9 = record (row 9 settings_5 (codes "ab\u{1b}[D") []) {
+  ends = Reader;
+  shows = Some (codes "\r\u{1b}[J\u{1b}[m> \u{1b}[m\u{1b}[m\u{1b}[mab\u{1b}[1D");
+}
+
+-- ab Left Enter = ab | ends Reader | shows {} a b ␛[1D ␛[1C␍␊ {}
+abbrev pub row_10 : Row
+row_10 = record (row 10 settings_5 (codes "ab\u{1b}[D\r") (codes "ab\n")) {
+  ends = Reader;
+  shows = Some
+      (codes "\r\u{1b}[J\u{1b}[m> \u{1b}[m\u{1b}[m\u{1b}[mab\u{1b}[1D\u{1b}[1C\r\n\r\u{1b}[J" ++
+      codes "\u{1b}[m> \u{1b}[m\u{1b}[m\u{1b}[m");
+}
+
 -- ab Enter c = ab | ends Reader | shows {} a b ␍␊ {} c
-abbrev pub row_4 : Row
-row_4 = record (row 4 settings_4 (codes "ab\rc") (codes "ab\n")) {
+abbrev pub row_11 : Row
+row_11 = record (row 11 settings_5 (codes "ab\rc") (codes "ab\n")) {
   ends = Reader;
   shows = Some
       (codes "\r\u{1b}[J\u{1b}[m> \u{1b}[m\u{1b}[m\u{1b}[mab\r\n\r\u{1b}[J\u{1b}[m> \u{1b}[m" ++
       codes "\u{1b}[m\u{1b}[mc");
 }
 
--- nothing = nothing | ends Reader | shows {}
-abbrev pub row_5 : Row
-row_5 = record (row 5 settings_4 [] []) {
+-- ab Left Enter c Enter = ab c | ends Reader | shows {} a b ␛[1D ␛[1C␍␊ {} c ␍␊ {}
+abbrev pub row_12 : Row
+row_12 = record (row 12 settings_5 (codes "ab\u{1b}[D\rc\r") (codes "ab\nc\n")) {
   ends = Reader;
-  shows = Some (codes "\r\u{1b}[J\u{1b}[m> \u{1b}[m\u{1b}[m\u{1b}[m");
+  shows = Some
+      (codes "\r\u{1b}[J\u{1b}[m> \u{1b}[m\u{1b}[m\u{1b}[mab\u{1b}[1D\u{1b}[1C\r\n\r\u{1b}[J" ++
+      codes "\u{1b}[m> \u{1b}[m\u{1b}[m\u{1b}[mc\r\n\r\u{1b}[J\u{1b}[m> \u{1b}[m\u{1b}[m" ++
+      codes "\u{1b}[m");
 }
 
 -- a Left M-2 = nothing | ends Reader | shows {} a ␛[1D ␍␛[J␛[m(arg:␠2)␠␛[ma␛[m␛[m␛[1D
-abbrev pub row_6 : Row
-row_6 = record (row 6 settings_4 (codes "a\u{1b}[D\u{1b}2") []) {
+abbrev pub row_13 : Row
+row_13 = record (row 13 settings_5 (codes "a\u{1b}[D\u{1b}2") []) {
   ends = Reader;
   shows = Some
       (codes "\r\u{1b}[J\u{1b}[m> \u{1b}[m\u{1b}[m\u{1b}[ma\u{1b}[1D\r\u{1b}[J\u{1b}[m(arg: " ++
@@ -43,8 +90,8 @@ row_6 = record (row 6 settings_4 (codes "a\u{1b}[D\u{1b}2") []) {
 }
 
 -- a Left M-2 b = nothing | ends Reader | shows {} a ␛[1D ␍␛[J␛[m(arg:␠2)␠␛[ma␛[m␛[m␛[1D {a}␛[1D {bba}␛[1D
-abbrev pub row_7 : Row
-row_7 = record (row 7 settings_4 (codes "a\u{1b}[D\u{1b}2b") []) {
+abbrev pub row_14 : Row
+row_14 = record (row 14 settings_5 (codes "a\u{1b}[D\u{1b}2b") []) {
   ends = Reader;
   shows = Some
       (codes "\r\u{1b}[J\u{1b}[m> \u{1b}[m\u{1b}[m\u{1b}[ma\u{1b}[1D\r\u{1b}[J\u{1b}[m(arg: " ++
@@ -53,29 +100,29 @@ row_7 = record (row 7 settings_4 (codes "a\u{1b}[D\u{1b}2b") []) {
 }
 
 -- C-x = nothing | ends Reader | shows {}
-abbrev pub row_8 : Row
-row_8 = record (row 8 settings_4 (codes "\u{18}") []) {
+abbrev pub row_15 : Row
+row_15 = record (row 15 settings_5 (codes "\u{18}") []) {
   ends = Reader;
   shows = Some (codes "\r\u{1b}[J\u{1b}[m> \u{1b}[m\u{1b}[m\u{1b}[m");
 }
 
 -- Paste ab Pasted = nothing | ends Reader | shows {} {ab}
-abbrev pub row_9 : Row
-row_9 = record (row 9 settings_4 (codes "\u{1b}[200~ab\u{1b}[201~") []) {
+abbrev pub row_16 : Row
+row_16 = record (row 16 settings_5 (codes "\u{1b}[200~ab\u{1b}[201~") []) {
   ends = Reader;
   shows = Some (codes "\r\u{1b}[J\u{1b}[m> \u{1b}[m\u{1b}[m\u{1b}[m\r\u{1b}[J\u{1b}[m> \u{1b}[mab"
       ++ codes "\u{1b}[m\u{1b}[m");
 }
 
 -- bind:C-O⇒Fails
-abbrev pub settings_35 : Settings
-settings_35 = record plain {
+abbrev pub settings_81 : Settings
+settings_81 = record plain {
   custom = bound ((KeySeq ((key_with (Char 79) ctrl) ∷ []), one_way Fails) ∷ []);
 }
 
 -- a Enter b C-O = a | ends Handler | shows {} a ␍␊ {} b
-abbrev pub row_35 : Row
-row_35 = record (row 35 settings_35 (codes "a\rb\u{f}") (codes "a\n")) {
+abbrev pub row_81 : Row
+row_81 = record (row 81 settings_81 (codes "a\rb\u{f}") (codes "a\n")) {
   ends = Handler;
   shows = Some
       (codes "\r\u{1b}[J\u{1b}[m> \u{1b}[m\u{1b}[m\u{1b}[ma\r\n\r\u{1b}[J\u{1b}[m> \u{1b}[m" ++
@@ -83,30 +130,30 @@ row_35 = record (row 35 settings_35 (codes "a\rb\u{f}") (codes "a\n")) {
 }
 
 -- bind:Esc⇒AcceptLine keys@end
-abbrev pub settings_38 : Settings
-settings_38 = record plain {
+abbrev pub settings_84 : Settings
+settings_84 = record plain {
   custom = bound ((KeySeq ((key_with Esc none) ∷ []), command AcceptLine) ∷ []);
   last = Failed;
 }
 
 -- ab Esc = nothing | ends Reader | shows {} a b
-abbrev pub row_38 : Row
-row_38 = record (row 38 settings_38 (codes "ab\u{1b}") []) {
+abbrev pub row_84 : Row
+row_84 = record (row 84 settings_84 (codes "ab\u{1b}") []) {
   ends = Reader;
   shows = Some (codes "\r\u{1b}[J\u{1b}[m> \u{1b}[m\u{1b}[m\u{1b}[mab");
 }
 
 -- modal keys@end loaded:#V2␊make␠test␊
-abbrev pub settings_46 : Settings
-settings_46 = record plain {
+abbrev pub settings_92 : Settings
+settings_92 = record plain {
   config = modal plain.config;
   loaded = codes "#V2\nmake test\n";
   last = Failed;
 }
 
 -- C-R t = nothing | ends Reader | shows {} ''} 't'make␠test}␛[4D
-abbrev pub row_46 : Row
-row_46 = record (row 46 settings_46 (codes "\u{12}t") []) {
+abbrev pub row_92 : Row
+row_92 = record (row 92 settings_92 (codes "\u{12}t") []) {
   ends = Reader;
   shows = Some
       (codes "\r\u{1b}[J\u{1b}[m> \u{1b}[m\u{1b}[m\u{1b}[m\r\u{1b}[J\u{1b}[m(reverse-i-searc" ++
@@ -115,16 +162,16 @@ row_46 = record (row 46 settings_46 (codes "\u{12}t") []) {
 }
 
 -- modal bind:C-O⇒Fails loaded:#V2␊make␠test␊
-abbrev pub settings_49 : Settings
-settings_49 = record plain {
+abbrev pub settings_95 : Settings
+settings_95 = record plain {
   config = modal plain.config;
   custom = bound ((KeySeq ((key_with (Char 79) ctrl) ∷ []), one_way Fails) ∷ []);
   loaded = codes "#V2\nmake test\n";
 }
 
 -- C-R t C-O = nothing | ends Handler | shows {} ''} 't'make␠test}␛[4D
-abbrev pub row_49 : Row
-row_49 = record (row 49 settings_49 (codes "\u{12}t\u{f}") []) {
+abbrev pub row_95 : Row
+row_95 = record (row 95 settings_95 (codes "\u{12}t\u{f}") []) {
   ends = Handler;
   shows = Some
       (codes "\r\u{1b}[J\u{1b}[m> \u{1b}[m\u{1b}[m\u{1b}[m\r\u{1b}[J\u{1b}[m(reverse-i-searc" ++
@@ -133,16 +180,16 @@ row_49 = record (row 49 settings_49 (codes "\u{12}t\u{f}") []) {
 }
 
 -- modal keys@end listed words:alpha,alpine
-abbrev pub settings_59 : Settings
-settings_59 = record plain {
+abbrev pub settings_105 : Settings
+settings_105 = record plain {
   config = listed (modal plain.config);
   helping = aide false (Some ((codes "alpha") ∷ (codes "alpine") ∷ []));
   last = Failed;
 }
 
 -- alp Tab Tab = nothing | ends Reader | shows {} a l p ␇ {alp␛[m␍␊alpha␍␊alpine␛[m␛[2A␛[1D
-abbrev pub row_59 : Row
-row_59 = record (row 59 settings_59 (codes "alp\t\t") []) {
+abbrev pub row_105 : Row
+row_105 = record (row 105 settings_105 (codes "alp\t\t") []) {
   ends = Reader;
   shows = Some
       (codes "\r\u{1b}[J\u{1b}[m> \u{1b}[m\u{1b}[m\u{1b}[malp\u{7}\r\u{1b}[J\u{1b}[m> \u{1b}" ++
@@ -150,16 +197,16 @@ row_59 = record (row 59 settings_59 (codes "alp\t\t") []) {
 }
 
 -- modal keys@end words:alpha,alpine
-abbrev pub settings_62 : Settings
-settings_62 = record plain {
+abbrev pub settings_108 : Settings
+settings_108 = record plain {
   config = modal plain.config;
   helping = aide false (Some ((codes "alpha") ∷ (codes "alpine") ∷ []));
   last = Failed;
 }
 
 -- al Tab Tab Tab = nothing | ends Reader | shows {} a l {alpha} {alpine} {al} ␇
-abbrev pub row_62 : Row
-row_62 = record (row 62 settings_62 (codes "al\t\t\t") []) {
+abbrev pub row_108 : Row
+row_108 = record (row 108 settings_108 (codes "al\t\t\t") []) {
   ends = Reader;
   shows = Some
       (codes "\r\u{1b}[J\u{1b}[m> \u{1b}[m\u{1b}[m\u{1b}[mal\r\u{1b}[J\u{1b}[m> \u{1b}[malph" ++
@@ -168,16 +215,16 @@ row_62 = record (row 62 settings_62 (codes "al\t\t\t") []) {
 }
 
 -- modal bind:C-O⇒Fails words:alpha,alpine
-abbrev pub settings_65 : Settings
-settings_65 = record plain {
+abbrev pub settings_111 : Settings
+settings_111 = record plain {
   config = modal plain.config;
   custom = bound ((KeySeq ((key_with (Char 79) ctrl) ∷ []), one_way Fails) ∷ []);
   helping = aide false (Some ((codes "alpha") ∷ (codes "alpine") ∷ []));
 }
 
 -- al Tab C-O = nothing | ends Handler | shows {} a l {alpha}
-abbrev pub row_65 : Row
-row_65 = record (row 65 settings_65 (codes "al\t\u{f}") []) {
+abbrev pub row_111 : Row
+row_111 = record (row 111 settings_111 (codes "al\t\u{f}") []) {
   ends = Handler;
   shows = Some
       (codes "\r\u{1b}[J\u{1b}[m> \u{1b}[m\u{1b}[m\u{1b}[mal\r\u{1b}[J\u{1b}[m> \u{1b}[malph" ++
@@ -185,16 +232,16 @@ row_65 = record (row 65 settings_65 (codes "al\t\u{f}") []) {
 }
 
 -- modal vi keys@end loaded:#V2␊test␊make␠test␊
-abbrev pub settings_71 : Settings
-settings_71 = record plain {
+abbrev pub settings_117 : Settings
+settings_117 = record plain {
   config = modal (vi plain.config);
   loaded = codes "#V2\ntest\nmake test\n";
   last = Failed;
 }
 
 -- C-R t Esc n = nothing | ends Reader | shows {} ''} 't'make␠test}␛[4D {make␠test}␛[4D ␛[1D {test}␛[4D
-abbrev pub row_71 : Row
-row_71 = record (row 71 settings_71 (codes "\u{12}t\u{1b}n") []) {
+abbrev pub row_117 : Row
+row_117 = record (row 117 settings_117 (codes "\u{12}t\u{1b}n") []) {
   ends = Reader;
   shows = Some
       (codes "\r\u{1b}[J\u{1b}[m> \u{1b}[m\u{1b}[m\u{1b}[m\r\u{1b}[J\u{1b}[m(reverse-i-searc" ++
@@ -205,5 +252,5 @@ row_71 = record (row 71 settings_71 (codes "\u{12}t\u{1b}n") []) {
 }
 
 abbrev pub faults_rows : List Row
-faults_rows = row_4 ∷ row_5 ∷ row_6 ∷ row_7 ∷ row_8 ∷ row_9 ∷ row_35 ∷ row_38 ∷ row_46 ∷ row_49 ∷
-    row_59 ∷ row_62 ∷ row_65 ∷ row_71 ∷ []
+faults_rows = row_5 ∷ row_6 ∷ row_7 ∷ row_8 ∷ row_9 ∷ row_10 ∷ row_11 ∷ row_12 ∷ row_13 ∷ row_14 ∷
+    row_15 ∷ row_16 ∷ row_81 ∷ row_84 ∷ row_92 ∷ row_95 ∷ row_105 ∷ row_108 ∷ row_111 ∷ row_117 ∷ []

@@ -1,186 +1,113 @@
-//! Sessions with the program's options.
+//! Command lines, and sessions with the options that they mean.
 
 ghost use Rattle.std.specs.Prelude.{◌≤◌};
 
-use crate::library::over_memory::tell_bytes;
 use crate::library::told::{lines_by_bytes, text_of_play};
-use keyline::{Ending, Options, Parsed, ReadlineError, SliceSource, VecSink, edit, parse};
+use keyline::{Ending, Options, Parsed, parse};
 use stand_ins::rows::{Player, raised, rows_hold};
-use stand_ins::tables::{meant_bytes, pictured_bytes, shown, words_in};
+use stand_ins::tables::{meant_bytes, parted, pictured_bytes, shown};
 use std::alloc::{AllocError, Global};
 use std::test::Fail;
 
-/// Plays a session with a row's command line, history and keys. `--words` is followed by the words
-/// themselves, separated by commas. `ByBytes` tells the lines of one whose reads give a byte each,
-/// `Made` the history's text that it makes.
-#[derive(Clone, Copy, Drop)]
-enum Ask {
-    Whole,
-    ByBytes,
-    Made,
-}
+/// Parses a row's command line. If a history and keys follow, plays two sessions with the options,
+/// and tells the lines of the first one, whose reads give a byte each, and the history's text that
+/// the second one makes.
+#[derive(Drop)]
+struct CommandLine;
 
-impl Player for Ask {
+impl Player for CommandLine {
     fn play(&mut self, alloc: Global, call: &str) -> Result<String, Fail> {
-        let (line, devices) = call.split_once(" : ").unwrap_or((call, ""));
+        let (line, devices) = parted(call, " : ");
         let words: Vec<&str> = line.split_whitespace().collect(alloc)?;
-        raised(answer(alloc, *self, words.as_slice(), devices))
+        raised(answer(alloc, words.as_slice(), devices))
     }
 }
 
-fn answer(alloc: Global, ask: Ask, words: &[&str], devices: &str) -> Result<String, AllocError> {
-    let (history, keys) = devices.split_once(" : ").unwrap_or((devices, ""));
+fn answer(alloc: Global, words: &[&str], devices: &str) -> Result<String, AllocError> {
     match parse(alloc, words) {
-        Parsed::Run(options) => answer_to(alloc, ask, &options, history, keys),
-        _ => String::from_str(alloc, "no options"),
+        Parsed::Run(options) => answer_to(alloc, &options, devices),
+        Parsed::Help(_) => String::from_str(alloc, "help"),
+        Parsed::Usage(_) => String::from_str(alloc, "usage"),
+        Parsed::Memory => String::from_str(alloc, "memory"),
     }
 }
 
-fn answer_to(
-    alloc: Global,
-    ask: Ask,
-    options: &Options,
-    history: &str,
-    keys: &str,
-) -> Result<String, AllocError>
+fn answer_to(alloc: Global, options: &Options, devices: &str) -> Result<String, AllocError>
     requires { (2 ≤ options.now.columns) × (options.now.columns ≤ 1000) }
 {
-    match ask {
-        Ask::Whole => told(alloc, &played(alloc, options, history, keys)),
-        Ask::ByBytes => lines_told(alloc, options, history, keys),
-        Ask::Made => text_told(alloc, options, history, keys),
+    if devices.is_empty() {
+        return format!(in alloc; "{options:?}");
     }
-}
-
-/// The result of a session.
-#[derive(Drop)]
-struct Kept {
-    ending: Ending,
-    lines: Vec<u8>,
-    saved: Vec<u8>,
+    let (history, keys) = parted(devices, " : ");
+    let (history, keys) = (meant_bytes(alloc, history)?, meant_bytes(alloc, keys)?);
+    played(alloc, options, &history, &keys)
 }
 
 fn played(
     alloc: Global,
     options: &Options,
-    history: &str,
-    keys: &str,
-) -> Result<Kept, ReadlineError>
-    requires { (2 ≤ options.now.columns) × (options.now.columns ≤ 1000) }
-{
-    let loaded = meant_bytes(alloc, history)?;
-    let typed = meant_bytes(alloc, keys)?;
-    kept_of(alloc, options, &loaded, &typed)
-}
-
-/// The result of a session that loads this text, and in which these keys are typed.
-fn kept_of(
-    alloc: Global,
-    options: &Options,
-    loaded: &[u8],
-    typed: &[u8],
-) -> Result<Kept, ReadlineError>
-    requires { (2 ≤ options.now.columns) × (options.now.columns ≤ 1000) }
-{
-    let (history, keys) = (SliceSource::new(loaded), SliceSource::new(typed));
-    let (display, lines, text) = (
-        VecSink::new(alloc),
-        VecSink::new(alloc),
-        VecSink::new(alloc),
-    );
-    let words = words_of(alloc, &options.words)?;
-    let end = edit(alloc, options, words, history, keys, display, lines, text)?;
-    Ok(Kept {
-        ending: end.ending,
-        lines: end.lines.into_bytes(),
-        saved: end.text.into_bytes(),
-    })
-}
-
-fn words_of(alloc: Global, listed: &Option<String>) -> Result<Option<Vec<String>>, AllocError> {
-    match listed {
-        Some(listed) => Ok(Some(words_in(alloc, listed.as_str(), ',')?)),
-        None => Ok(None),
-    }
-}
-
-/// How a session ended, with its lines and the history's text; or why none was opened.
-fn told(alloc: Global, kept: &Result<Kept, ReadlineError>) -> Result<String, AllocError> {
-    match kept {
-        Ok(kept) => {
-            let mut said = String::new(alloc);
-            tell(alloc, kept, &mut said)?;
-            Ok(said)
-        }
-        Err(refusal) => shown(alloc, *refusal),
-    }
-}
-
-fn tell(alloc: Global, kept: &Kept, said: &mut String) -> Result<(), AllocError> {
-    write!(said, "{:?}", kept.ending)?;
-    tell_bytes(alloc, &kept.lines, said)?;
-    tell_bytes(alloc, &kept.saved, said)
-}
-
-/// The lines of a session with these options, or how it ended.
-fn lines_told(
-    alloc: Global,
-    options: &Options,
-    history: &str,
-    keys: &str,
+    history: &[u8],
+    keys: &[u8],
 ) -> Result<String, AllocError>
     requires { (2 ≤ options.now.columns) × (options.now.columns ≤ 1000) }
 {
-    let (history, keys) = (meant_bytes(alloc, history)?, meant_bytes(alloc, keys)?);
-    match &lines_by_bytes(alloc, options, &history, &keys) {
-        Ok(lines) => pictured_bytes(alloc, lines),
-        Err(ending) => shown(alloc, *ending),
-    }
+    let lines = told(alloc, &lines_by_bytes(alloc, options, history, keys))?;
+    let text = told(alloc, &text_of_play(alloc, options, history, keys))?;
+    format!(in alloc; "{lines} {text}")
 }
 
-/// The history's text that a session with these options makes, or how it ended.
-fn text_told(
-    alloc: Global,
-    options: &Options,
-    history: &str,
-    keys: &str,
-) -> Result<String, AllocError>
-    requires { (2 ≤ options.now.columns) × (options.now.columns ≤ 1000) }
-{
-    let (history, keys) = (meant_bytes(alloc, history)?, meant_bytes(alloc, keys)?);
-    match &text_of_play(alloc, options, &history, &keys) {
-        Ok(text) => {
-            let text = pictured_bytes(alloc, text)?;
-            format!(in alloc; "<{text}>")
+/// What a session made, or how it ended.
+fn told(alloc: Global, made: &Result<Vec<u8>, Ending>) -> Result<String, AllocError> {
+    match made {
+        Ok(bytes) => {
+            let pictured = pictured_bytes(alloc, bytes)?;
+            format!(in alloc; "<{pictured}>")
         }
         Err(ending) => shown(alloc, *ending),
     }
 }
 
-const SESSIONS: &str = "keyline : #V2␊ : ab␍ = Eof <ab␊> <#V2␊ab␊>
-        keyline : #V2␊ab␊ : ␐␍ = Eof <ab␊> <>
-        keyline : ‹ff› : ab␍ = HistoryText
-        keyline --mode vi : #V2␊ : ab␛x␍ = Eof <a␊> <#V2␊a␊>
-        keyline : #V2␊ : (␍)␍ = Eof <(␊)␊> <#V2␊(␊)␊>
-        keyline --brackets : #V2␊ : (␍)␍ = Eof <(␊)␊> <#V2␊(\\n)␊>
-        keyline --words alpha,alpine : #V2␊ : x al␉␍ = Eof <x alp␊> <#V2␊x alp␊>
-        keyline --brackets : #V2␊ : al␉␍ = Eof <al␊> <#V2␊al␊>
-        keyline --words alpha,alpine : #V2␊ : (␍)␍ = Eof <(␊)␊> <#V2␊(␊)␊>
-        keyline --brackets --words alpha,alpine : #V2␊ : (␍)␍ = Eof <(␊)␊> <#V2␊(\\n)␊>";
+const COMMAND_LINES: &str = r#"
+    keyline = Options { mode: Emacs, columns: 80, prompt: "> ", prompt_styles: [], history: None, words: None, brackets: false }
+    keyline --mode vi --columns 1000 = Options { mode: Vi, columns: 1000, prompt: "> ", prompt_styles: [], history: None, words: None, brackets: false }
+    keyline --mode=emacs --columns=2 --prompt=$ = Options { mode: Emacs, columns: 2, prompt: "$", prompt_styles: [], history: None, words: None, brackets: false }
+    keyline --prompt ? --history=kept --brackets = Options { mode: Emacs, columns: 80, prompt: "?", prompt_styles: [], history: Some("kept"), words: None, brackets: true }
+    keyline --words listed = Options { mode: Emacs, columns: 80, prompt: "> ", prompt_styles: [], history: None, words: Some("listed"), brackets: false }
+    keyline --brackets --words=a --history b = Options { mode: Emacs, columns: 80, prompt: "> ", prompt_styles: [], history: Some("b"), words: Some("a"), brackets: true }
+    keyline --words= = Options { mode: Emacs, columns: 80, prompt: "> ", prompt_styles: [], history: None, words: Some(""), brackets: false }
+    keyline --columns 1 = usage
+    keyline --columns 1001 = usage
+    keyline --columns 70000 = usage
+    keyline --columns -5 = usage
+    keyline --columns eighty = usage
+    keyline --columns = usage
+    keyline --columns= = usage
+    keyline --mode ed = usage
+    keyline --mode Vi = usage
+    keyline --mode vi --mode vi = usage
+    keyline --brackets=on = usage
+    keyline --history = usage
+    keyline --words = usage
+    keyline --words a --words b = usage
+    keyline --word a = usage
+    keyline --colours = usage
+    keyline -x = usage
+    keyline word = usage
+    keyline --help = help
+    keyline --mode ed --help = help
+    keyline -h = help
 
-const LINES_BY_ONE_BYTE_READS: &str = "keyline : #V2␊ : ab␍c␍ = ab␊c␊
-        keyline : #V2␊old␊ : ␐␍ = old␊
-        keyline --mode vi : #V2␊ : ab␛x␍ = a␊
-        keyline : #V2␊ : a␃ = Interrupted
-        keyline : ‹ff› : ab␍ = HistoryText";
-
-const TEXTS_MADE: &str = "keyline : #V2␊ : ab␍c␍ = <>
-        keyline --history notes : #V2␊ : ab␍c␍ = <#V2␊ab␊c␊>
-        keyline --history notes : #V2␊ : ␍ = <>";
+    keyline : #V2␊ : ab␍c␍ = <ab␊c␊> <>
+    keyline : #V2␊old␊ : ␐␍ = <old␊> <>
+    keyline : #V2␊ : a␃ = Interrupted <>
+    keyline : ‹ff› : ab␍ = HistoryText HistoryText
+    keyline --mode vi : #V2␊ : ab␛x␍ = <a␊> <>
+    keyline --history notes : #V2␊ : ␍ = <␊> <>
+    keyline --history notes : #V2␊ : (␍)␍ = <(␊)␊> <#V2␊(␊)␊>
+    keyline --history notes --brackets : #V2␊ : (␍)␍ = <(␊)␊> <#V2␊(\n)␊>
+"#;
 
 #[test]
-fn sessions_by_options(rt: HostRuntime) -> Result<(), Fail> {
-    rows_hold(rt.alloc(), &mut Ask::Whole, SESSIONS)?;
-    rows_hold(rt.alloc(), &mut Ask::ByBytes, LINES_BY_ONE_BYTE_READS)?;
-    rows_hold(rt.alloc(), &mut Ask::Made, TEXTS_MADE)
+fn command_lines_and_sessions(rt: HostRuntime) -> Result<(), Fail> {
+    rows_hold(rt.alloc(), &mut CommandLine, COMMAND_LINES)
 }

@@ -1,22 +1,23 @@
 //! Whole sessions over memory.
 
 use keyline::over_memory::{Transcript, transcribe};
-use keyline::{Bindings, Config, ReadlineError};
-use stand_ins::rows::{Player, raised, rows_hold, stands};
-use stand_ins::tables::{meant_bytes, pictured_bytes, shown, words_in};
+use keyline::{Bindings, Cmd, Config, EditMode, EventHandler, ReadlineError};
+use stand_ins::rows::{Player, raised, rows_hold};
+use stand_ins::tables::{meant_bytes, parted, pictured_bytes, shown, words_in};
+use stand_ins::typing::bind;
 use std::alloc::{AllocError, Global};
 use std::test::Fail;
 
-/// Runs a session by a row's words, history and keys. The words stand with a comma between two.
+/// Runs a session with the keys of Vi by a row's words, history and keys. The words stand with a
+/// comma between two. Esc ends the session.
 #[derive(Drop)]
 struct Transcribed;
 
 impl Player for Transcribed {
     fn play(&mut self, alloc: Global, call: &str) -> Result<String, Fail> {
-        let (words, devices) = call.split_once(" : ").unwrap_or((call, ""));
-        let (history, keys) = devices.split_once(" : ").unwrap_or((devices, ""));
-        let history = meant_bytes(alloc, history)?;
-        let keys = meant_bytes(alloc, keys)?;
+        let (words, devices) = parted(call, " : ");
+        let (history, keys) = parted(devices, " : ");
+        let (history, keys) = (meant_bytes(alloc, history)?, meant_bytes(alloc, keys)?);
         raised(told(alloc, &session_of(alloc, words, &history, &keys)))
     }
 }
@@ -34,14 +35,19 @@ fn session_of(
     history: &[u8],
     keys: &[u8],
 ) -> Result<Transcript, ReadlineError> {
-    let config = Config::builder().auto_add_history(true).build();
+    let mut bindings: Bindings = Bindings::new(alloc)?;
+    let ending = EventHandler::Simple(Cmd::Interrupt);
+    bind(alloc, &mut bindings, "Esc", ending)?;
     let words = words_of(alloc, words)?;
-    let bindings: Bindings = Bindings::new(alloc)?;
+    let config = Config::builder()
+        .edit_mode(EditMode::Vi)
+        .auto_add_history(true)
+        .build();
     transcribe(alloc, config, words, bindings, "> ", 80, history, keys)
 }
 
-/// How a session ended, with its lines, the history's text, the display bytes and the keys that were not read; or why there
-/// is none.
+/// How a session ended, with its lines, the history's text, the display bytes and the keys that were
+/// not read; or why there is none.
 fn told(
     alloc: Global,
     transcript: &Result<Transcript, ReadlineError>,
@@ -70,39 +76,19 @@ pub(crate) fn tell_bytes(alloc: Global, bytes: &[u8], said: &mut String) -> Resu
     write!(said, " <{pictured}>")
 }
 
+/// After Esc one more byte is read, which shows that it is a key by itself.
+const SESSIONS: &str = "
+    none : #V2␊ : ab␍ = Eof <ab␊> <#V2␊ab␊> <␍␛[J␛[m> ␛[m␛[m␛[mab␍␊␍␛[J␛[m> ␛[m␛[m␛[m␍␊> <>
+    none : #V2␊old␊ : ␛[A␍ = Eof <old␊> <> <␍␛[J␛[m> ␛[m␛[m␛[m␍␛[J␛[m> ␛[mold␛[m␛[m␍␊␍␛[J␛[m> ␛[m␛[m␛[m␍␊> <>
+    none : #V2␊ : a␃bc = Interrupted <> <> <␍␛[J␛[m> ␛[m␛[m␛[ma␍␊> <bc>
+    none : #V2␊ : a␃␛[ = Interrupted <> <> <␍␛[J␛[m> ␛[m␛[m␛[ma␍␊> <␛[>
+    none : #V2␊ : a␛bc = Interrupted <> <> <␍␛[J␛[m> ␛[m␛[m␛[ma␍␊> <bc>
+    none : #V2␊ : ‹ff›a = NotUtf8 <> <> <␍␛[J␛[m> ␛[m␛[m␛[m> <a>
+    none : ‹ff› : ab␍ = HistoryText
+    alpha,alpine : #V2␊ : al␉␃ = Interrupted <> <> <␍␛[J␛[m> ␛[m␛[m␛[mal␍␛[J␛[m> ␛[malp␛[m␛[m␍␊> <>
+    ";
+
 #[test]
 fn sessions_over_memory(rt: HostRuntime) -> Result<(), Fail> {
-    let rows =
-        "none : #V2␊ : ab␍ = Eof <ab␊> <#V2␊ab␊> <␍␛[J␛[m> ␛[m␛[m␛[mab␍␊␍␛[J␛[m> ␛[m␛[m␛[m␍␊> <>
-        none : #V2␊old␊ : ␐␍ = Eof <old␊> <> <␍␛[J␛[m> ␛[m␛[m␛[m␍␛[J␛[m> ␛[mold␛[m␛[m␍␊␍␛[J␛[m> ␛[m␛[m␛[m␍␊> <>
-        none : #V2␊ : a␃bc = Interrupted <> <> <␍␛[J␛[m> ␛[m␛[m␛[ma␍␊> <bc>
-        none : #V2␊ : a␃␛[ = Interrupted <> <> <␍␛[J␛[m> ␛[m␛[m␛[ma␍␊> <␛[>
-        none : #V2␊ : ‹ff›a = NotUtf8 <> <> <␍␛[J␛[m> ␛[m␛[m␛[m> <a>
-        none : ‹ff› : ab␍ = HistoryText
-        alpha,alpine : #V2␊ : al␉␃ = Interrupted <> <> <␍␛[J␛[m> ␛[m␛[m␛[mal␍␛[J␛[m> ␛[malp␛[m␛[m␍␊> <>";
-    rows_hold(rt.alloc(), &mut Transcribed, rows)
-}
-
-/// Keys that paste a text of so many characters and enter it.
-fn paste_of(alloc: Global, count: usize) -> Result<Vec<u8>, AllocError> {
-    let mut keys = Vec::new(alloc);
-    keys.extend_from_slice(b"\x1B[200~")?;
-    for _ in 0..count {
-        keys.push(b'x')?;
-    }
-    keys.extend_from_slice(b"\x1B[201~\r")?;
-    Ok(keys)
-}
-
-/// How many bytes of lines, history's text and keys that were not read such a session leaves.
-fn left_of_paste(alloc: Global, count: usize) -> Result<(usize, usize, usize), ReadlineError> {
-    let keys = paste_of(alloc, count)?;
-    let it = session_of(alloc, "none", b"#V2\n", &keys)?;
-    Ok((it.lines.len(), it.history.len(), it.unread.len()))
-}
-
-#[test]
-fn a_large_paste(rt: HostRuntime) -> Result<(), Fail> {
-    let left = left_of_paste(rt.alloc(), 100_000)?;
-    stands(left == (100_001, 100_005, 0), "a paste that is cut")
+    rows_hold(rt.alloc(), &mut Transcribed, SESSIONS)
 }

@@ -297,7 +297,7 @@ fn copied_with<S: Source>(
 }
 
 /// What a session leaves, copied.
-pub fn copied(
+fn copied(
     alloc: Global,
     ending: Ending,
     shown: &[u8],

@@ -34,5 +34,5 @@ returns-clause-does g c =
     ∙ ap (λ o. may_be_taken_out (setting_of s).config.partial_redraw (text_gone s.recorded.line (deletion_line o s.recorded.line)) (value_of s)) c.requires.span.value)
     c.last_of_bare-last.ensures c.in_ok-killed.ensures.writes.writes.line
     c.kill_way-way.ensures
-    (c.since-since.ensures ∙ ap (λ place. since (setting_of s) place (value_of s)) (c.place_of_kill.ensures ∙ ap (λ o. (deletion_line o s.recorded.line).place) c.requires.span.value))
+    (c.since-since.ensures ∙ ap (λ place. since (setting_of s) place (value_of s)) (c.place_of_kill-place.ensures.value ∙ ap (λ o. (deletion_line o s.recorded.line).place) c.requires.span.value))
     c.show_killed.ensures.does)
