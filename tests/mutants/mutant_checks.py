@@ -29,6 +29,9 @@ LEMMAS = "lemmas"
 SIGNATURE = re.compile(r"(?:pub )?([^\s:]+) :\s")
 BLOCK = re.compile(r"(?s)(?:module _\s.*?\bwhere|mutual)\n+(?=  \S)")
 USES = re.compile(r"(?:(?:use|open|mod|pub mod|pub use)\b.*\n(?:[ \t].*\n)*|[})].*\n|--.*\n|\n)*")
+# Imports of a source, and what it imports of a module of definitions.
+IMPORT = re.compile(r"(?m)^\s*(?:pub(?:\([^)]*\))?\s+)?(?:ghost\s+)?use\s[^;]*;")
+IMPORTED = re.compile(r"\bghost\s+use\s+([\w.]+?)\.(\{[^}]*\}|\w+)\s*;")
 UNFOLDED = re.compile(r"\bunfold(?:ing)?\b[ (]([^\n]*)")
 # Rattle writes out what is to be proved of a function that it rejects, at the cost of half the check again, unless one of the
 # function's answers can't be read. It takes the other answers as ever, so such a one ends their file.
@@ -470,15 +473,27 @@ def public_sum(top, name):
 
 
 def parts_of_code(text, found, takes=lambda _function, _before: True):
-    """A file's text without its functions, and the head of each that is to be taken, after its name. (A constant's value may come
-    from a `const fn`, so the head of such a one has its body.)"""
-    heads, frame = [], text
+    """A file's text without its functions, and the head of each that is to be taken, after its name; each with the definitions that
+    it names. (A constant's value may come from a `const fn`, so the head of such a one has its body.)"""
+    heads, frame, origins = [], text, origins_in(text)
     for it in sorted(found, key=lambda it: it.body, reverse=True):
         at, before = head(text, it)
         if takes(it, before):
-            heads.append((it.name, bare_code(text[at : it.body["const" in before.split()]])))
+            heads.append((it.name, with_origins(text[at : it.body["const" in before.split()]], origins)))
         frame = frame[:at] + frame[it.body[1] :]
-    return bare_code(frame), heads
+    return with_origins(frame, origins), heads
+
+
+def origins_in(text):
+    """Where the definitions of a file's clauses come from: the name of each, and its module."""
+    listed = [(module, names) for module, names in IMPORTED.findall(text)]
+    return sorted({(name, module) for module, names in listed for name in re.split(r",\s*", names.strip().strip("{},")) if name})
+
+
+def with_origins(text, origins):
+    """A text without comments, layout and imports, and where each definition comes from that it names."""
+    code = bare_code(IMPORT.sub("", text))
+    return code, [it for it in origins if all(part in code for part in it[0].split(" as ")[-1].split("◌"))]
 
 
 def is_public(function, before):

@@ -752,6 +752,8 @@ def what_is_noted_is_not_tried_until_what_decides_it_changes():
         ("small/src/lib.rt", "{ result \u2261 n + n }", "{ result \u2261 n + n + 0 }", False),
         ("small/src/lib.rt", "{ result \u2261 n + n + (n + n) }", "{ result \u2261 n + n + n + n }", True),
         ("small/src/lib.rt", "pub other: u16", "pub other: u32", False),
+        ("small/src/lib.rt", "Prelude.{\u25cc\u2261\u25cc, ", "Prelude.{unused, \u25cc\u2261\u25cc, ", True),
+        ("small/src/lib.rt", "std.specs.Prelude.{\u25cc\u2261\u25cc, ", "low.specs.Numbers.{\u25cc\u2261\u25cc, ", False),
         ("small/mutants/added-once.edit", "new: u16", "new: 0 + u16", False),
         ("low/src/lib.rt", "2 - 1", "1 + 0", True),
         ("low/src/lib.rt", "1 - 1", "0 + 0", False),
