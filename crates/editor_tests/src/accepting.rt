@@ -92,10 +92,8 @@ const HINTS: &str = "
     ab|: Repaint; ClearScreen = ab| / clear screen; draw '> ab|{cd}' at 0,4 to 0,6
     ab|: Repaint; Undo 1 = ab| /
 
-    tells: ring = nothing
-    ab|: Repaint; CompleteHint = abcd| / - / ab|
+    ab|: Repaint; CompleteHint; Undo 1 = ab| / draw '> ab|{cd}' at 0,4 to 0,6
 
-    tells: calls = nothing
     advised: hints:shown = nothing
     ab|: Repaint; CompleteHint = ab| / beep; draw '> ab|{cd}' at 0,4 to 0,6
     ab|: CompleteHint = ab| /

@@ -50,11 +50,10 @@ const COMPLETIONS: &str = "
 const TAKEN_BACK: &str = "
     helper: verdict:Valid hints:taken = nothing
     advised: start:0 offers:alpha,alpine = nothing
-    tells: ring = nothing
-    al|: Complete = alp| / - / al|
-    al|: SelfInsert 1 p; SelfInsert 1 h = alph| / - / al|
-    al|: Complete; SelfInsert 1 h = alph| / - / alp|
-    al|: Kill BackwardChar 1; Complete = alp| / - / a|
+    al|: Complete; Undo 1 = al| / draw '> al|' at 0,4 to 0,4
+    al|: SelfInsert 1 p; SelfInsert 1 h; Undo 1 = al| / draw '> al|' at 0,4 to 0,4
+    al|: Complete; SelfInsert 1 h; Undo 1 = alp| / draw '> alp|' at 0,5 to 0,5
+    al|: Kill BackwardChar 1; Complete; Undo 1 = a| / draw '> a|' at 0,3 to 0,3
 ";
 
 // The group that was begun for it stays open: text typed then is undone step by step.

@@ -1,23 +1,25 @@
-//! A helper and handlers that count their calls. A helper's row has the commands of a line, or
-//! after `keys: ` the keys typed into an empty one. After ` = ` it has the number of calls of the
-//! hinter, the validator, the completer and the highlighter of characters. A handlers' row has
-//! keys, and after ` = ` how often each handler was called.
+//! A helper and handlers that count their calls. A row has keys typed into an empty line. After
+//! ` = ` it has the number of calls of the hinter, the validator, the completer and the highlighter
+//! of characters, or how often each handler was called.
 
 ghost use Rattle.std.specs.Prelude.{◌≡◌, [], None, false, refl};
 ghost use Rattle.line_help.specs.Completion.{nothing_offered};
 ghost use Rattle.line_keys.specs.Replies.{gives, gives_at_once};
 
-use crate::desk::{Stage, led_over};
-use crate::lines::{run_bound, run_over};
+use crate::calls::CallList;
+use crate::desk::Stage;
 use line_buffer::{ChangeListener, LineBuffer, RepeatCount};
-use line_config::{CompletionType, HookFault, ReadlineError};
+use line_config::{CompletionType, Config, HookFault, ReadlineError};
+use line_editor::run;
 use line_help::{
     Completer, Context, Helper, HelperParts, Highlighter, Hinter, History, Mark, Part, Span,
     ValidationContext, ValidationResult, Validator, update_line,
 };
 use line_keys::{Cmd, CmdKind, Decides, Event, EventContext, EventMap};
+use line_record::KillRing;
+use stand_ins::readers::KeyList;
 use stand_ins::rows::{Player, done, raised, rows_hold};
-use stand_ins::typing::{event, typed};
+use stand_ins::typing::{Input, event, typed};
 use std::alloc::{AllocError, Global};
 use std::borrow::CowStr;
 use std::cell::Cell;
@@ -32,13 +34,18 @@ struct Counting<'c> {
     marks: &'c Cell<u32>,
 }
 
-/// How often each hook was called.
+/// How often each hook and each handler was called, and the sum of the counts that the handlers
+/// were shown.
 #[derive(Drop)]
 struct Tally {
     hints: Cell<u32>,
     verdicts: Cell<u32>,
     completions: Cell<u32>,
     marks: Cell<u32>,
+    own: Cell<u32>,
+    followed: Cell<u32>,
+    any: Cell<u32>,
+    shown: Cell<u32>,
 }
 
 impl Tally {
@@ -48,6 +55,10 @@ impl Tally {
             verdicts: Cell::new(0),
             completions: Cell::new(0),
             marks: Cell::new(0),
+            own: Cell::new(0),
+            followed: Cell::new(0),
+            any: Cell::new(0),
+            shown: Cell::new(0),
         }
     }
 
@@ -60,10 +71,50 @@ impl Tally {
         }
     }
 
-    fn told(&self, alloc: Global) -> Result<String, AllocError> {
+    /// Binds keys, or any key without keys, to a handler that counts its calls here.
+    fn bind<'c>(
+        &'c self,
+        alloc: Global,
+        bindings: &mut EventMap<Counted<'c>>,
+        keys: &str,
+        calls: &'c Cell<u32>,
+    ) -> Result<(), ReadlineError> {
+        let event = event(alloc, keys)?;
+        let handler = Counted {
+            answers: !keys.is_empty(),
+            calls,
+            shown: &self.shown,
+        };
+        done(bindings.bind_sequence(event, handler))
+    }
+
+    /// Binds Ctrl-O, F2 and then `a`, and any key.
+    fn bind_all<'c>(
+        &'c self,
+        alloc: Global,
+        bindings: &mut EventMap<Counted<'c>>,
+    ) -> Result<(), ReadlineError> {
+        self.bind(alloc, bindings, "C-O", &self.own)?;
+        self.bind(alloc, bindings, "F2 a", &self.followed)?;
+        self.bind(alloc, bindings, "", &self.any)
+    }
+
+    fn hooks_told(&self, alloc: Global) -> Result<String, AllocError> {
         let (hints, verdicts) = (self.hints.get(), self.verdicts.get());
         let (completions, marks) = (self.completions.get(), self.marks.get());
         format!(in alloc; "{hints} {verdicts} {completions} {marks}")
+    }
+
+    fn handlers_told(&self, alloc: Global) -> Result<String, AllocError> {
+        let (own, followed, any) = (self.own.get(), self.followed.get(), self.any.get());
+        format!(in alloc; "{own} {followed} {any}, {}", self.shown.get())
+    }
+
+    fn told(&self, alloc: Global, counts: Counts) -> Result<String, AllocError> {
+        match counts {
+            Counts::Handlers => self.handlers_told(alloc),
+            _ => self.hooks_told(alloc),
+        }
     }
 }
 
@@ -202,123 +253,6 @@ impl Helper for Counting<'_> {
     ghost same_verdicts = { λ before after kept. refl };
 }
 
-/// Lines edited with a helper that counts.
-#[derive(Drop)]
-struct Counter {
-    stage: Stage,
-    /// Whether the helper is one of four parts.
-    in_parts: bool,
-}
-
-impl Counter {
-    // Types a row's keys, or makes its commands.
-    fn led<H: Helper + Drop>(&self, alloc: Global, helper: H, row: &str) -> Result<String, Fail> {
-        let Some((shown, rest)) = row.split_once(": ") else {
-            return Err(Fail::new(format_args!("no row: {row}")));
-        };
-        if shown == "keys" {
-            let keys = typed(alloc, rest)?;
-            run_over(alloc, &self.stage, Some(helper), &keys)
-        } else {
-            led_over(alloc, &self.stage, Some(helper), shown, rest)
-        }
-    }
-
-    // The same with a helper that has this one for each of its parts.
-    fn led_by_parts<H: Helper + Copy + Drop>(
-        &self,
-        alloc: Global,
-        part: H,
-        row: &str,
-    ) -> Result<String, Fail> {
-        let parts = HelperParts {
-            completer: part,
-            hinter: part,
-            highlighter: part,
-            validator: part,
-        };
-        self.led(alloc, parts, row)
-    }
-
-    fn counted(&self, alloc: Global, helper: Counting<'_>, row: &str) -> Result<String, Fail> {
-        if self.in_parts {
-            self.led_by_parts(alloc, helper, row)
-        } else {
-            self.led(alloc, helper, row)
-        }
-    }
-}
-
-impl Player for Counter {
-    fn play(&mut self, alloc: Global, row: &str) -> Result<String, Fail> {
-        if self.stage.sets(alloc, row)? {
-            return Ok(String::new(alloc));
-        }
-        let tally = Tally::new();
-        match self.counted(alloc, tally.helper(), row) {
-            Ok(_) => raised(tally.told(alloc)),
-            Err(why) => Err(why),
-        }
-    }
-}
-
-// A move calls none, but with colours the highlighter; a redrawn line calls the hinter once for
-// each drawing, and an accepted one only the validator.
-const COUNTS: &str = "
-    history: line0,line1 = nothing
-    a|b: Move BackwardChar 1 = 0 0 0 0
-    a|b: Move BeginningOfLine = 0 0 0 0
-    ab|: Move ForwardChar 1 = 0 0 0 0
-    ab␊c|: LineUpOrPreviousHistory 1 = 0 0 0 0
-    ab|: SelfInsert 1 c = 1 0 0 0
-    a|b: SelfInsert 2 c = 1 0 0 0
-    ab|: Kill BackwardChar 1 = 1 0 0 0
-    ab|: Kill ForwardChar 1 = 0 0 0 0
-    a|b: Replace ForwardChar 1 with x = 2 0 0 0
-    ab|: Repaint = 1 0 0 0
-    ab|: ClearScreen = 1 0 0 0
-    ab|: PreviousHistory = 1 0 0 0
-    ab|: SelfInsert 1 c; Undo 1 = 2 0 0 0
-    ab|: HistorySearchBackward = 0 0 0 0
-    ab|: Complete = 0 0 1 0
-    ab|: Interrupt = 0 0 0 0
-    ab|: AcceptLine = 0 1 0 0
-    ab|: AcceptOrInsertLine = 0 1 0 0
-    ab|: Newline = 1 0 0 0
-    ab|: EndOfFile = 0 0 0 0
-
-    keys: C-D = 1 0 0 0
-    keys: Enter = 1 1 0 0
-    keys: a b Left Right Enter = 3 1 0 0
-    keys: a A-2 x Enter = 5 1 0 0
-    keys: a Tab C-G Enter = 2 1 1 0
-    keys: Up Down Enter = 3 1 0 0
-
-    colours: yes = nothing
-    a|b: Move BackwardChar 1 = 0 0 0 1
-    ab|: SelfInsert 1 c = 1 0 0 1
-    ab|: Repaint = 1 0 0 1
-    ab|: Complete = 0 0 1 0
-    ab|: AcceptLine = 0 1 0 1
-    keys: Enter = 1 1 0 2
-    keys: a Left Enter = 2 1 0 5
-";
-
-fn hooks_are_counted(alloc: Global, in_parts: bool) -> Result<(), Fail> {
-    let stage = Stage::new(alloc)?;
-    rows_hold(alloc, &mut Counter { stage, in_parts }, COUNTS)
-}
-
-#[test]
-fn each_hook_is_asked_once(rt: HostRuntime) -> Result<(), Fail> {
-    hooks_are_counted(rt.alloc(), false)
-}
-
-#[test]
-fn each_part_is_asked_once(rt: HostRuntime) -> Result<(), Fail> {
-    hooks_are_counted(rt.alloc(), true)
-}
-
 /// A handler that does nothing, or has no answer. It counts its calls, and adds up the counts that
 /// it is shown.
 #[derive(Drop)]
@@ -349,98 +283,149 @@ impl Decides for Counted<'_> {
     }
 }
 
-/// Lines typed with handlers that count: of Ctrl-O, of F2 and then `a`, and of any key.
+/// Whose calls a table has: those of a helper, of one that has this helper for each of its parts,
+/// or of handlers.
+#[derive(Clone, Copy)]
+enum Counts {
+    Hooks,
+    Parts,
+    Handlers,
+}
+
+/// Lines typed with a helper and handlers that count.
 #[derive(Drop)]
-struct Handled {
+struct Counter {
     stage: Stage,
+    counts: Counts,
 }
 
-/// How often each handler was called, and the sum of the counts that they were shown.
-#[derive(Drop)]
-struct Calls {
-    own: Cell<u32>,
-    followed: Cell<u32>,
-    any: Cell<u32>,
-    shown: Cell<u32>,
+// A line from its first drawing to its end.
+fn run_with<H: Helper + Drop, D: Decides>(
+    alloc: Global,
+    stage: &Stage,
+    helper: H,
+    bindings: &EventMap<D>,
+    ring: &mut KillRing,
+    keys: &Input,
+) {
+    let config = Config::builder().edit_mode(stage.mode).build();
+    let mut reader = KeyList::new(&keys.typed, false, keys.after);
+    let mut query = String::new(alloc);
+    run(
+        alloc,
+        &mut reader,
+        CallList::new(alloc, stage.columns, stage.colours, stage.tab),
+        "> ",
+        Some(helper),
+        &stage.history,
+        &config,
+        bindings,
+        ring,
+        &mut query,
+    );
 }
 
-impl Calls {
-    fn new() -> Self {
-        Calls {
-            own: Cell::new(0),
-            followed: Cell::new(0),
-            any: Cell::new(0),
-            shown: Cell::new(0),
+// The same with a helper that has this one for each of its parts.
+fn run_with_parts<H: Helper + Copy + Drop, D: Decides>(
+    alloc: Global,
+    stage: &Stage,
+    part: H,
+    bindings: &EventMap<D>,
+    ring: &mut KillRing,
+    keys: &Input,
+) {
+    let parts = HelperParts {
+        completer: part,
+        hinter: part,
+        highlighter: part,
+        validator: part,
+    };
+    run_with(alloc, stage, parts, bindings, ring, keys);
+}
+
+impl Counter {
+    fn run_over<D: Decides>(
+        &self,
+        alloc: Global,
+        helper: Counting<'_>,
+        bindings: &EventMap<D>,
+        ring: &mut KillRing,
+        keys: &Input,
+    ) {
+        match self.counts {
+            Counts::Parts => run_with_parts(alloc, &self.stage, helper, bindings, ring, keys),
+            _ => run_with(alloc, &self.stage, helper, bindings, ring, keys),
         }
     }
 
-    /// Binds keys, or any key without keys, to a handler that counts its calls here.
-    fn bind<'c>(
-        &'c self,
-        alloc: Global,
-        bindings: &mut EventMap<Counted<'c>>,
-        keys: &str,
-        calls: &'c Cell<u32>,
-    ) -> Result<(), ReadlineError> {
-        let event = event(alloc, keys)?;
-        let handler = Counted {
-            answers: !keys.is_empty(),
-            calls,
-            shown: &self.shown,
-        };
-        done(bindings.bind_sequence(event, handler))
-    }
-
-    fn bind_all<'c>(
-        &'c self,
-        alloc: Global,
-        bindings: &mut EventMap<Counted<'c>>,
-    ) -> Result<(), ReadlineError> {
-        self.bind(alloc, bindings, "C-O", &self.own)?;
-        self.bind(alloc, bindings, "F2 a", &self.followed)?;
-        self.bind(alloc, bindings, "", &self.any)
-    }
-
-    fn told(&self, alloc: Global) -> Result<String, AllocError> {
-        let (own, followed, any) = (self.own.get(), self.followed.get(), self.any.get());
-        format!(in alloc; "{own} {followed} {any}, {}", self.shown.get())
-    }
-}
-
-impl Handled {
     fn typed_at<'c>(
         &self,
         alloc: Global,
         bindings: &mut EventMap<Counted<'c>>,
-        calls: &'c Calls,
+        tally: &'c Tally,
         row: &str,
-    ) -> Result<String, Fail> {
-        calls.bind_all(alloc, bindings)?;
+    ) -> Result<(), Fail> {
+        tally.bind_all(alloc, bindings)?;
         let keys = typed(alloc, row)?;
-        run_bound(alloc, &self.stage, bindings, &keys)
+        let mut ring = KillRing::new(alloc, 60)?;
+        self.run_over(alloc, tally.helper(), bindings, &mut ring, &keys);
+        Ok(())
     }
 
-    /// The result of a row's keys, whose handlers count here.
-    fn types(&self, alloc: Global, calls: &Calls, row: &str) -> Result<String, Fail> {
+    /// Types a row's keys, whose hooks and handlers count here.
+    fn types(&self, alloc: Global, tally: &Tally, row: &str) -> Result<(), Fail> {
         match &mut EventMap::new(alloc) {
-            Ok(bindings) => self.typed_at(alloc, bindings, calls, row),
+            Ok(bindings) => self.typed_at(alloc, bindings, tally, row),
             Err(why) => Err(Fail::from(*why)),
         }
     }
 }
 
-impl Player for Handled {
+impl Player for Counter {
     fn play(&mut self, alloc: Global, row: &str) -> Result<String, Fail> {
         if self.stage.sets(alloc, row)? {
             return Ok(String::new(alloc));
         }
-        let calls = Calls::new();
-        match self.types(alloc, &calls, row) {
-            Ok(_) => raised(calls.told(alloc)),
+        let tally = Tally::new();
+        match self.types(alloc, &tally, row) {
+            Ok(()) => raised(tally.told(alloc, self.counts)),
             Err(why) => Err(why),
         }
     }
 }
+
+// A move calls none, but with colours the highlighter; a redrawn line calls the hinter once for
+// each drawing, and an accepted one only the validator. The first drawing is one.
+const HOOKS: &str = "
+    history: line0,line1 = nothing
+    C-D = 1 0 0 0
+    a b = 3 0 0 0
+    a b Left C-A Right C-E Right = 3 0 0 0
+    PasteStart text:ab␊c Up = 2 0 0 0
+    a b Left x = 4 0 0 0
+    a b Backspace = 4 0 0 0
+    a b C-K = 3 0 0 0
+    a b C-L = 4 0 0 0
+    a b C-P = 4 0 0 0
+    a b C-_ = 4 0 0 0
+    a b Tab = 3 0 1 0
+    a b C-C = 3 0 0 0
+    a b C-D = 3 0 0 0
+
+    Enter = 1 1 0 0
+    a b Left Right Enter = 3 1 0 0
+    a A-2 x Enter = 5 1 0 0
+    a Tab C-G Enter = 2 1 1 0
+    Up Down Enter = 3 1 0 0
+
+    colours: yes = nothing
+    a b = 3 0 0 3
+    a b Left = 3 0 0 4
+    a b C-L = 4 0 0 4
+    a b Tab = 3 0 1 3
+    Enter = 1 1 0 2
+    a Left Enter = 2 1 0 5
+";
 
 // The calls of each handler, and the sum of the counts that they are shown. The first key of the
 // sequence is shown to the handler of any key too.
@@ -458,8 +443,18 @@ const HANDLED: &str = "
     a Esc 2 C-O = 1 0 2, 2
 ";
 
+fn are_counted(alloc: Global, counts: Counts, table: &str) -> Result<(), Fail> {
+    let stage = Stage::new(alloc)?;
+    rows_hold(alloc, &mut Counter { stage, counts }, table)
+}
+
+#[test]
+fn each_hook_is_asked_once(rt: HostRuntime) -> Result<(), Fail> {
+    are_counted(rt.alloc(), Counts::Hooks, HOOKS)?;
+    are_counted(rt.alloc(), Counts::Parts, HOOKS)
+}
+
 #[test]
 fn each_handler_is_asked_once(rt: HostRuntime) -> Result<(), Fail> {
-    let stage = Stage::new(rt.alloc())?;
-    rows_hold(rt.alloc(), &mut Handled { stage }, HANDLED)
+    are_counted(rt.alloc(), Counts::Handlers, HANDLED)
 }

@@ -4,11 +4,8 @@
 //! A row that begins with one of these words is a setting for the rows after it, and has no result.
 //! For the display: `columns: 10` sets its columns, `colours: yes` whether it has colours,
 //! `tabs: 8` how many columns apart tab stops are, `answered: 3` how many calls succeed.
-//! `history: one,two` sets the entries, `mode: Vi` the keymap, `modal: yes` that those commands act
-//! that go on over several keys. `completion: List` has several candidates listed, `at-once: yes`
-//! by the first Tab that adds nothing, `limit: 3` at most so many. `partial: yes` has lines drawn
-//! in part, where that can be. `first:` sets the commands before those of each row, `tells: ring`
-//! what a row's result is.
+//! `history: one,two` sets the entries, `mode: Vi` the keymap. `partial: yes` has lines drawn in
+//! part, where that can be. `first:` sets the commands before those of each row.
 //!
 //! `helper:` sets a helper with an adviser's words (`session_rows::words::advice`), and `advised:`
 //! puts words before those that it has.
@@ -18,20 +15,20 @@ use crate::{
     accepting, completing, faults, inserting, killing, moving, remembering, rewording, yanking,
 };
 use line_buffer::{LineBuffer, Unit};
-use line_config::{CompletionType, Config, EditMode, ReadlineError};
+use line_config::{Config, EditMode, ReadlineError};
 use line_editor::commands::{Status, execute};
 use line_editor::{RefreshKind, State};
 use line_help::{Context, Helper, History, MemHistory};
-use line_keys::{Bindings, Cmd, CmdKind, Decides, EventHandler, InputState};
+use line_keys::{Bindings, Cmd, CmdKind, InputState};
 use line_record::{Changeset, KillRing};
 use session_rows::words::advice::{Adviser, Texts, texts_of};
-use stand_ins::rows::{Player, Starts, done, raised, tables_hold, trimmed};
-use stand_ins::tables::{marked, meant, named, pictured, word_and_rest};
-use stand_ins::typing::{bind, command_of};
+use stand_ins::rows::{Player, Starts, raised, tables_hold, trimmed};
+use stand_ins::tables::{marked, meant, word_and_rest};
+use stand_ins::typing::command_of;
 use std::alloc::{AllocError, Global};
 use std::test::Fail;
 
-/// The settings of a table's lines, and what their results are.
+/// The settings of a table's lines.
 #[derive(Drop)]
 pub(crate) struct Stage {
     pub columns: Unit,
@@ -42,22 +39,14 @@ pub(crate) struct Stage {
     /// The words of the helper; none without one.
     advice: String,
     /// How many calls of the renderer succeed for the last command; `None` for all.
-    pub answered: Option<u32>,
+    answered: Option<u32>,
     pub mode: EditMode,
-    /// Whether the commands act that go on over several keys.
-    pub modal: bool,
-    /// What becomes of several candidates.
-    pub completion: CompletionType,
-    /// Whether they are listed by the first Tab that adds nothing, and at most how many.
-    pub at_once: bool,
-    pub limit: usize,
     /// The commands that come before each row's own, with `; ` after each.
     first: String,
-    pub bindings: Bindings,
+    /// None: a row has commands, and no keys.
+    bindings: Bindings,
     /// The settings of a line.
     config: Config,
-    /// Whether the result is the ring, and not the calls.
-    pub tells_ring: bool,
 }
 
 impl Stage {
@@ -72,24 +61,19 @@ impl Stage {
             advice: String::new(alloc),
             answered: None,
             mode: EditMode::Emacs,
-            modal: false,
-            completion: CompletionType::Circular,
-            at_once: false,
-            limit: 100,
             first: String::new(alloc),
             bindings,
             config: Config::builder().build(),
-            tells_ring: false,
         })
     }
 
-    /// The helper's texts.
-    pub(crate) fn texts(&self, alloc: Global) -> Result<Texts, AllocError> {
+    // The helper's texts.
+    fn texts(&self, alloc: Global) -> Result<Texts, AllocError> {
         texts_of(alloc, self.advice.as_str())
     }
 
-    /// The helper, whose texts these are.
-    pub(crate) fn helper<'t>(&self, texts: &'t Texts) -> Option<Adviser<'t>> {
+    // The helper, whose texts these are.
+    fn helper<'t>(&self, texts: &'t Texts) -> Option<Adviser<'t>> {
         if self.advice.is_empty() {
             return None;
         }
@@ -101,7 +85,6 @@ impl Stage {
         let (word, rest) = word_and_rest(row);
         match word {
             "advised:" => self.advice = format!(in alloc; "{rest} {}", self.advice)?,
-            "bind:" => self.bindings = bound(alloc, rest)?,
             "first:" => self.first = format!(in alloc; "{rest}; ")?,
             "helper:" => self.advice = String::from_str(alloc, rest)?,
             "history:" => self.history = history_of(alloc, rest)?,
@@ -116,24 +99,10 @@ impl Stage {
             "colours:" => self.colours = rest == "yes",
             "columns:" => self.columns = rest.parse().unwrap_or(80),
             "tabs:" => self.tab = rest.parse().ok(),
-            "modal:" => self.modal = rest == "yes",
             "partial:" => {
                 self.config = Config::builder().partial_redraw(rest == "yes").build();
             }
             "mode:" if rest == "Vi" => self.mode = EditMode::Vi,
-            "tells:" => self.tells_ring = rest == "ring",
-            _ => return self.sets_several(word, rest),
-        }
-        true
-    }
-
-    // What becomes of several candidates.
-    fn sets_several(&mut self, word: &str, rest: &str) -> bool {
-        match word {
-            "at-once:" => self.at_once = rest == "yes",
-            "completion:" if rest == "List" => self.completion = CompletionType::List,
-            "completion:" => self.completion = CompletionType::Circular,
-            "limit:" => self.limit = rest.parse().unwrap_or(usize::MAX),
             _ => return false,
         }
         true
@@ -142,7 +111,7 @@ impl Stage {
 
 /// A line over a renderer that logs its calls. Functions that edit it don't name the helper's type:
 /// with a named one the borrow checker finds no unique type for its hints.
-pub(crate) type Desk<'h, H> = State<'h, 'h, CallList, H, MemHistory>;
+type Desk<'h, H> = State<'h, 'h, CallList, H, MemHistory>;
 
 // A history with these entries, oldest first, separated by commas.
 fn history_of(alloc: Global, entries: &str) -> Result<MemHistory, ReadlineError> {
@@ -152,25 +121,6 @@ fn history_of(alloc: Global, entries: &str) -> Result<MemHistory, ReadlineError>
         let _ = history.add(alloc, text.as_str())?;
     }
     Ok(history)
-}
-
-// Binds a key to a command.
-fn bind_named(
-    alloc: Global,
-    bindings: &mut Bindings,
-    name: &str,
-    words: &str,
-) -> Result<(), ReadlineError> {
-    let handler = EventHandler::Simple(command_of(alloc, words)?);
-    done(bind(alloc, bindings, name, handler))
-}
-
-// The bindings of a row `C-O: HistorySearchBackward`.
-fn bound(alloc: Global, row: &str) -> Result<Bindings, ReadlineError> {
-    let (name, words) = row.split_once(": ").unwrap_or((row, ""));
-    let mut bindings = Bindings::new(alloc)?;
-    bind_named(alloc, &mut bindings, name, words)?;
-    Ok(bindings)
 }
 
 // Inserts a text after the cursor.
@@ -201,8 +151,8 @@ fn set_line<H: Helper + Drop>(
     shown: &str,
 ) -> Result<(), ReadlineError> {
     let (before, after) = shown.split_once('|').unwrap_or((shown, ""));
-    let changes = Changeset::new(alloc)?;
     put_around(alloc, desk, before, after)?;
+    let changes = Changeset::new(alloc)?;
     let recorded = &mut desk.recorded;
     recorded.changes = changes;
     desk.repaint(RefreshKind::All)
@@ -224,10 +174,10 @@ fn empty_desk<'h, H: Helper + Drop>(
     )
 }
 
-/// Runs a command, like a turn of a line does.
-pub(crate) fn make<H: Helper + Drop, D: Decides>(
+// Runs a command, like a turn of a line does.
+fn make<H: Helper + Drop>(
     desk: &mut Desk<'_, H>,
-    input: &InputState<'_, D>,
+    input: &InputState<'_>,
     ring: &mut KillRing,
     cmd: Cmd,
 ) -> Result<Status, ReadlineError> {
@@ -237,10 +187,7 @@ pub(crate) fn make<H: Helper + Drop, D: Decides>(
     execute(cmd, desk, input, ring)
 }
 
-pub(crate) fn status_of(
-    alloc: Global,
-    answer: Result<Status, ReadlineError>,
-) -> Result<String, Fail> {
+fn status_of(alloc: Global, answer: Result<Status, ReadlineError>) -> Result<String, Fail> {
     match answer {
         Ok(Status::Proceed) => Ok(String::new(alloc)),
         Ok(Status::Submit) => raised(String::from_str(alloc, "Submit ")),
@@ -248,20 +195,12 @@ pub(crate) fn status_of(
     }
 }
 
-/// A line in a table's notation: a blank at its start as its picture.
-pub(crate) fn line_shown(alloc: Global, line: &LineBuffer) -> Result<String, AllocError> {
+// A line in a table's notation: a blank at its start as its picture.
+fn line_shown(alloc: Global, line: &LineBuffer) -> Result<String, AllocError> {
     let shown = marked(alloc, line.as_str(), line.pos())?;
     match shown.as_str().strip_prefix(' ') {
         Some(rest) => format!(in alloc; "␠{rest}"),
         None => Ok(shown),
-    }
-}
-
-/// The text that a yank would return, in quotes, or `-`.
-pub(crate) fn lent_by(alloc: Global, ring: &mut KillRing) -> Result<String, AllocError> {
-    match ring.yank() {
-        Some(text) => format!(in alloc; "'{}'", pictured(alloc, text)?),
-        None => String::from_str(alloc, "-"),
     }
 }
 
@@ -297,22 +236,6 @@ fn make_all<H: Helper + Drop>(
     Ok(status)
 }
 
-// The result of a row's commands.
-fn told<H: Helper + Drop>(
-    alloc: Global,
-    stage: &Stage,
-    desk: &mut Desk<'_, H>,
-    input: &InputState<'_>,
-    ring: &mut KillRing,
-    status: &str,
-) -> Result<String, Fail> {
-    if stage.tells_ring {
-        return ring_told(alloc, desk, input, ring);
-    }
-    let (recorded, out) = (&desk.recorded, &desk.out);
-    raised(calls_told(alloc, &recorded.line, out.calls(), status))
-}
-
 // How the last command ended, the line, and the calls.
 fn calls_told(
     alloc: Global,
@@ -324,147 +247,63 @@ fn calls_told(
     format!(in alloc; "{status}{line} / {calls}")
 }
 
-// The line, and the text that a yank would return.
-fn kept_told(alloc: Global, line: &LineBuffer, ring: &mut KillRing) -> Result<String, AllocError> {
-    let line = line_shown(alloc, line)?;
-    let lent = lent_by(alloc, ring)?;
-    format!(in alloc; "{line} / {lent}")
-}
-
-// The line after one undo.
-fn undone<H: Helper + Drop>(
+// Runs the commands of a row; their result.
+fn made_and_told<H: Helper + Drop>(
     alloc: Global,
+    stage: &Stage,
     desk: &mut Desk<'_, H>,
     input: &InputState<'_>,
     ring: &mut KillRing,
-) -> Result<String, AllocError> {
-    let out = &mut desk.out;
-    out.log.answer(None);
-    let _ = make(desk, input, ring, Cmd::Undo(1));
-    line_shown(alloc, &desk.recorded.line)
-}
-
-// The line, the text that a yank would return, and the line after one undo.
-fn ring_told<H: Helper + Drop>(
-    alloc: Global,
-    desk: &mut Desk<'_, H>,
-    input: &InputState<'_>,
-    ring: &mut KillRing,
+    commands: &str,
 ) -> Result<String, Fail> {
-    let kept = kept_told(alloc, &desk.recorded.line, ring)?;
-    let undone = undone(alloc, desk, input, ring)?;
-    raised(format!(in alloc; "{kept} / {undone}"))
+    let status = make_all(alloc, desk, input, ring, stage.answered, commands)?;
+    let (recorded, out) = (&desk.recorded, &desk.out);
+    raised(calls_told(alloc, &recorded.line, out.calls(), status.as_str()))
 }
 
-/// Work done on a desk.
-pub(crate) trait Work {
-    /// The state before the helper is added.
-    fn begin<H: Helper + Drop>(
-        &self,
-        alloc: Global,
-        desk: &mut Desk<'_, H>,
-    ) -> Result<(), ReadlineError>;
-
-    /// Its result.
-    fn done<H: Helper + Drop>(
-        &self,
-        alloc: Global,
-        stage: &Stage,
-        desk: &mut Desk<'_, H>,
-        input: &mut InputState<'_>,
-        ring: &mut KillRing,
-    ) -> Result<String, Fail>;
-}
-
-/// The commands of a row, and its line.
-#[derive(Drop)]
-struct Commands<'r> {
-    shown: &'r str,
-    commands: &'r str,
-}
-
-impl Work for Commands<'_> {
-    fn begin<H: Helper + Drop>(
-        &self,
-        alloc: Global,
-        desk: &mut Desk<'_, H>,
-    ) -> Result<(), ReadlineError> {
-        set_line(alloc, desk, self.shown)
-    }
-
-    fn done<H: Helper + Drop>(
-        &self,
-        alloc: Global,
-        stage: &Stage,
-        desk: &mut Desk<'_, H>,
-        input: &mut InputState<'_>,
-        ring: &mut KillRing,
-    ) -> Result<String, Fail> {
-        let status = make_all(alloc, desk, input, ring, stage.answered, self.commands)?;
-        told(alloc, stage, desk, input, ring, status.as_str())
-    }
-}
-
-fn done_with<H: Helper + Drop, W: Work>(
+fn led_with<H: Helper + Drop>(
     alloc: Global,
     stage: &Stage,
     desk: &mut Desk<'_, H>,
     ring: &mut KillRing,
-    work: &W,
+    commands: &str,
 ) -> Result<String, Fail> {
     let config = Config::builder().edit_mode(stage.mode).build();
-    match &mut InputState::new(alloc, &config, &stage.bindings) {
-        Ok(input) => work.done(alloc, stage, desk, input, ring),
+    match &InputState::new(alloc, &config, &stage.bindings) {
+        Ok(input) => made_and_told(alloc, stage, desk, input, ring, commands),
         Err(why) => Err(Fail::from(*why)),
     }
 }
 
-fn done_on<H: Helper + Drop, W: Work>(
-    alloc: Global,
-    stage: &Stage,
-    desk: &mut Desk<'_, H>,
-    work: &W,
-) -> Result<String, Fail> {
-    match &mut KillRing::new(alloc, 60) {
-        Ok(ring) => done_with(alloc, stage, desk, ring, work),
-        Err(why) => Err(Fail::from(*why)),
-    }
-}
-
-fn done_from<H: Helper + Drop, W: Work>(
+// Sets the line, and then the helper.
+fn led_on<H: Helper + Drop>(
     alloc: Global,
     stage: &Stage,
     desk: &mut Desk<'_, H>,
     helper: Option<H>,
-    work: &W,
+    shown: &str,
+    commands: &str,
 ) -> Result<String, Fail> {
-    work.begin(alloc, desk)?;
+    set_line(alloc, desk, shown)?;
     desk.helper = helper;
-    done_on(alloc, stage, desk, work)
-}
-
-/// Does work over a helper.
-pub(crate) fn done_over<H: Helper + Drop, W: Work>(
-    alloc: Global,
-    stage: &Stage,
-    helper: Option<H>,
-    work: &W,
-) -> Result<String, Fail> {
-    match &mut empty_desk(alloc, stage) {
-        Ok(desk) => done_from(alloc, stage, desk, helper, work),
+    match &mut KillRing::new(alloc, 60) {
+        Ok(ring) => led_with(alloc, stage, desk, ring, commands),
         Err(why) => Err(Fail::from(*why)),
     }
 }
 
-/// Runs the commands of a row, over a helper.
-pub(crate) fn led_over<H: Helper + Drop>(
+// Runs the commands of a row, over a helper.
+fn led_over<H: Helper + Drop>(
     alloc: Global,
     stage: &Stage,
     helper: Option<H>,
     shown: &str,
     commands: &str,
 ) -> Result<String, Fail> {
-    done_over(alloc, stage, helper, &Commands { shown, commands })
+    match &mut empty_desk(alloc, stage) {
+        Ok(desk) => led_on(alloc, stage, desk, helper, shown, commands),
+        Err(why) => Err(Fail::from(*why)),
+    }
 }
 
 impl Stage {
@@ -492,8 +331,7 @@ impl Player for Stage {
 }
 
 /// Each row has, after ` = `, how the last command ends unless the line continues, the line then,
-/// and after ` / ` the calls of that command. If results are the ring, it has the line then, the
-/// text that a yank would return, in quotes or `-`, and the line after one undo.
+/// and after ` / ` the calls of that command.
 impl Starts for Stage {
     fn start(alloc: Global) -> Result<Self, Fail> {
         raised(Stage::new(alloc))

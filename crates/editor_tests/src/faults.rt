@@ -29,12 +29,11 @@ const FAILING_DISPLAYS: &str = "
     ab|: AcceptLine = Submit ab| /
     |ab: Move BackwardChar 1 = |ab /
 
-    tells: ring = nothing
-    a|b: SelfInsert 1 c = ac|b / - / a|b
-    abc|: Kill WholeLine = | / 'abc' / abc|
-    ab|: PreviousHistory = line1| / - / ab|
+    a|b: SelfInsert 1 c; Undo 1 = Display a|b /
+    abc|: Kill WholeLine; Undo 1 = Display abc| /
+    abc|: Kill WholeLine; Yank 1 Before = Display abc| /
+    ab|: PreviousHistory; Undo 1 = Display ab| /
 
-    tells: calls = nothing
     answered: 1 = nothing
     abc|: Kill BackwardChar 1 = Display ab| / move 0,5 to 0,4
     ab|c: Replace ForwardChar 1 with xy = Display ab| / move 0,4 to 0,4
@@ -80,11 +79,10 @@ const FAILING_HELPERS: &str = "
     abc|: Newline = abc␊| / draw '> abc␊|' at 1,0 to 1,0
     abc|: EndOfFile = abc| /
 
-    tells: ring = nothing
-    abc|: AcceptLine = abc| / - / abc|
-    abc|: AcceptLine; SelfInsert 1 +; SelfInsert 1 - = abc+-| / - / abc+|
-    abc|: AcceptLine; SelfInsert 1 +; SelfInsert 1 -; TransposeChars = abc-+| / - / abc|
-    ab|: AcceptLine; SelfInsert 1 +; TransposeChars = a+b| / - / ab+|
+    abc|: AcceptLine; Undo 1 = abc| /
+    abc|: AcceptLine; SelfInsert 1 +; SelfInsert 1 -; Undo 1 = abc+| / draw '> abc+|' at 0,6 to 0,6
+    abc|: AcceptLine; SelfInsert 1 +; SelfInsert 1 -; TransposeChars; Undo 1 = abc| / draw '> abc|' at 0,5 to 0,5
+    ab|: AcceptLine; SelfInsert 1 +; TransposeChars; Undo 1 = ab+| / draw '> ab+|' at 0,5 to 0,5
 ";
 
 pub(crate) const TABLES: [&str; 2] = [FAILING_DISPLAYS, FAILING_HELPERS];

@@ -5,11 +5,7 @@
 #[cfg(test)]
 mod accepting;
 #[cfg(test)]
-mod asking;
-#[cfg(test)]
 mod calls;
-#[cfg(test)]
-mod candidates;
 #[cfg(test)]
 mod completing;
 #[cfg(test)]
@@ -25,8 +21,6 @@ mod killing;
 #[cfg(test)]
 mod library;
 #[cfg(test)]
-mod lines;
-#[cfg(test)]
 mod moving;
 #[cfg(test)]
 mod remembering;
@@ -34,7 +28,5 @@ mod remembering;
 mod rewording;
 #[cfg(test)]
 mod screen;
-#[cfg(test)]
-mod searching;
 #[cfg(test)]
 mod yanking;

@@ -29,12 +29,11 @@ const STEPS: &str = "
     abc␊wxyz|: LineDownOrNextHistory 1 = abc␊wxyz| /
     ab␊cd|: LineUpOrPreviousHistory 0 = line1| / draw '> line1|' at 0,7 to 0,7 below 1
 
-    tells: ring = nothing
-    cur|: PreviousHistory = line1| / - / cur|
-    cu|r: PreviousHistory = line1| / - / cur|
-    cu|r: PreviousHistory; PreviousHistory = line0| / - / line1|
-    cu|r: PreviousHistory; NextHistory = cu|r / - / |
-    cu|r: BeginningOfHistory = line0| / - / cur|
+    cur|: PreviousHistory; Undo 1 = cur| / draw '> cur|' at 0,5 to 0,5
+    cu|r: PreviousHistory; Undo 1 = cur| / draw '> cur|' at 0,5 to 0,5
+    cu|r: PreviousHistory; PreviousHistory; Undo 1 = line1| / draw '> line1|' at 0,7 to 0,7
+    cu|r: PreviousHistory; NextHistory; Undo 1 = | / draw '> |' at 0,2 to 0,2
+    cu|r: BeginningOfHistory; Undo 1 = cur| / draw '> cur|' at 0,5 to 0,5
 ";
 
 // A search that finds nothing still moves the place, and no search saves the line; at the history's
@@ -65,9 +64,8 @@ const SEARCHES: &str = "
     li|: HistorySearchBackward; HistorySearchForward; HistorySearchForward; PreviousHistory = xy| / draw '> xy|' at 0,4 to 0,4
     li|: HistorySearchBackward; HistorySearchForward; HistorySearchForward; PreviousHistory; NextHistory = li|ne1 / draw '> li|ne1' at 0,4 to 0,7
 
-    tells: ring = nothing
-    li|: HistorySearchBackward = li|ne1 / - / li|
-    lix|: HistorySearchBackward = lix| / - / lix|
+    li|: HistorySearchBackward; Undo 1 = li| / draw '> li|' at 0,4 to 0,4
+    lix|: HistorySearchBackward; Undo 1 = lix| /
 ";
 
 pub(crate) const TABLES: [&str; 2] = [STEPS, SEARCHES];

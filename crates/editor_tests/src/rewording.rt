@@ -44,15 +44,14 @@ const CHANGES: &str = "
     a|bc: Kill EndOfLine; Undo 1 = abc| / draw '> abc|' at 0,5 to 0,5
     ab␊|cd: Kill BeginningOfLine; Undo 1 = ab␊|cd / draw '> ab␊|cd' at 1,0 to 1,2
 
-    tells: ring = nothing
-    abc|: TransposeChars = acb| / - / abc|
-    ab c|: TransposeWords 1 = c ab| / - / ab c|
-    |w: TransposeWords 1 = w| / - / w|
-    |one two: CapitalizeWord = One| two / - / one| two
-    ab|: Indent WholeLine = ␠ ab| / - / |ab
-    a|b␊cd: Indent LineDown 1 = ␠ a|b␊  cd / - / ␠ ab␊|cd
-    ␠ ab|: Dedent WholeLine = ab| / - / ␠ |ab
-    |: SelfInsert 1 a; SelfInsert 1 +; Undo 1 = a| / - / |
+    abc|: TransposeChars; Undo 1 = abc| / draw '> abc|' at 0,5 to 0,5
+    ab c|: TransposeWords 1; Undo 1 = ab c| / draw '> ab c|' at 0,6 to 0,6
+    |w: TransposeWords 1; Undo 1 = w| /
+    |one two: CapitalizeWord; Undo 1 = one| two / draw '> one| two' at 0,5 to 0,9
+    ab|: Indent WholeLine; Undo 1 = |ab / draw '> |ab' at 0,2 to 0,4
+    a|b␊cd: Indent LineDown 1; Undo 1 = ␠ ab␊|cd / draw '>   ab␊|cd' at 1,0 to 1,2
+    ␠ ab|: Dedent WholeLine; Undo 1 = ␠ |ab / draw '>   |ab' at 0,4 to 0,6
+    |: SelfInsert 1 a; SelfInsert 1 +; Undo 1; Undo 1 = | / draw '> |' at 0,2 to 0,2
 ";
 
 // Characters written over others, if lines are drawn in part.

@@ -5,4 +5,3 @@ mod drawing;
 mod measuring;
 mod reading;
 mod sequences;
-mod sinks;

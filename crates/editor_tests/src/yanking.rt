@@ -24,10 +24,12 @@ const YANKS: &str = "
     one two|: Yank 0 Before; YankPop = |  /
     éé one two|: Move BackwardChar 1; Yank 0 Before; YankPop = éé|   /
 
-    tells: ring = nothing
-    one two|: Yank 1 Before = one|  / 'one' / | 
-    one two|: Yank 1 Before; YankPop = two|  / 'two' / one| 
-    one two|: Yank 0 Before; YankPop = |  / 'two' / one| 
+    one two|: Yank 1 Before; Undo 1 = |  / draw '> | ' at 0,2 to 0,3
+    one two|: Yank 1 Before; Yank 1 Before = oneone|  / draw '> oneone| ' at 0,8 to 0,9
+    one two|: Yank 1 Before; YankPop; Undo 1 = one|  / draw '> one| ' at 0,5 to 0,6
+    one two|: Yank 1 Before; YankPop; Yank 1 Before = twotwo|  / draw '> twotwo| ' at 0,8 to 0,9
+    one two|: Yank 0 Before; YankPop; Undo 1 = one|  / draw '> one| ' at 0,5 to 0,6
+    one two|: Yank 0 Before; YankPop; Yank 1 Before = two|  / draw '> two| ' at 0,5 to 0,6
 ";
 
 // From the changed place on, if lines are drawn in part.

@@ -610,17 +610,36 @@ row_88 = record (row 88 settings_84 (codes "zz\t\r") (codes "zz\n")) {
       ++ codes "\u{1b}[m\u{1b}[m\u{1b}[m\r\n");
 }
 
+-- modal listed at-once columns:4 words:alpha,alpine
+abbrev pub settings_91 : Settings
+settings_91 = record plain {
+  config = at_once (listed (modal plain.config));
+  columns = 4;
+  helping = aide false (Some ((codes "alpha") ∷ (codes "alpine") ∷ []));
+}
+
+-- alp Tab Enter = alp | shows {} a {al␍␊} p ␛[1A{al␍␊p␛[m␍␊alph␍␊a␍␊alpi␍␊ne␛[m␛[4A␛[1D ␛[1A{al␍␊p} ␍␊ {} ␍␊
+abbrev pub row_91 : Row
+row_91 = record (row 91 settings_91 (codes "alp\t\r") (codes "alp\n")) {
+  shows = Some
+      (codes "\r\u{1b}[J\u{1b}[m> \u{1b}[m\u{1b}[m\u{1b}[ma\r\u{1b}[J\u{1b}[m> \u{1b}[mal\r" ++
+      codes "\n\u{1b}[m\u{1b}[mp\u{1b}[1A\r\u{1b}[J\u{1b}[m> \u{1b}[mal\r\np\u{1b}[m\r\nalp" ++
+      codes "h\r\na\r\nalpi\r\nne\u{1b}[m\u{1b}[4A\u{1b}[1D\u{1b}[1A\r\u{1b}[J\u{1b}[m> " ++
+      codes "\u{1b}[mal\r\np\u{1b}[m\u{1b}[m\r\n\r\u{1b}[J\u{1b}[m> \u{1b}[m\u{1b}[m\u{1b}[" ++
+      codes "m\r\n");
+}
+
 -- modal listed words:漢字,漢文
-abbrev pub settings_92 : Settings
-settings_92 = record plain {
+abbrev pub settings_95 : Settings
+settings_95 = record plain {
   config = listed (modal plain.config);
   helping = aide false (Some ((encode_utf8_all (codes "漢字")) ∷ (encode_utf8_all (codes "漢文")) ∷
       []));
 }
 
 -- 漢 Tab Tab Enter = 漢 | shows {} {␛[m漢␛[m} ␇ {␛[m漢␛[m␛[m␍␊␛[m漢␛[m␛[m字␛[m␍␊␛[m漢␛[m␛[m文␛[m␛[m␛[2A {␛[m漢␛[m} ␍␊ {} ␍␊
-abbrev pub row_92 : Row
-row_92 = record (row 92 settings_92 (encode_utf8_all (codes "漢\t\t\r")) (encode_utf8_all
+abbrev pub row_95 : Row
+row_95 = record (row 95 settings_95 (encode_utf8_all (codes "漢\t\t\r")) (encode_utf8_all
     (codes "漢\n"))) {
       shows = Some (encode_utf8_all
           (codes "\r\u{1b}[J\u{1b}[m> \u{1b}[m\u{1b}[m\u{1b}[m\r\u{1b}[J\u{1b}[m> \u{1b}[m\u{1b}" ++
@@ -631,16 +650,16 @@ row_92 = record (row 92 settings_92 (encode_utf8_all (codes "漢\t\t\r")) (encod
     }
 
 -- modal listed columns:12 words:alphabetagammadelta,alpine
-abbrev pub settings_95 : Settings
-settings_95 = record plain {
+abbrev pub settings_98 : Settings
+settings_98 = record plain {
   config = listed (modal plain.config);
   columns = 12;
   helping = aide false (Some ((codes "alphabetagammadelta") ∷ (codes "alpine") ∷ []));
 }
 
 -- alp Tab Tab Enter = alp | shows {} a l p ␇ {alp␛[m␍␊alphabetagam␍␊madelta␍␊alpine␛[m␛[3A␛[1D {alp} ␍␊ {} ␍␊
-abbrev pub row_95 : Row
-row_95 = record (row 95 settings_95 (codes "alp\t\t\r") (codes "alp\n")) {
+abbrev pub row_98 : Row
+row_98 = record (row 98 settings_98 (codes "alp\t\t\r") (codes "alp\n")) {
   shows = Some
       (codes "\r\u{1b}[J\u{1b}[m> \u{1b}[m\u{1b}[m\u{1b}[malp\u{7}\r\u{1b}[J\u{1b}[m> \u{1b}" ++
       codes "[malp\u{1b}[m\r\nalphabetagam\r\nmadelta\r\nalpine\u{1b}[m\u{1b}[3A\u{1b}[1D\r" ++
@@ -649,16 +668,16 @@ row_95 = record (row 95 settings_95 (codes "alp\t\t\r") (codes "alp\n")) {
 }
 
 -- modal listed columns:12 words:alphabetagam,alpine
-abbrev pub settings_98 : Settings
-settings_98 = record plain {
+abbrev pub settings_101 : Settings
+settings_101 = record plain {
   config = listed (modal plain.config);
   columns = 12;
   helping = aide false (Some ((codes "alphabetagam") ∷ (codes "alpine") ∷ []));
 }
 
 -- alp Tab Tab Enter = alp | shows {} a l p ␇ {alp␛[m␍␊alphabetagam␍␊␍␊alpine␛[m␛[3A␛[1D {alp} ␍␊ {} ␍␊
-abbrev pub row_98 : Row
-row_98 = record (row 98 settings_98 (codes "alp\t\t\r") (codes "alp\n")) {
+abbrev pub row_101 : Row
+row_101 = record (row 101 settings_101 (codes "alp\t\t\r") (codes "alp\n")) {
   shows = Some
       (codes "\r\u{1b}[J\u{1b}[m> \u{1b}[m\u{1b}[m\u{1b}[malp\u{7}\r\u{1b}[J\u{1b}[m> \u{1b}" ++
       codes "[malp\u{1b}[m\r\nalphabetagam\r\n\r\nalpine\u{1b}[m\u{1b}[3A\u{1b}[1D\r\u{1b}[" ++
@@ -667,16 +686,16 @@ row_98 = record (row 98 settings_98 (codes "alp\t\t\r") (codes "alp\n")) {
 }
 
 -- modal listed columns:12 words:alpine,alphabetagam
-abbrev pub settings_101 : Settings
-settings_101 = record plain {
+abbrev pub settings_104 : Settings
+settings_104 = record plain {
   config = listed (modal plain.config);
   columns = 12;
   helping = aide false (Some ((codes "alpine") ∷ (codes "alphabetagam") ∷ []));
 }
 
 -- alp Tab Tab Enter = alp | shows {} a l p ␇ {alp␛[m␍␊alpine␍␊alphabetagam␍␊␛[m␛[3A␛[5C {alp} ␍␊ {} ␍␊
-abbrev pub row_101 : Row
-row_101 = record (row 101 settings_101 (codes "alp\t\t\r") (codes "alp\n")) {
+abbrev pub row_104 : Row
+row_104 = record (row 104 settings_104 (codes "alp\t\t\r") (codes "alp\n")) {
   shows = Some
       (codes "\r\u{1b}[J\u{1b}[m> \u{1b}[m\u{1b}[m\u{1b}[malp\u{7}\r\u{1b}[J\u{1b}[m> \u{1b}" ++
       codes "[malp\u{1b}[m\r\nalpine\r\nalphabetagam\r\n\u{1b}[m\u{1b}[3A\u{1b}[5C\r\u{1b}[" ++
@@ -685,16 +704,16 @@ row_101 = record (row 101 settings_101 (codes "alp\t\t\r") (codes "alp\n")) {
 }
 
 -- modal listed columns:7 words:alpha,alpha
-abbrev pub settings_104 : Settings
-settings_104 = record plain {
+abbrev pub settings_107 : Settings
+settings_107 = record plain {
   config = listed (modal plain.config);
   columns = 7;
   helping = aide false (Some ((codes "alpha") ∷ (codes "alpha") ∷ []));
 }
 
 -- alpha Tab Tab Enter = alpha | shows {} a l p h {alpha␍␊} ␇ ␛[1A{alpha␍␊␛[m␍␊alpha␍␊alpha␛[m␛[2A␛[5D ␛[1A{alpha␍␊} ␍␊ {} ␍␊
-abbrev pub row_104 : Row
-row_104 = record (row 104 settings_104 (codes "alpha\t\t\r") (codes "alpha\n")) {
+abbrev pub row_107 : Row
+row_107 = record (row 107 settings_107 (codes "alpha\t\t\r") (codes "alpha\n")) {
   shows = Some
       (codes "\r\u{1b}[J\u{1b}[m> \u{1b}[m\u{1b}[m\u{1b}[malph\r\u{1b}[J\u{1b}[m> \u{1b}[mal" ++
       codes "pha\r\n\u{1b}[m\u{1b}[m\u{7}\u{1b}[1A\r\u{1b}[J\u{1b}[m> \u{1b}[malpha\r\n" ++
@@ -704,15 +723,15 @@ row_104 = record (row 104 settings_104 (codes "alpha\t\t\r") (codes "alpha\n")) 
 }
 
 -- modal listed words:,alpha
-abbrev pub settings_107 : Settings
-settings_107 = record plain {
+abbrev pub settings_110 : Settings
+settings_110 = record plain {
   config = listed (modal plain.config);
   helping = aide false (Some ([] ∷ (codes "alpha") ∷ []));
 }
 
 -- x␠ Tab Tab Enter = x␠ | shows {} x ␠ ␇ {x␠␛[m␍␊␍␊alpha␛[m␛[2A␛[1D {x␠} ␍␊ {} ␍␊
-abbrev pub row_107 : Row
-row_107 = record (row 107 settings_107 (codes "x \t\t\r") (codes "x \n")) {
+abbrev pub row_110 : Row
+row_110 = record (row 110 settings_110 (codes "x \t\t\r") (codes "x \n")) {
   shows = Some
       (codes "\r\u{1b}[J\u{1b}[m> \u{1b}[m\u{1b}[m\u{1b}[mx \u{7}\r\u{1b}[J\u{1b}[m> \u{1b}[" ++
       codes "mx \u{1b}[m\r\n\r\nalpha\u{1b}[m\u{1b}[2A\u{1b}[1D\r\u{1b}[J\u{1b}[m> \u{1b}[m" ++
@@ -720,15 +739,15 @@ row_107 = record (row 107 settings_107 (codes "x \t\t\r") (codes "x \n")) {
 }
 
 -- modal listed words:alpha,alpha
-abbrev pub settings_110 : Settings
-settings_110 = record plain {
+abbrev pub settings_113 : Settings
+settings_113 = record plain {
   config = listed (modal plain.config);
   helping = aide false (Some ((codes "alpha") ∷ (codes "alpha") ∷ []));
 }
 
 -- alph Tab Tab Enter = alpha | shows {} a l p h {alpha} {alpha␛[m␍␊alpha␍␊alpha␛[m␛[2A␛[2C {alpha} ␍␊ {} ␍␊
-abbrev pub row_110 : Row
-row_110 = record (row 110 settings_110 (codes "alph\t\t\r") (codes "alpha\n")) {
+abbrev pub row_113 : Row
+row_113 = record (row 113 settings_113 (codes "alph\t\t\r") (codes "alpha\n")) {
   shows = Some
       (codes "\r\u{1b}[J\u{1b}[m> \u{1b}[m\u{1b}[m\u{1b}[malph\r\u{1b}[J\u{1b}[m> \u{1b}[mal" ++
       codes "pha\u{1b}[m\u{1b}[m\r\u{1b}[J\u{1b}[m> \u{1b}[malpha\u{1b}[m\r\nalpha\r\nalpha" ++
@@ -737,23 +756,23 @@ row_110 = record (row 110 settings_110 (codes "alph\t\t\r") (codes "alpha\n")) {
 }
 
 -- modal words:alpha,alpine
-abbrev pub settings_114 : Settings
-settings_114 = record plain {
+abbrev pub settings_117 : Settings
+settings_117 = record plain {
   config = modal plain.config;
   helping = aide false (Some ((codes "alpha") ∷ (codes "alpine") ∷ []));
 }
 
 -- al Tab Enter = alpha | shows {} a l {alpha} ␍␊ {} ␍␊
-abbrev pub row_114 : Row
-row_114 = record (row 114 settings_114 (codes "al\t\r") (codes "alpha\n")) {
+abbrev pub row_117 : Row
+row_117 = record (row 117 settings_117 (codes "al\t\r") (codes "alpha\n")) {
   shows = Some
       (codes "\r\u{1b}[J\u{1b}[m> \u{1b}[m\u{1b}[m\u{1b}[mal\r\u{1b}[J\u{1b}[m> \u{1b}[malph" ++
       codes "a\u{1b}[m\u{1b}[m\r\n\r\u{1b}[J\u{1b}[m> \u{1b}[m\u{1b}[m\u{1b}[m\r\n");
 }
 
 -- al Tab Tab Enter = alpine | shows {} a l {alpha} {alpine} ␍␊ {} ␍␊
-abbrev pub row_115 : Row
-row_115 = record (row 115 settings_114 (codes "al\t\t\r") (codes "alpine\n")) {
+abbrev pub row_118 : Row
+row_118 = record (row 118 settings_117 (codes "al\t\t\r") (codes "alpine\n")) {
   shows = Some
       (codes "\r\u{1b}[J\u{1b}[m> \u{1b}[m\u{1b}[m\u{1b}[mal\r\u{1b}[J\u{1b}[m> \u{1b}[malph" ++
       codes "a\u{1b}[m\u{1b}[m\r\u{1b}[J\u{1b}[m> \u{1b}[malpine\u{1b}[m\u{1b}[m\r\n\r" ++
@@ -761,8 +780,8 @@ row_115 = record (row 115 settings_114 (codes "al\t\t\r") (codes "alpine\n")) {
 }
 
 -- al Tab Tab Tab Enter = al | shows {} a l {alpha} {alpine} {al} ␇ ␍␊ {} ␍␊
-abbrev pub row_116 : Row
-row_116 = record (row 116 settings_114 (codes "al\t\t\t\r") (codes "al\n")) {
+abbrev pub row_119 : Row
+row_119 = record (row 119 settings_117 (codes "al\t\t\t\r") (codes "al\n")) {
   shows = Some
       (codes "\r\u{1b}[J\u{1b}[m> \u{1b}[m\u{1b}[m\u{1b}[mal\r\u{1b}[J\u{1b}[m> \u{1b}[malph" ++
       codes "a\u{1b}[m\u{1b}[m\r\u{1b}[J\u{1b}[m> \u{1b}[malpine\u{1b}[m\u{1b}[m\r\u{1b}[J" ++
@@ -771,8 +790,8 @@ row_116 = record (row 116 settings_114 (codes "al\t\t\t\r") (codes "al\n")) {
 }
 
 -- al Tab Tab Tab Tab Enter = alpha | shows {} a l {alpha} {alpine} {al} ␇ {alpha} ␍␊ {} ␍␊
-abbrev pub row_117 : Row
-row_117 = record (row 117 settings_114 (codes "al\t\t\t\t\r") (codes "alpha\n")) {
+abbrev pub row_120 : Row
+row_120 = record (row 120 settings_117 (codes "al\t\t\t\t\r") (codes "alpha\n")) {
   shows = Some
       (codes "\r\u{1b}[J\u{1b}[m> \u{1b}[m\u{1b}[m\u{1b}[mal\r\u{1b}[J\u{1b}[m> \u{1b}[malph" ++
       codes "a\u{1b}[m\u{1b}[m\r\u{1b}[J\u{1b}[m> \u{1b}[malpine\u{1b}[m\u{1b}[m\r\u{1b}[J" ++
@@ -781,8 +800,8 @@ row_117 = record (row 117 settings_114 (codes "al\t\t\t\t\r") (codes "alpha\n"))
 }
 
 -- al Tab Tab S-Tab Enter = alpha | shows {} a l {alpha} {alpine} {alpha} ␍␊ {} ␍␊
-abbrev pub row_118 : Row
-row_118 = record (row 118 settings_114 (codes "al\t\t\u{1b}[Z\r") (codes "alpha\n")) {
+abbrev pub row_121 : Row
+row_121 = record (row 121 settings_117 (codes "al\t\t\u{1b}[Z\r") (codes "alpha\n")) {
   shows = Some
       (codes "\r\u{1b}[J\u{1b}[m> \u{1b}[m\u{1b}[m\u{1b}[mal\r\u{1b}[J\u{1b}[m> \u{1b}[malph" ++
       codes "a\u{1b}[m\u{1b}[m\r\u{1b}[J\u{1b}[m> \u{1b}[malpine\u{1b}[m\u{1b}[m\r\u{1b}[J" ++
@@ -791,8 +810,8 @@ row_118 = record (row 118 settings_114 (codes "al\t\t\u{1b}[Z\r") (codes "alpha\
 }
 
 -- al Tab S-Tab Enter = al | shows {} a l {alpha} {al} ␇ ␍␊ {} ␍␊
-abbrev pub row_119 : Row
-row_119 = record (row 119 settings_114 (codes "al\t\u{1b}[Z\r") (codes "al\n")) {
+abbrev pub row_122 : Row
+row_122 = record (row 122 settings_117 (codes "al\t\u{1b}[Z\r") (codes "al\n")) {
   shows = Some
       (codes "\r\u{1b}[J\u{1b}[m> \u{1b}[m\u{1b}[m\u{1b}[mal\r\u{1b}[J\u{1b}[m> \u{1b}[malph" ++
       codes "a\u{1b}[m\u{1b}[m\r\u{1b}[J\u{1b}[m> \u{1b}[mal\u{1b}[m\u{1b}[m\u{7}\r\n\r" ++
@@ -800,8 +819,8 @@ row_119 = record (row 119 settings_114 (codes "al\t\u{1b}[Z\r") (codes "al\n")) 
 }
 
 -- al Tab S-Tab S-Tab Enter = alpine | shows {} a l {alpha} {al} ␇ {alpine} ␍␊ {} ␍␊
-abbrev pub row_120 : Row
-row_120 = record (row 120 settings_114 (codes "al\t\u{1b}[Z\u{1b}[Z\r") (codes "alpine\n")) {
+abbrev pub row_123 : Row
+row_123 = record (row 123 settings_117 (codes "al\t\u{1b}[Z\u{1b}[Z\r") (codes "alpine\n")) {
   shows = Some
       (codes "\r\u{1b}[J\u{1b}[m> \u{1b}[m\u{1b}[m\u{1b}[mal\r\u{1b}[J\u{1b}[m> \u{1b}[malph" ++
       codes "a\u{1b}[m\u{1b}[m\r\u{1b}[J\u{1b}[m> \u{1b}[mal\u{1b}[m\u{1b}[m\u{7}\r\u{1b}[J" ++
@@ -810,8 +829,8 @@ row_120 = record (row 120 settings_114 (codes "al\t\u{1b}[Z\u{1b}[Z\r") (codes "
 }
 
 -- al Tab Tab Tab S-Tab Enter = alpine | shows {} a l {alpha} {alpine} {al} ␇ {alpine} ␍␊ {} ␍␊
-abbrev pub row_121 : Row
-row_121 = record (row 121 settings_114 (codes "al\t\t\t\u{1b}[Z\r") (codes "alpine\n")) {
+abbrev pub row_124 : Row
+row_124 = record (row 124 settings_117 (codes "al\t\t\t\u{1b}[Z\r") (codes "alpine\n")) {
   shows = Some
       (codes "\r\u{1b}[J\u{1b}[m> \u{1b}[m\u{1b}[m\u{1b}[mal\r\u{1b}[J\u{1b}[m> \u{1b}[malph" ++
       codes "a\u{1b}[m\u{1b}[m\r\u{1b}[J\u{1b}[m> \u{1b}[malpine\u{1b}[m\u{1b}[m\r\u{1b}[J" ++
@@ -820,24 +839,24 @@ row_121 = record (row 121 settings_114 (codes "al\t\t\t\u{1b}[Z\r") (codes "alpi
 }
 
 -- al S-Tab Enter = al | shows {} a l ␍␊ {} ␍␊
-abbrev pub row_122 : Row
-row_122 = record (row 122 settings_114 (codes "al\u{1b}[Z\r") (codes "al\n")) {
+abbrev pub row_125 : Row
+row_125 = record (row 125 settings_117 (codes "al\u{1b}[Z\r") (codes "al\n")) {
   shows = Some
       (codes "\r\u{1b}[J\u{1b}[m> \u{1b}[m\u{1b}[m\u{1b}[mal\r\n\r\u{1b}[J\u{1b}[m> \u{1b}[m" ++
       codes "\u{1b}[m\u{1b}[m\r\n");
 }
 
 -- al S-Tab Tab Enter = alpha | shows {} a l {alpha} ␍␊ {} ␍␊
-abbrev pub row_123 : Row
-row_123 = record (row 123 settings_114 (codes "al\u{1b}[Z\t\r") (codes "alpha\n")) {
+abbrev pub row_126 : Row
+row_126 = record (row 126 settings_117 (codes "al\u{1b}[Z\t\r") (codes "alpha\n")) {
   shows = Some
       (codes "\r\u{1b}[J\u{1b}[m> \u{1b}[m\u{1b}[m\u{1b}[mal\r\u{1b}[J\u{1b}[m> \u{1b}[malph" ++
       codes "a\u{1b}[m\u{1b}[m\r\n\r\u{1b}[J\u{1b}[m> \u{1b}[m\u{1b}[m\u{1b}[m\r\n");
 }
 
 -- Tab Tab Tab Enter = "" | shows {} {alpha} {alpine} {} ␇ ␍␊ {} ␍␊
-abbrev pub row_124 : Row
-row_124 = record (row 124 settings_114 (codes "\t\t\t\r") (codes "\n")) {
+abbrev pub row_127 : Row
+row_127 = record (row 127 settings_117 (codes "\t\t\t\r") (codes "\n")) {
   shows = Some
       (codes "\r\u{1b}[J\u{1b}[m> \u{1b}[m\u{1b}[m\u{1b}[m\r\u{1b}[J\u{1b}[m> \u{1b}[malpha" ++
       codes "\u{1b}[m\u{1b}[m\r\u{1b}[J\u{1b}[m> \u{1b}[malpine\u{1b}[m\u{1b}[m\r\u{1b}[J" ++
@@ -846,8 +865,8 @@ row_124 = record (row 124 settings_114 (codes "\t\t\t\r") (codes "\n")) {
 }
 
 -- al M-3 Tab Enter = alpha | shows {} a l ␍␛[J␛[m(arg:␠3)␠␛[mal␛[m␛[m {al} {alpha} ␍␊ {} ␍␊
-abbrev pub row_125 : Row
-row_125 = record (row 125 settings_114 (codes "al\u{1b}3\t\r") (codes "alpha\n")) {
+abbrev pub row_128 : Row
+row_128 = record (row 128 settings_117 (codes "al\u{1b}3\t\r") (codes "alpha\n")) {
   shows = Some (codes "\r\u{1b}[J\u{1b}[m> \u{1b}[m\u{1b}[m\u{1b}[mal\r\u{1b}[J\u{1b}[m(arg: 3) " ++
       codes "\u{1b}[mal\u{1b}[m\u{1b}[m\r\u{1b}[J\u{1b}[m> \u{1b}[mal\u{1b}[m\u{1b}[m\r" ++
       codes "\u{1b}[J\u{1b}[m> \u{1b}[malpha\u{1b}[m\u{1b}[m\r\n\r\u{1b}[J\u{1b}[m> \u{1b}[" ++
@@ -855,8 +874,8 @@ row_125 = record (row 125 settings_114 (codes "al\u{1b}3\t\r") (codes "alpha\n")
 }
 
 -- al Tab M-- Tab Enter = al | shows {} a l {alpha} ␍␛[J␛[m(arg:␠-1)␠␛[malpha␛[m␛[m {alpha} {al} ␇ ␍␊ {} ␍␊
-abbrev pub row_126 : Row
-row_126 = record (row 126 settings_114 (codes "al\t\u{1b}-\t\r") (codes "al\n")) {
+abbrev pub row_129 : Row
+row_129 = record (row 129 settings_117 (codes "al\t\u{1b}-\t\r") (codes "al\n")) {
   shows = Some
       (codes "\r\u{1b}[J\u{1b}[m> \u{1b}[m\u{1b}[m\u{1b}[mal\r\u{1b}[J\u{1b}[m> \u{1b}[malph" ++
       codes "a\u{1b}[m\u{1b}[m\r\u{1b}[J\u{1b}[m(arg: -1) \u{1b}[malpha\u{1b}[m\u{1b}[m\r" ++
@@ -865,8 +884,8 @@ row_126 = record (row 126 settings_114 (codes "al\t\u{1b}-\t\r") (codes "al\n"))
 }
 
 -- al Tab Tab C-_ Enter = al | shows {} a l {alpha} {alpine} {al} ␍␊ {} ␍␊
-abbrev pub row_129 : Row
-row_129 = record (row 129 settings_114 (codes "al\t\t\u{1f}\r") (codes "al\n")) {
+abbrev pub row_132 : Row
+row_132 = record (row 132 settings_117 (codes "al\t\t\u{1f}\r") (codes "al\n")) {
   shows = Some
       (codes "\r\u{1b}[J\u{1b}[m> \u{1b}[m\u{1b}[m\u{1b}[mal\r\u{1b}[J\u{1b}[m> \u{1b}[malph" ++
       codes "a\u{1b}[m\u{1b}[m\r\u{1b}[J\u{1b}[m> \u{1b}[malpine\u{1b}[m\u{1b}[m\r\u{1b}[J" ++
@@ -875,8 +894,8 @@ row_129 = record (row 129 settings_114 (codes "al\t\t\u{1f}\r") (codes "al\n")) 
 }
 
 -- al Tab Tab C-_ C-_ Enter = "" | shows {} a l {alpha} {alpine} {al} {} ␍␊ {} ␍␊
-abbrev pub row_130 : Row
-row_130 = record (row 130 settings_114 (codes "al\t\t\u{1f}\u{1f}\r") (codes "\n")) {
+abbrev pub row_133 : Row
+row_133 = record (row 133 settings_117 (codes "al\t\t\u{1f}\u{1f}\r") (codes "\n")) {
   shows = Some
       (codes "\r\u{1b}[J\u{1b}[m> \u{1b}[m\u{1b}[m\u{1b}[mal\r\u{1b}[J\u{1b}[m> \u{1b}[malph" ++
       codes "a\u{1b}[m\u{1b}[m\r\u{1b}[J\u{1b}[m> \u{1b}[malpine\u{1b}[m\u{1b}[m\r\u{1b}[J" ++
@@ -885,8 +904,8 @@ row_130 = record (row 130 settings_114 (codes "al\t\t\u{1f}\u{1f}\r") (codes "\n
 }
 
 -- al Tab Tab Tab C-_ Enter = "" | shows {} a l {alpha} {alpine} {al} ␇ {} ␍␊ {} ␍␊
-abbrev pub row_131 : Row
-row_131 = record (row 131 settings_114 (codes "al\t\t\t\u{1f}\r") (codes "\n")) {
+abbrev pub row_134 : Row
+row_134 = record (row 134 settings_117 (codes "al\t\t\t\u{1f}\r") (codes "\n")) {
   shows = Some
       (codes "\r\u{1b}[J\u{1b}[m> \u{1b}[m\u{1b}[m\u{1b}[mal\r\u{1b}[J\u{1b}[m> \u{1b}[malph" ++
       codes "a\u{1b}[m\u{1b}[m\r\u{1b}[J\u{1b}[m> \u{1b}[malpine\u{1b}[m\u{1b}[m\r\u{1b}[J" ++
@@ -895,8 +914,8 @@ row_131 = record (row 131 settings_114 (codes "al\t\t\t\u{1f}\r") (codes "\n")) 
 }
 
 -- al Tab Tab C-G x Enter = alx | shows {} a l {alpha} {alpine} {al} x ␍␊ {} ␍␊
-abbrev pub row_132 : Row
-row_132 = record (row 132 settings_114 (codes "al\t\t\u{7}x\r") (codes "alx\n")) {
+abbrev pub row_135 : Row
+row_135 = record (row 135 settings_117 (codes "al\t\t\u{7}x\r") (codes "alx\n")) {
   shows = Some
       (codes "\r\u{1b}[J\u{1b}[m> \u{1b}[m\u{1b}[m\u{1b}[mal\r\u{1b}[J\u{1b}[m> \u{1b}[malph" ++
       codes "a\u{1b}[m\u{1b}[m\r\u{1b}[J\u{1b}[m> \u{1b}[malpine\u{1b}[m\u{1b}[m\r\u{1b}[J" ++
@@ -905,8 +924,8 @@ row_132 = record (row 132 settings_114 (codes "al\t\t\u{7}x\r") (codes "alx\n"))
 }
 
 -- al Tab C-G C-_ Enter = "" | shows {} a l {alpha} {al} {} ␍␊ {} ␍␊
-abbrev pub row_133 : Row
-row_133 = record (row 133 settings_114 (codes "al\t\u{7}\u{1f}\r") (codes "\n")) {
+abbrev pub row_136 : Row
+row_136 = record (row 136 settings_117 (codes "al\t\u{7}\u{1f}\r") (codes "\n")) {
   shows = Some
       (codes "\r\u{1b}[J\u{1b}[m> \u{1b}[m\u{1b}[m\u{1b}[mal\r\u{1b}[J\u{1b}[m> \u{1b}[malph" ++
       codes "a\u{1b}[m\u{1b}[m\r\u{1b}[J\u{1b}[m> \u{1b}[mal\u{1b}[m\u{1b}[m\r\u{1b}[J" ++
@@ -915,8 +934,8 @@ row_133 = record (row 133 settings_114 (codes "al\t\u{7}\u{1f}\r") (codes "\n"))
 }
 
 -- al Tab Tab Tab C-G x Enter = alx | shows {} a l {alpha} {alpine} {al} ␇ {al} x ␍␊ {} ␍␊
-abbrev pub row_134 : Row
-row_134 = record (row 134 settings_114 (codes "al\t\t\t\u{7}x\r") (codes "alx\n")) {
+abbrev pub row_137 : Row
+row_137 = record (row 137 settings_117 (codes "al\t\t\t\u{7}x\r") (codes "alx\n")) {
   shows = Some
       (codes "\r\u{1b}[J\u{1b}[m> \u{1b}[m\u{1b}[m\u{1b}[mal\r\u{1b}[J\u{1b}[m> \u{1b}[malph" ++
       codes "a\u{1b}[m\u{1b}[m\r\u{1b}[J\u{1b}[m> \u{1b}[malpine\u{1b}[m\u{1b}[m\r\u{1b}[J" ++
@@ -925,8 +944,8 @@ row_134 = record (row 134 settings_114 (codes "al\t\t\t\u{7}x\r") (codes "alx\n"
 }
 
 -- al Tab Tab C-G Tab Enter = alpha | shows {} a l {alpha} {alpine} {al} {alpha} ␍␊ {} ␍␊
-abbrev pub row_135 : Row
-row_135 = record (row 135 settings_114 (codes "al\t\t\u{7}\t\r") (codes "alpha\n")) {
+abbrev pub row_138 : Row
+row_138 = record (row 138 settings_117 (codes "al\t\t\u{7}\t\r") (codes "alpha\n")) {
   shows = Some
       (codes "\r\u{1b}[J\u{1b}[m> \u{1b}[m\u{1b}[m\u{1b}[mal\r\u{1b}[J\u{1b}[m> \u{1b}[malph" ++
       codes "a\u{1b}[m\u{1b}[m\r\u{1b}[J\u{1b}[m> \u{1b}[malpine\u{1b}[m\u{1b}[m\r\u{1b}[J" ++
@@ -935,8 +954,8 @@ row_135 = record (row 135 settings_114 (codes "al\t\t\u{7}\t\r") (codes "alpha\n
 }
 
 -- al Tab C-_ Tab Tab Enter = alpine | shows {} a l {alpha} {al} {alpha} {alpine} ␍␊ {} ␍␊
-abbrev pub row_136 : Row
-row_136 = record (row 136 settings_114 (codes "al\t\u{1f}\t\t\r") (codes "alpine\n")) {
+abbrev pub row_139 : Row
+row_139 = record (row 139 settings_117 (codes "al\t\u{1f}\t\t\r") (codes "alpine\n")) {
   shows = Some
       (codes "\r\u{1b}[J\u{1b}[m> \u{1b}[m\u{1b}[m\u{1b}[mal\r\u{1b}[J\u{1b}[m> \u{1b}[malph" ++
       codes "a\u{1b}[m\u{1b}[m\r\u{1b}[J\u{1b}[m> \u{1b}[mal\u{1b}[m\u{1b}[m\r\u{1b}[J" ++
@@ -945,16 +964,16 @@ row_136 = record (row 136 settings_114 (codes "al\t\u{1f}\t\t\r") (codes "alpine
 }
 
 -- al Tab h Enter = alphah | shows {} a l {alpha} h ␍␊ {} ␍␊
-abbrev pub row_139 : Row
-row_139 = record (row 139 settings_114 (codes "al\th\r") (codes "alphah\n")) {
+abbrev pub row_142 : Row
+row_142 = record (row 142 settings_117 (codes "al\th\r") (codes "alphah\n")) {
   shows = Some
       (codes "\r\u{1b}[J\u{1b}[m> \u{1b}[m\u{1b}[m\u{1b}[mal\r\u{1b}[J\u{1b}[m> \u{1b}[malph" ++
       codes "a\u{1b}[m\u{1b}[mh\r\n\r\u{1b}[J\u{1b}[m> \u{1b}[m\u{1b}[m\u{1b}[m\r\n");
 }
 
 -- al Tab Left X Enter = alphXa | shows {} a l {alpha} ␛[1D {alphXa}␛[1D ␛[1C␍␊ {} ␍␊
-abbrev pub row_140 : Row
-row_140 = record (row 140 settings_114 (codes "al\t\u{1b}[DX\r") (codes "alphXa\n")) {
+abbrev pub row_143 : Row
+row_143 = record (row 143 settings_117 (codes "al\t\u{1b}[DX\r") (codes "alphXa\n")) {
   shows = Some
       (codes "\r\u{1b}[J\u{1b}[m> \u{1b}[m\u{1b}[m\u{1b}[mal\r\u{1b}[J\u{1b}[m> \u{1b}[malph" ++
       codes "a\u{1b}[m\u{1b}[m\u{1b}[1D\r\u{1b}[J\u{1b}[m> \u{1b}[malphXa\u{1b}[m\u{1b}[m" ++
@@ -962,8 +981,8 @@ row_140 = record (row 140 settings_114 (codes "al\t\u{1b}[DX\r") (codes "alphXa\
 }
 
 -- al Tab Backspace Tab Enter = alpha | shows {} a l {alpha} ␛[1D␛[K {alpha} ␍␊ {} ␍␊
-abbrev pub row_141 : Row
-row_141 = record (row 141 settings_114 (codes "al\t\u{7f}\t\r") (codes "alpha\n")) {
+abbrev pub row_144 : Row
+row_144 = record (row 144 settings_117 (codes "al\t\u{7f}\t\r") (codes "alpha\n")) {
   shows = Some
       (codes "\r\u{1b}[J\u{1b}[m> \u{1b}[m\u{1b}[m\u{1b}[mal\r\u{1b}[J\u{1b}[m> \u{1b}[malph" ++
       codes "a\u{1b}[m\u{1b}[m\u{1b}[1D\u{1b}[K\r\u{1b}[J\u{1b}[m> \u{1b}[malpha\u{1b}[m" ++
@@ -971,8 +990,8 @@ row_141 = record (row 141 settings_114 (codes "al\t\u{7f}\t\r") (codes "alpha\n"
 }
 
 -- al Tab ␠ Tab Tab Enter = alpha␠alpine | shows {} a l {alpha} ␠ {alpha␠alpha} {alpha␠alpine} ␍␊ {} ␍␊
-abbrev pub row_142 : Row
-row_142 = record (row 142 settings_114 (codes "al\t \t\t\r") (codes "alpha alpine\n")) {
+abbrev pub row_145 : Row
+row_145 = record (row 145 settings_117 (codes "al\t \t\t\r") (codes "alpha alpine\n")) {
   shows = Some
       (codes "\r\u{1b}[J\u{1b}[m> \u{1b}[m\u{1b}[m\u{1b}[mal\r\u{1b}[J\u{1b}[m> \u{1b}[malph" ++
       codes "a\u{1b}[m\u{1b}[m \r\u{1b}[J\u{1b}[m> \u{1b}[malpha alpha\u{1b}[m\u{1b}[m\r" ++
@@ -981,8 +1000,8 @@ row_142 = record (row 142 settings_114 (codes "al\t \t\t\r") (codes "alpha alpin
 }
 
 -- al Tab ␛[999x Tab Enter = alpha | shows {} a l {alpha} {alpha} ␍␊ {} ␍␊
-abbrev pub row_143 : Row
-row_143 = record (row 143 settings_114 (codes "al\t\u{1b}[999x\t\r") (codes "alpha\n")) {
+abbrev pub row_146 : Row
+row_146 = record (row 146 settings_117 (codes "al\t\u{1b}[999x\t\r") (codes "alpha\n")) {
   shows = Some
       (codes "\r\u{1b}[J\u{1b}[m> \u{1b}[m\u{1b}[m\u{1b}[mal\r\u{1b}[J\u{1b}[m> \u{1b}[malph" ++
       codes "a\u{1b}[m\u{1b}[m\r\u{1b}[J\u{1b}[m> \u{1b}[malpha\u{1b}[m\u{1b}[m\r\n\r\u{1b}" ++
@@ -990,8 +1009,8 @@ row_143 = record (row 143 settings_114 (codes "al\t\u{1b}[999x\t\r") (codes "alp
 }
 
 -- al Tab Paste x Pasted Enter = alphax | shows {} a l {alpha} {alphax} ␍␊ {} ␍␊
-abbrev pub row_144 : Row
-row_144 = record (row 144 settings_114 (codes "al\t\u{1b}[200~x\u{1b}[201~\r") (codes "alphax\n")) {
+abbrev pub row_147 : Row
+row_147 = record (row 147 settings_117 (codes "al\t\u{1b}[200~x\u{1b}[201~\r") (codes "alphax\n")) {
   shows = Some
       (codes "\r\u{1b}[J\u{1b}[m> \u{1b}[m\u{1b}[m\u{1b}[mal\r\u{1b}[J\u{1b}[m> \u{1b}[malph" ++
       codes "a\u{1b}[m\u{1b}[m\r\u{1b}[J\u{1b}[m> \u{1b}[malphax\u{1b}[m\u{1b}[m\r\n\r" ++
@@ -999,8 +1018,8 @@ row_144 = record (row 144 settings_114 (codes "al\t\u{1b}[200~x\u{1b}[201~\r") (
 }
 
 -- al Tab C-C = nothing | ends Interrupted | shows {} a l {alpha} ␍␊
-abbrev pub row_145 : Row
-row_145 = record (row 145 settings_114 (codes "al\t\u{3}") []) {
+abbrev pub row_148 : Row
+row_148 = record (row 148 settings_117 (codes "al\t\u{3}") []) {
   ends = Interrupted;
   shows = Some
       (codes "\r\u{1b}[J\u{1b}[m> \u{1b}[m\u{1b}[m\u{1b}[mal\r\u{1b}[J\u{1b}[m> \u{1b}[malph" ++
@@ -1008,8 +1027,8 @@ row_145 = record (row 145 settings_114 (codes "al\t\u{3}") []) {
 }
 
 -- al Tab Tab Enter al Tab Enter = alpine alpha | shows {} a l {alpha} {alpine} ␍␊ {} a l {alpha} ␍␊ {} ␍␊
-abbrev pub row_146 : Row
-row_146 = record (row 146 settings_114 (codes "al\t\t\ral\t\r") (codes "alpine\nalpha\n")) {
+abbrev pub row_149 : Row
+row_149 = record (row 149 settings_117 (codes "al\t\t\ral\t\r") (codes "alpine\nalpha\n")) {
   shows = Some
       (codes "\r\u{1b}[J\u{1b}[m> \u{1b}[m\u{1b}[m\u{1b}[mal\r\u{1b}[J\u{1b}[m> \u{1b}[malph" ++
       codes "a\u{1b}[m\u{1b}[m\r\u{1b}[J\u{1b}[m> \u{1b}[malpine\u{1b}[m\u{1b}[m\r\n\r" ++
@@ -1018,20 +1037,20 @@ row_146 = record (row 146 settings_114 (codes "al\t\t\ral\t\r") (codes "alpine\n
 }
 
 -- al Tab = nothing | shows {} a l {alpha} ␍␊
-abbrev pub row_147 : Row
-row_147 = record (row 147 settings_114 (codes "al\t") []) {
+abbrev pub row_150 : Row
+row_150 = record (row 150 settings_117 (codes "al\t") []) {
   shows = Some
       (codes "\r\u{1b}[J\u{1b}[m> \u{1b}[m\u{1b}[m\u{1b}[mal\r\u{1b}[J\u{1b}[m> \u{1b}[malph" ++
       codes "a\u{1b}[m\u{1b}[m\r\n");
 }
 
 -- x␠y C-W Tab C-W C-Y Enter = x␠alpha
-abbrev pub row_148 : Row
-row_148 = row 148 settings_114 (codes "x y\u{17}\t\u{17}\u{19}\r") (codes "x alpha\n")
+abbrev pub row_151 : Row
+row_151 = row 151 settings_117 (codes "x y\u{17}\t\u{17}\u{19}\r") (codes "x alpha\n")
 
 -- alph Tab Tab Enter = alpha | shows {} a l p h {alpha} {alpha} ␍␊ {} ␍␊
-abbrev pub row_151 : Row
-row_151 = record (row 151 settings_114 (codes "alph\t\t\r") (codes "alpha\n")) {
+abbrev pub row_154 : Row
+row_154 = record (row 154 settings_117 (codes "alph\t\t\r") (codes "alpha\n")) {
   shows = Some
       (codes "\r\u{1b}[J\u{1b}[m> \u{1b}[m\u{1b}[m\u{1b}[malph\r\u{1b}[J\u{1b}[m> \u{1b}[mal" ++
       codes "pha\u{1b}[m\u{1b}[m\r\u{1b}[J\u{1b}[m> \u{1b}[malpha\u{1b}[m\u{1b}[m\r\n\r" ++
@@ -1039,8 +1058,8 @@ row_151 = record (row 151 settings_114 (codes "alph\t\t\r") (codes "alpha\n")) {
 }
 
 -- alph Tab C-G x C-_ C-_ Enter = alph | shows {} a l p h {alpha} x {alpha} {alph} ␍␊ {} ␍␊
-abbrev pub row_152 : Row
-row_152 = record (row 152 settings_114 (codes "alph\t\u{7}x\u{1f}\u{1f}\r") (codes "alph\n")) {
+abbrev pub row_155 : Row
+row_155 = record (row 155 settings_117 (codes "alph\t\u{7}x\u{1f}\u{1f}\r") (codes "alph\n")) {
   shows = Some
       (codes "\r\u{1b}[J\u{1b}[m> \u{1b}[m\u{1b}[m\u{1b}[malph\r\u{1b}[J\u{1b}[m> \u{1b}[mal" ++
       codes "pha\u{1b}[m\u{1b}[mx\r\u{1b}[J\u{1b}[m> \u{1b}[malpha\u{1b}[m\u{1b}[m\r\u{1b}[" ++
@@ -1049,16 +1068,16 @@ row_152 = record (row 152 settings_114 (codes "alph\t\u{7}x\u{1f}\u{1f}\r") (cod
 }
 
 -- zz Tab Tab Enter = zz | shows {} z z ␇ ␇ ␍␊ {} ␍␊
-abbrev pub row_153 : Row
-row_153 = record (row 153 settings_114 (codes "zz\t\t\r") (codes "zz\n")) {
+abbrev pub row_156 : Row
+row_156 = record (row 156 settings_117 (codes "zz\t\t\r") (codes "zz\n")) {
   shows = Some
       (codes "\r\u{1b}[J\u{1b}[m> \u{1b}[m\u{1b}[m\u{1b}[mzz\u{7}\u{7}\r\n\r\u{1b}[J\u{1b}[m" ++
       codes "> \u{1b}[m\u{1b}[m\u{1b}[m\r\n");
 }
 
 -- al␠x Left Left Tab Tab C-G y Enter = aly␠x | shows {} a l ␠ x ␛[1D ␛[1D {alpha␠x}␛[2D {alpine␠x}␛[2D {al␠x}␛[2D {aly␠x}␛[2D ␛[2C␍␊ {} ␍␊
-abbrev pub row_156 : Row
-row_156 = record (row 156 settings_114 (codes "al x\u{1b}[D\u{1b}[D\t\t\u{7}y\r") (codes "aly x\n")) {
+abbrev pub row_159 : Row
+row_159 = record (row 159 settings_117 (codes "al x\u{1b}[D\u{1b}[D\t\t\u{7}y\r") (codes "aly x\n")) {
   shows = Some (codes "\r\u{1b}[J\u{1b}[m> \u{1b}[m\u{1b}[m\u{1b}[mal x\u{1b}[1D\u{1b}[1D\r\u{1b}[J"
       ++ codes "\u{1b}[m> \u{1b}[malpha x\u{1b}[m\u{1b}[m\u{1b}[2D\r\u{1b}[J\u{1b}[m> \u{1b}[m" ++
       codes "alpine x\u{1b}[m\u{1b}[m\u{1b}[2D\r\u{1b}[J\u{1b}[m> \u{1b}[mal x\u{1b}[m" ++
@@ -1067,8 +1086,8 @@ row_156 = record (row 156 settings_114 (codes "al x\u{1b}[D\u{1b}[D\t\t\u{7}y\r"
 }
 
 -- al␠x Left Left Tab Tab Tab y Enter = aly␠x | shows {} a l ␠ x ␛[1D ␛[1D {alpha␠x}␛[2D {alpine␠x}␛[2D {al␠x}␛[2D ␇ {aly␠x}␛[2D ␛[2C␍␊ {} ␍␊
-abbrev pub row_157 : Row
-row_157 = record (row 157 settings_114 (codes "al x\u{1b}[D\u{1b}[D\t\t\ty\r") (codes "aly x\n")) {
+abbrev pub row_160 : Row
+row_160 = record (row 160 settings_117 (codes "al x\u{1b}[D\u{1b}[D\t\t\ty\r") (codes "aly x\n")) {
   shows = Some (codes "\r\u{1b}[J\u{1b}[m> \u{1b}[m\u{1b}[m\u{1b}[mal x\u{1b}[1D\u{1b}[1D\r\u{1b}[J"
       ++ codes "\u{1b}[m> \u{1b}[malpha x\u{1b}[m\u{1b}[m\u{1b}[2D\r\u{1b}[J\u{1b}[m> \u{1b}[m" ++
       codes "alpine x\u{1b}[m\u{1b}[m\u{1b}[2D\r\u{1b}[J\u{1b}[m> \u{1b}[mal x\u{1b}[m" ++
@@ -1077,15 +1096,15 @@ row_157 = record (row 157 settings_114 (codes "al x\u{1b}[D\u{1b}[D\t\t\ty\r") (
 }
 
 -- modal vi words:alpha,alpine
-abbrev pub settings_160 : Settings
-settings_160 = record plain {
+abbrev pub settings_163 : Settings
+settings_163 = record plain {
   config = modal (vi plain.config);
   helping = aide false (Some ((codes "alpha") ∷ (codes "alpine") ∷ []));
 }
 
 -- al Tab Tab Esc x Enter = alpin | shows {} a l {alpha} {alpine} ␛[1D ␛[K ␍␊ {} ␍␊
-abbrev pub row_160 : Row
-row_160 = record (row 160 settings_160 (codes "al\t\t\u{1b}x\r") (codes "alpin\n")) {
+abbrev pub row_163 : Row
+row_163 = record (row 163 settings_163 (codes "al\t\t\u{1b}x\r") (codes "alpin\n")) {
   shows = Some
       (codes "\r\u{1b}[J\u{1b}[m> \u{1b}[m\u{1b}[m\u{1b}[mal\r\u{1b}[J\u{1b}[m> \u{1b}[malph" ++
       codes "a\u{1b}[m\u{1b}[m\r\u{1b}[J\u{1b}[m> \u{1b}[malpine\u{1b}[m\u{1b}[m\u{1b}[1D" ++
@@ -1093,8 +1112,8 @@ row_160 = record (row 160 settings_160 (codes "al\t\t\u{1b}x\r") (codes "alpin\n
 }
 
 -- al Tab Tab Esc u Enter = al | shows {} a l {alpha} {alpine} ␛[1D {al} ␍␊ {} ␍␊
-abbrev pub row_161 : Row
-row_161 = record (row 161 settings_160 (codes "al\t\t\u{1b}u\r") (codes "al\n")) {
+abbrev pub row_164 : Row
+row_164 = record (row 164 settings_163 (codes "al\t\t\u{1b}u\r") (codes "al\n")) {
   shows = Some
       (codes "\r\u{1b}[J\u{1b}[m> \u{1b}[m\u{1b}[m\u{1b}[mal\r\u{1b}[J\u{1b}[m> \u{1b}[malph" ++
       codes "a\u{1b}[m\u{1b}[m\r\u{1b}[J\u{1b}[m> \u{1b}[malpine\u{1b}[m\u{1b}[m\u{1b}[1D\r" ++
@@ -1103,8 +1122,8 @@ row_161 = record (row 161 settings_160 (codes "al\t\t\u{1b}u\r") (codes "al\n"))
 }
 
 -- al Tab C-G x Enter = alx | shows {} a l {alpha} {al} x ␍␊ {} ␍␊
-abbrev pub row_162 : Row
-row_162 = record (row 162 settings_160 (codes "al\t\u{7}x\r") (codes "alx\n")) {
+abbrev pub row_165 : Row
+row_165 = record (row 165 settings_163 (codes "al\t\u{7}x\r") (codes "alx\n")) {
   shows = Some
       (codes "\r\u{1b}[J\u{1b}[m> \u{1b}[m\u{1b}[m\u{1b}[mal\r\u{1b}[J\u{1b}[m> \u{1b}[malph" ++
       codes "a\u{1b}[m\u{1b}[m\r\u{1b}[J\u{1b}[m> \u{1b}[mal\u{1b}[m\u{1b}[mx\r\n\r\u{1b}[J" ++
@@ -1112,8 +1131,8 @@ row_162 = record (row 162 settings_160 (codes "al\t\u{7}x\r") (codes "alx\n")) {
 }
 
 -- al Tab Esc Tab Enter = alpha | shows {} a l {alpha} ␛[1D ␛[1C␍␊ {} ␍␊
-abbrev pub row_163 : Row
-row_163 = record (row 163 settings_160 (codes "al\t\u{1b}\t\r") (codes "alpha\n")) {
+abbrev pub row_166 : Row
+row_166 = record (row 166 settings_163 (codes "al\t\u{1b}\t\r") (codes "alpha\n")) {
   shows = Some
       (codes "\r\u{1b}[J\u{1b}[m> \u{1b}[m\u{1b}[m\u{1b}[mal\r\u{1b}[J\u{1b}[m> \u{1b}[malph" ++
       codes "a\u{1b}[m\u{1b}[m\u{1b}[1D\u{1b}[1C\r\n\r\u{1b}[J\u{1b}[m> \u{1b}[m\u{1b}[m" ++
@@ -1121,28 +1140,28 @@ row_163 = record (row 163 settings_160 (codes "al\t\u{1b}\t\r") (codes "alpha\n"
 }
 
 -- x␠ Esc aal Tab Esc u Enter = x␠al
-abbrev pub row_164 : Row
-row_164 = row 164 settings_160 (codes "x \u{1b}aal\t\u{1b}u\r") (codes "x al\n")
+abbrev pub row_167 : Row
+row_167 = row 167 settings_163 (codes "x \u{1b}aal\t\u{1b}u\r") (codes "x al\n")
 
 -- x␠ Esc aal Tab Esc u u Enter = x␠
-abbrev pub row_165 : Row
-row_165 = row 165 settings_160 (codes "x \u{1b}aal\t\u{1b}uu\r") (codes "x \n")
+abbrev pub row_168 : Row
+row_168 = row 168 settings_163 (codes "x \u{1b}aal\t\u{1b}uu\r") (codes "x \n")
 
 -- x␠ Esc aalph Tab Esc u Enter = x␠
-abbrev pub row_166 : Row
-row_166 = row 166 settings_160 (codes "x \u{1b}aalph\t\u{1b}u\r") (codes "x \n")
+abbrev pub row_169 : Row
+row_169 = row 169 settings_163 (codes "x \u{1b}aalph\t\u{1b}u\r") (codes "x \n")
 
 -- modal words:alpha,alpine loaded:#V2␊git␠status␊make␠alpha␊
-abbrev pub settings_170 : Settings
-settings_170 = record plain {
+abbrev pub settings_173 : Settings
+settings_173 = record plain {
   config = modal plain.config;
   helping = aide false (Some ((codes "alpha") ∷ (codes "alpine") ∷ []));
   loaded = codes "#V2\ngit status\nmake alpha\n";
 }
 
 -- al Tab C-R ma C-G Enter = alpha | shows {} a l {alpha} ''alpha} 'm'make␠alpha}␛[10D 'ma'make␠alpha}␛[10D {alpha} ␍␊ {} ␍␊
-abbrev pub row_170 : Row
-row_170 = record (row 170 settings_170 (codes "al\t\u{12}ma\u{7}\r") (codes "alpha\n")) {
+abbrev pub row_173 : Row
+row_173 = record (row 173 settings_173 (codes "al\t\u{12}ma\u{7}\r") (codes "alpha\n")) {
   shows = Some
       (codes "\r\u{1b}[J\u{1b}[m> \u{1b}[m\u{1b}[m\u{1b}[mal\r\u{1b}[J\u{1b}[m> \u{1b}[malph" ++
       codes "a\u{1b}[m\u{1b}[m\r\u{1b}[J\u{1b}[m(reverse-i-search)`': \u{1b}[malpha\u{1b}[m" ++
@@ -1153,8 +1172,8 @@ row_170 = record (row 170 settings_170 (codes "al\t\u{12}ma\u{7}\r") (codes "alp
 }
 
 -- al Tab Up Tab Enter = alpha | shows {} a l {alpha} ␇ {alpha} ␍␊ {} ␍␊
-abbrev pub row_171 : Row
-row_171 = record (row 171 settings_170 (codes "al\t\u{1b}[A\t\r") (codes "alpha\n")) {
+abbrev pub row_174 : Row
+row_174 = record (row 174 settings_173 (codes "al\t\u{1b}[A\t\r") (codes "alpha\n")) {
   shows = Some
       (codes "\r\u{1b}[J\u{1b}[m> \u{1b}[m\u{1b}[m\u{1b}[mal\r\u{1b}[J\u{1b}[m> \u{1b}[malph" ++
       codes "a\u{1b}[m\u{1b}[m\u{7}\r\u{1b}[J\u{1b}[m> \u{1b}[malpha\u{1b}[m\u{1b}[m\r\n\r" ++
@@ -1162,8 +1181,8 @@ row_171 = record (row 171 settings_170 (codes "al\t\u{1b}[A\t\r") (codes "alpha\
 }
 
 -- al Tab C-P Enter = make␠alpha | shows {} a l {alpha} {make␠alpha} ␍␊ {} ␍␊
-abbrev pub row_172 : Row
-row_172 = record (row 172 settings_170 (codes "al\t\u{10}\r") (codes "make alpha\n")) {
+abbrev pub row_175 : Row
+row_175 = record (row 175 settings_173 (codes "al\t\u{10}\r") (codes "make alpha\n")) {
   shows = Some
       (codes "\r\u{1b}[J\u{1b}[m> \u{1b}[m\u{1b}[m\u{1b}[mal\r\u{1b}[J\u{1b}[m> \u{1b}[malph" ++
       codes "a\u{1b}[m\u{1b}[m\r\u{1b}[J\u{1b}[m> \u{1b}[mmake alpha\u{1b}[m\u{1b}[m\r\n\r" ++
@@ -1171,16 +1190,16 @@ row_172 = record (row 172 settings_170 (codes "al\t\u{10}\r") (codes "make alpha
 }
 
 -- modal helped words:alpha,alpine loaded:#V2␊alphas␊
-abbrev pub settings_175 : Settings
-settings_175 = record plain {
+abbrev pub settings_178 : Settings
+settings_178 = record plain {
   config = modal plain.config;
   helping = aide true (Some ((codes "alpha") ∷ (codes "alpine") ∷ []));
   loaded = codes "#V2\nalphas\n";
 }
 
 -- al Tab Tab Enter = alpine | shows {} {a␛[mlphas␛[m␛[5D {al␛[mphas␛[m␛[4D {alpha␛[ms␛[m␛[1D {alpine} ␍␊ {} ␍␊
-abbrev pub row_175 : Row
-row_175 = record (row 175 settings_175 (codes "al\t\t\r") (codes "alpine\n")) {
+abbrev pub row_178 : Row
+row_178 = record (row 178 settings_178 (codes "al\t\t\r") (codes "alpine\n")) {
   shows = Some (codes "\r\u{1b}[J\u{1b}[m> \u{1b}[m\u{1b}[m\u{1b}[m\r\u{1b}[J\u{1b}[m> \u{1b}[ma" ++
       codes "\u{1b}[mlphas\u{1b}[m\u{1b}[5D\r\u{1b}[J\u{1b}[m> \u{1b}[mal\u{1b}[mphas\u{1b}" ++
       codes "[m\u{1b}[4D\r\u{1b}[J\u{1b}[m> \u{1b}[malpha\u{1b}[ms\u{1b}[m\u{1b}[1D\r\u{1b}" ++
@@ -1189,8 +1208,8 @@ row_175 = record (row 175 settings_175 (codes "al\t\t\r") (codes "alpine\n")) {
 }
 
 -- al Tab Right Enter = alphas | shows {} {a␛[mlphas␛[m␛[5D {al␛[mphas␛[m␛[4D {alpha␛[ms␛[m␛[1D {alphas} ␍␊ {} ␍␊
-abbrev pub row_176 : Row
-row_176 = record (row 176 settings_175 (codes "al\t\u{1b}[C\r") (codes "alphas\n")) {
+abbrev pub row_179 : Row
+row_179 = record (row 179 settings_178 (codes "al\t\u{1b}[C\r") (codes "alphas\n")) {
   shows = Some (codes "\r\u{1b}[J\u{1b}[m> \u{1b}[m\u{1b}[m\u{1b}[m\r\u{1b}[J\u{1b}[m> \u{1b}[ma" ++
       codes "\u{1b}[mlphas\u{1b}[m\u{1b}[5D\r\u{1b}[J\u{1b}[m> \u{1b}[mal\u{1b}[mphas\u{1b}" ++
       codes "[m\u{1b}[4D\r\u{1b}[J\u{1b}[m> \u{1b}[malpha\u{1b}[ms\u{1b}[m\u{1b}[1D\r\u{1b}" ++
@@ -1199,16 +1218,16 @@ row_176 = record (row 176 settings_175 (codes "al\t\u{1b}[C\r") (codes "alphas\n
 }
 
 -- modal words:漢字,漢文
-abbrev pub settings_179 : Settings
-settings_179 = record plain {
+abbrev pub settings_182 : Settings
+settings_182 = record plain {
   config = modal plain.config;
   helping = aide false (Some ((encode_utf8_all (codes "漢字")) ∷ (encode_utf8_all (codes "漢文")) ∷
       []));
 }
 
 -- 漢 Tab Tab Tab Enter = 漢 | shows {} {␛[m漢␛[m} {␛[m漢␛[m␛[m字␛[m} {␛[m漢␛[m␛[m文␛[m} {␛[m漢␛[m} ␇ ␍␊ {} ␍␊
-abbrev pub row_179 : Row
-row_179 = record (row 179 settings_179 (encode_utf8_all (codes "漢\t\t\t\r")) (encode_utf8_all
+abbrev pub row_182 : Row
+row_182 = record (row 182 settings_182 (encode_utf8_all (codes "漢\t\t\t\r")) (encode_utf8_all
     (codes "漢\n"))) {
       shows = Some (encode_utf8_all
           (codes "\r\u{1b}[J\u{1b}[m> \u{1b}[m\u{1b}[m\u{1b}[m\r\u{1b}[J\u{1b}[m> \u{1b}[m\u{1b}" ++
@@ -1219,16 +1238,16 @@ row_179 = record (row 179 settings_179 (encode_utf8_all (codes "漢\t\t\t\r")) (
     }
 
 -- modal columns:12 words:alphabetagammadelta,alpine
-abbrev pub settings_182 : Settings
-settings_182 = record plain {
+abbrev pub settings_185 : Settings
+settings_185 = record plain {
   config = modal plain.config;
   columns = 12;
   helping = aide false (Some ((codes "alphabetagammadelta") ∷ (codes "alpine") ∷ []));
 }
 
 -- al Tab Tab C-G Enter = al | shows {} a l {alphabetag␍␊ammadelta} ␛[1A{alpine} {al} ␍␊ {} ␍␊
-abbrev pub row_182 : Row
-row_182 = record (row 182 settings_182 (codes "al\t\t\u{7}\r") (codes "al\n")) {
+abbrev pub row_185 : Row
+row_185 = record (row 185 settings_185 (codes "al\t\t\u{7}\r") (codes "al\n")) {
   shows = Some
       (codes "\r\u{1b}[J\u{1b}[m> \u{1b}[m\u{1b}[m\u{1b}[mal\r\u{1b}[J\u{1b}[m> \u{1b}[malph" ++
       codes "abetag\r\nammadelta\u{1b}[m\u{1b}[m\u{1b}[1A\r\u{1b}[J\u{1b}[m> \u{1b}[malpine" ++
@@ -1236,24 +1255,42 @@ row_182 = record (row 182 settings_182 (codes "al\t\t\u{7}\r") (codes "al\n")) {
       codes "\u{1b}[m> \u{1b}[m\u{1b}[m\u{1b}[m\r\n");
 }
 
+-- modal words:grün,größe
+abbrev pub settings_188 : Settings
+settings_188 = record plain {
+  config = modal plain.config;
+  helping = aide false (Some ((encode_utf8_all (codes "grün")) ∷ (encode_utf8_all (codes "größe")) ∷
+      []));
+}
+
+-- Tab Tab C-G Enter = "" | shows {} {gr␛[mü␛[mn} {gr␛[mö␛[m␛[mß␛[me} {} ␍␊ {} ␍␊
+abbrev pub row_188 : Row
+row_188 = record (row 188 settings_188 (codes "\t\t\u{7}\r") (codes "\n")) {
+  shows = Some (encode_utf8_all
+      (codes "\r\u{1b}[J\u{1b}[m> \u{1b}[m\u{1b}[m\u{1b}[m\r\u{1b}[J\u{1b}[m> \u{1b}[mgr" ++
+      codes "\u{1b}[mü\u{1b}[mn\u{1b}[m\u{1b}[m\r\u{1b}[J\u{1b}[m> \u{1b}[mgr\u{1b}[mö" ++
+      codes "\u{1b}[m\u{1b}[mß\u{1b}[me\u{1b}[m\u{1b}[m\r\u{1b}[J\u{1b}[m> \u{1b}[m\u{1b}[m" ++
+      codes "\u{1b}[m\r\n\r\u{1b}[J\u{1b}[m> \u{1b}[m\u{1b}[m\u{1b}[m\r\n"));
+}
+
 -- modal words:alp,alpha
-abbrev pub settings_186 : Settings
-settings_186 = record plain {
+abbrev pub settings_192 : Settings
+settings_192 = record plain {
   config = modal plain.config;
   helping = aide false (Some ((codes "alp") ∷ (codes "alpha") ∷ []));
 }
 
 -- alp Tab Enter = alp | shows {} a l p {alp} ␍␊ {} ␍␊
-abbrev pub row_186 : Row
-row_186 = record (row 186 settings_186 (codes "alp\t\r") (codes "alp\n")) {
+abbrev pub row_192 : Row
+row_192 = record (row 192 settings_192 (codes "alp\t\r") (codes "alp\n")) {
   shows = Some
       (codes "\r\u{1b}[J\u{1b}[m> \u{1b}[m\u{1b}[m\u{1b}[malp\r\u{1b}[J\u{1b}[m> \u{1b}[malp" ++
       codes "\u{1b}[m\u{1b}[m\r\n\r\u{1b}[J\u{1b}[m> \u{1b}[m\u{1b}[m\u{1b}[m\r\n");
 }
 
 -- alp Tab Tab Enter = alpha | shows {} a l p {alp} {alpha} ␍␊ {} ␍␊
-abbrev pub row_187 : Row
-row_187 = record (row 187 settings_186 (codes "alp\t\t\r") (codes "alpha\n")) {
+abbrev pub row_193 : Row
+row_193 = record (row 193 settings_192 (codes "alp\t\t\r") (codes "alpha\n")) {
   shows = Some
       (codes "\r\u{1b}[J\u{1b}[m> \u{1b}[m\u{1b}[m\u{1b}[malp\r\u{1b}[J\u{1b}[m> \u{1b}[malp" ++
       codes "\u{1b}[m\u{1b}[m\r\u{1b}[J\u{1b}[m> \u{1b}[malpha\u{1b}[m\u{1b}[m\r\n\r\u{1b}[" ++
@@ -1261,8 +1298,8 @@ row_187 = record (row 187 settings_186 (codes "alp\t\t\r") (codes "alpha\n")) {
 }
 
 -- alp Tab C-_ C-_ Enter = "" | shows {} a l p {alp} {alp} {} ␍␊ {} ␍␊
-abbrev pub row_188 : Row
-row_188 = record (row 188 settings_186 (codes "alp\t\u{1f}\u{1f}\r") (codes "\n")) {
+abbrev pub row_194 : Row
+row_194 = record (row 194 settings_192 (codes "alp\t\u{1f}\u{1f}\r") (codes "\n")) {
   shows = Some
       (codes "\r\u{1b}[J\u{1b}[m> \u{1b}[m\u{1b}[m\u{1b}[malp\r\u{1b}[J\u{1b}[m> \u{1b}[malp" ++
       codes "\u{1b}[m\u{1b}[m\r\u{1b}[J\u{1b}[m> \u{1b}[malp\u{1b}[m\u{1b}[m\r\u{1b}[J" ++
@@ -1271,15 +1308,15 @@ row_188 = record (row 188 settings_186 (codes "alp\t\u{1f}\u{1f}\r") (codes "\n"
 }
 
 -- modal words:alpha,alpha
-abbrev pub settings_191 : Settings
-settings_191 = record plain {
+abbrev pub settings_197 : Settings
+settings_197 = record plain {
   config = modal plain.config;
   helping = aide false (Some ((codes "alpha") ∷ (codes "alpha") ∷ []));
 }
 
 -- alph Tab Tab Tab Enter = alph | shows {} a l p h {alpha} {alpha} {alph} ␇ ␍␊ {} ␍␊
-abbrev pub row_191 : Row
-row_191 = record (row 191 settings_191 (codes "alph\t\t\t\r") (codes "alph\n")) {
+abbrev pub row_197 : Row
+row_197 = record (row 197 settings_197 (codes "alph\t\t\t\r") (codes "alph\n")) {
   shows = Some
       (codes "\r\u{1b}[J\u{1b}[m> \u{1b}[m\u{1b}[m\u{1b}[malph\r\u{1b}[J\u{1b}[m> \u{1b}[mal" ++
       codes "pha\u{1b}[m\u{1b}[m\r\u{1b}[J\u{1b}[m> \u{1b}[malpha\u{1b}[m\u{1b}[m\r\u{1b}[J" ++
@@ -1288,30 +1325,30 @@ row_191 = record (row 191 settings_191 (codes "alph\t\t\t\r") (codes "alph\n")) 
 }
 
 -- modal words:,alpha
-abbrev pub settings_194 : Settings
-settings_194 = record plain {
+abbrev pub settings_200 : Settings
+settings_200 = record plain {
   config = modal plain.config;
   helping = aide false (Some ([] ∷ (codes "alpha") ∷ []));
 }
 
 -- x␠ Tab Enter = x␠ | shows {} x ␠ {x␠} ␇ ␍␊ {} ␍␊
-abbrev pub row_194 : Row
-row_194 = record (row 194 settings_194 (codes "x \t\r") (codes "x \n")) {
+abbrev pub row_200 : Row
+row_200 = record (row 200 settings_200 (codes "x \t\r") (codes "x \n")) {
   shows = Some (codes "\r\u{1b}[J\u{1b}[m> \u{1b}[m\u{1b}[m\u{1b}[mx \r\u{1b}[J\u{1b}[m> \u{1b}[mx "
       ++ codes "\u{1b}[m\u{1b}[m\u{7}\r\n\r\u{1b}[J\u{1b}[m> \u{1b}[m\u{1b}[m\u{1b}[m\r\n");
 }
 
 -- x␠ Tab Tab Enter = x␠alpha | shows {} x ␠ {x␠} ␇ {x␠alpha} ␍␊ {} ␍␊
-abbrev pub row_195 : Row
-row_195 = record (row 195 settings_194 (codes "x \t\t\r") (codes "x alpha\n")) {
+abbrev pub row_201 : Row
+row_201 = record (row 201 settings_200 (codes "x \t\t\r") (codes "x alpha\n")) {
   shows = Some (codes "\r\u{1b}[J\u{1b}[m> \u{1b}[m\u{1b}[m\u{1b}[mx \r\u{1b}[J\u{1b}[m> \u{1b}[mx "
       ++ codes "\u{1b}[m\u{1b}[m\u{7}\r\u{1b}[J\u{1b}[m> \u{1b}[mx alpha\u{1b}[m\u{1b}[m\r\n\r" ++
       codes "\u{1b}[J\u{1b}[m> \u{1b}[m\u{1b}[m\u{1b}[m\r\n");
 }
 
 -- x␠ Tab Tab Tab Enter = x␠ | shows {} x ␠ {x␠} ␇ {x␠alpha} {x␠} ␇ ␍␊ {} ␍␊
-abbrev pub row_196 : Row
-row_196 = record (row 196 settings_194 (codes "x \t\t\t\r") (codes "x \n")) {
+abbrev pub row_202 : Row
+row_202 = record (row 202 settings_200 (codes "x \t\t\t\r") (codes "x \n")) {
   shows = Some (codes "\r\u{1b}[J\u{1b}[m> \u{1b}[m\u{1b}[m\u{1b}[mx \r\u{1b}[J\u{1b}[m> \u{1b}[mx "
       ++ codes "\u{1b}[m\u{1b}[m\u{7}\r\u{1b}[J\u{1b}[m> \u{1b}[mx alpha\u{1b}[m\u{1b}[m\r" ++
       codes "\u{1b}[J\u{1b}[m> \u{1b}[mx \u{1b}[m\u{1b}[m\u{7}\r\n\r\u{1b}[J\u{1b}[m> " ++
@@ -1319,97 +1356,97 @@ row_196 = record (row 196 settings_194 (codes "x \t\t\t\r") (codes "x \n")) {
 }
 
 -- x␠ Tab C-G y Enter = x␠y | shows {} x ␠ {x␠} ␇ {x␠} y ␍␊ {} ␍␊
-abbrev pub row_197 : Row
-row_197 = record (row 197 settings_194 (codes "x \t\u{7}y\r") (codes "x y\n")) {
+abbrev pub row_203 : Row
+row_203 = record (row 203 settings_200 (codes "x \t\u{7}y\r") (codes "x y\n")) {
   shows = Some (codes "\r\u{1b}[J\u{1b}[m> \u{1b}[m\u{1b}[m\u{1b}[mx \r\u{1b}[J\u{1b}[m> \u{1b}[mx "
       ++ codes "\u{1b}[m\u{1b}[m\u{7}\r\u{1b}[J\u{1b}[m> \u{1b}[mx \u{1b}[m\u{1b}[my\r\n\r" ++
       codes "\u{1b}[J\u{1b}[m> \u{1b}[m\u{1b}[m\u{1b}[m\r\n");
 }
 
 -- x␠ Tab C-_ Enter = x | shows {} x ␠ {x␠} ␇ {x} ␍␊ {} ␍␊
-abbrev pub row_198 : Row
-row_198 = record (row 198 settings_194 (codes "x \t\u{1f}\r") (codes "x\n")) {
+abbrev pub row_204 : Row
+row_204 = record (row 204 settings_200 (codes "x \t\u{1f}\r") (codes "x\n")) {
   shows = Some (codes "\r\u{1b}[J\u{1b}[m> \u{1b}[m\u{1b}[m\u{1b}[mx \r\u{1b}[J\u{1b}[m> \u{1b}[mx "
       ++ codes "\u{1b}[m\u{1b}[m\u{7}\r\u{1b}[J\u{1b}[m> \u{1b}[mx\u{1b}[m\u{1b}[m\r\n\r\u{1b}" ++
       codes "[J\u{1b}[m> \u{1b}[m\u{1b}[m\u{1b}[m\r\n");
 }
 
 -- modal
-abbrev pub settings_202 : Settings
-settings_202 = record plain {
+abbrev pub settings_208 : Settings
+settings_208 = record plain {
   config = modal plain.config;
 }
 
 -- al Tab Tab Enter = al | shows {} a l ␍␊ {} ␍␊
-abbrev pub row_202 : Row
-row_202 = record (row 202 settings_202 (codes "al\t\t\r") (codes "al\n")) {
+abbrev pub row_208 : Row
+row_208 = record (row 208 settings_208 (codes "al\t\t\r") (codes "al\n")) {
   shows = Some
       (codes "\r\u{1b}[J\u{1b}[m> \u{1b}[m\u{1b}[m\u{1b}[mal\r\n\r\u{1b}[J\u{1b}[m> \u{1b}[m" ++
       codes "\u{1b}[m\u{1b}[m\r\n");
 }
 
 -- modal listed
-abbrev pub settings_205 : Settings
-settings_205 = record plain {
+abbrev pub settings_211 : Settings
+settings_211 = record plain {
   config = listed (modal plain.config);
 }
 
 -- al Tab Tab Enter = al | shows {} a l ␍␊ {} ␍␊
-abbrev pub row_205 : Row
-row_205 = record (row 205 settings_205 (codes "al\t\t\r") (codes "al\n")) {
+abbrev pub row_211 : Row
+row_211 = record (row 211 settings_211 (codes "al\t\t\r") (codes "al\n")) {
   shows = Some
       (codes "\r\u{1b}[J\u{1b}[m> \u{1b}[m\u{1b}[m\u{1b}[mal\r\n\r\u{1b}[J\u{1b}[m> \u{1b}[m" ++
       codes "\u{1b}[m\u{1b}[m\r\n");
 }
 
 -- modal helped
-abbrev pub settings_208 : Settings
-settings_208 = record plain {
+abbrev pub settings_214 : Settings
+settings_214 = record plain {
   config = modal plain.config;
   helping = aide true None;
 }
 
 -- al Tab Tab Enter = al | shows {} a l ␇ ␇ ␍␊ {} ␍␊
-abbrev pub row_208 : Row
-row_208 = record (row 208 settings_208 (codes "al\t\t\r") (codes "al\n")) {
+abbrev pub row_214 : Row
+row_214 = record (row 214 settings_214 (codes "al\t\t\r") (codes "al\n")) {
   shows = Some
       (codes "\r\u{1b}[J\u{1b}[m> \u{1b}[m\u{1b}[m\u{1b}[mal\u{7}\u{7}\r\n\r\u{1b}[J\u{1b}[m" ++
       codes "> \u{1b}[m\u{1b}[m\u{1b}[m\r\n");
 }
 
 -- listed at-once words:alpha,alpine
-abbrev pub settings_212 : Settings
-settings_212 = record plain {
+abbrev pub settings_218 : Settings
+settings_218 = record plain {
   config = at_once (listed plain.config);
   helping = aide false (Some ((codes "alpha") ∷ (codes "alpine") ∷ []));
 }
 
 -- al Tab Tab Enter = alp | shows {} a l {alp} ␇ ␍␊ {} ␍␊
-abbrev pub row_212 : Row
-row_212 = record (row 212 settings_212 (codes "al\t\t\r") (codes "alp\n")) {
+abbrev pub row_218 : Row
+row_218 = record (row 218 settings_218 (codes "al\t\t\r") (codes "alp\n")) {
   shows = Some
       (codes "\r\u{1b}[J\u{1b}[m> \u{1b}[m\u{1b}[m\u{1b}[mal\r\u{1b}[J\u{1b}[m> \u{1b}[malp" ++
       codes "\u{1b}[m\u{1b}[m\u{7}\r\n\r\u{1b}[J\u{1b}[m> \u{1b}[m\u{1b}[m\u{1b}[m\r\n");
 }
 
 -- modal words:alpha ends:␠
-abbrev pub settings_216 : Settings
-settings_216 = record plain {
+abbrev pub settings_222 : Settings
+settings_222 = record plain {
   config = modal plain.config;
   helping = aide_ending (codes " ") false (Some ((codes "alpha") ∷ []));
 }
 
 -- al Tab x Enter = alpha␠x | shows {} a l {alpha␠} x ␍␊ {} ␍␊
-abbrev pub row_216 : Row
-row_216 = record (row 216 settings_216 (codes "al\tx\r") (codes "alpha x\n")) {
+abbrev pub row_222 : Row
+row_222 = record (row 222 settings_222 (codes "al\tx\r") (codes "alpha x\n")) {
   shows = Some
       (codes "\r\u{1b}[J\u{1b}[m> \u{1b}[m\u{1b}[m\u{1b}[mal\r\u{1b}[J\u{1b}[m> \u{1b}[malph" ++
       codes "a \u{1b}[m\u{1b}[mx\r\n\r\u{1b}[J\u{1b}[m> \u{1b}[m\u{1b}[m\u{1b}[m\r\n");
 }
 
 -- al Tab C-_ Enter = al | shows {} a l {alpha␠} {al} ␍␊ {} ␍␊
-abbrev pub row_217 : Row
-row_217 = record (row 217 settings_216 (codes "al\t\u{1f}\r") (codes "al\n")) {
+abbrev pub row_223 : Row
+row_223 = record (row 223 settings_222 (codes "al\t\u{1f}\r") (codes "al\n")) {
   shows = Some
       (codes "\r\u{1b}[J\u{1b}[m> \u{1b}[m\u{1b}[m\u{1b}[mal\r\u{1b}[J\u{1b}[m> \u{1b}[malph" ++
       codes "a \u{1b}[m\u{1b}[m\r\u{1b}[J\u{1b}[m> \u{1b}[mal\u{1b}[m\u{1b}[m\r\n\r\u{1b}[J" ++
@@ -1417,8 +1454,8 @@ row_217 = record (row 217 settings_216 (codes "al\t\u{1f}\r") (codes "al\n")) {
 }
 
 -- al Tab Tab Enter = alpha␠alpha␠ | shows {} a l {alpha␠} {alpha␠alpha␠} ␍␊ {} ␍␊
-abbrev pub row_218 : Row
-row_218 = record (row 218 settings_216 (codes "al\t\t\r") (codes "alpha alpha \n")) {
+abbrev pub row_224 : Row
+row_224 = record (row 224 settings_222 (codes "al\t\t\r") (codes "alpha alpha \n")) {
   shows = Some
       (codes "\r\u{1b}[J\u{1b}[m> \u{1b}[m\u{1b}[m\u{1b}[mal\r\u{1b}[J\u{1b}[m> \u{1b}[malph" ++
       codes "a \u{1b}[m\u{1b}[m\r\u{1b}[J\u{1b}[m> \u{1b}[malpha alpha \u{1b}[m\u{1b}[m\r\n" ++
@@ -1426,8 +1463,8 @@ row_218 = record (row 218 settings_216 (codes "al\t\t\r") (codes "alpha alpha \n
 }
 
 -- al␠x Left Left Tab y Enter = alpha␠y␠x | shows {} a l ␠ x ␛[1D ␛[1D {alpha␠␠x}␛[2D {alpha␠y␠x}␛[2D ␛[2C␍␊ {} ␍␊
-abbrev pub row_219 : Row
-row_219 = record (row 219 settings_216 (codes "al x\u{1b}[D\u{1b}[D\ty\r") (codes "alpha y x\n")) {
+abbrev pub row_225 : Row
+row_225 = record (row 225 settings_222 (codes "al x\u{1b}[D\u{1b}[D\ty\r") (codes "alpha y x\n")) {
   shows = Some (codes "\r\u{1b}[J\u{1b}[m> \u{1b}[m\u{1b}[m\u{1b}[mal x\u{1b}[1D\u{1b}[1D\r\u{1b}[J"
       ++ codes "\u{1b}[m> \u{1b}[malpha  x\u{1b}[m\u{1b}[m\u{1b}[2D\r\u{1b}[J\u{1b}[m> \u{1b}[" ++
       codes "malpha y x\u{1b}[m\u{1b}[m\u{1b}[2D\u{1b}[2C\r\n\r\u{1b}[J\u{1b}[m> \u{1b}[m" ++
@@ -1435,15 +1472,15 @@ row_219 = record (row 219 settings_216 (codes "al x\u{1b}[D\u{1b}[D\ty\r") (code
 }
 
 -- modal listed words:alpha,alpine ends:␠
-abbrev pub settings_222 : Settings
-settings_222 = record plain {
+abbrev pub settings_228 : Settings
+settings_228 = record plain {
   config = listed (modal plain.config);
   helping = aide_ending (codes " ") false (Some ((codes "alpha") ∷ (codes "alpine") ∷ []));
 }
 
 -- al Tab Tab h Tab Enter = alpha␠ | shows {} a l {alp} {alp␛[m␍␊alpha␍␊alpine␛[m␛[2A␛[1D {alp} h {alpha␠} ␍␊ {} ␍␊
-abbrev pub row_222 : Row
-row_222 = record (row 222 settings_222 (codes "al\t\th\t\r") (codes "alpha \n")) {
+abbrev pub row_228 : Row
+row_228 = record (row 228 settings_228 (codes "al\t\th\t\r") (codes "alpha \n")) {
   shows = Some
       (codes "\r\u{1b}[J\u{1b}[m> \u{1b}[m\u{1b}[m\u{1b}[mal\r\u{1b}[J\u{1b}[m> \u{1b}[malp" ++
       codes "\u{1b}[m\u{1b}[m\r\u{1b}[J\u{1b}[m> \u{1b}[malp\u{1b}[m\r\nalpha\r\nalpine" ++
@@ -1453,15 +1490,15 @@ row_222 = record (row 222 settings_222 (codes "al\t\th\t\r") (codes "alpha \n"))
 }
 
 -- modal words:alpha,alpine ends:␠
-abbrev pub settings_225 : Settings
-settings_225 = record plain {
+abbrev pub settings_231 : Settings
+settings_231 = record plain {
   config = modal plain.config;
   helping = aide_ending (codes " ") false (Some ((codes "alpha") ∷ (codes "alpine") ∷ []));
 }
 
 -- al Tab Tab Enter = alpine | shows {} a l {alpha} {alpine} ␍␊ {} ␍␊
-abbrev pub row_225 : Row
-row_225 = record (row 225 settings_225 (codes "al\t\t\r") (codes "alpine\n")) {
+abbrev pub row_231 : Row
+row_231 = record (row 231 settings_231 (codes "al\t\t\r") (codes "alpine\n")) {
   shows = Some
       (codes "\r\u{1b}[J\u{1b}[m> \u{1b}[m\u{1b}[m\u{1b}[mal\r\u{1b}[J\u{1b}[m> \u{1b}[malph" ++
       codes "a\u{1b}[m\u{1b}[m\r\u{1b}[J\u{1b}[m> \u{1b}[malpine\u{1b}[m\u{1b}[m\r\n\r" ++
@@ -1469,23 +1506,23 @@ row_225 = record (row 225 settings_225 (codes "al\t\t\r") (codes "alpine\n")) {
 }
 
 -- alph Tab x Enter = alpha␠x | shows {} a l p h {alpha␠} x ␍␊ {} ␍␊
-abbrev pub row_226 : Row
-row_226 = record (row 226 settings_225 (codes "alph\tx\r") (codes "alpha x\n")) {
+abbrev pub row_232 : Row
+row_232 = record (row 232 settings_231 (codes "alph\tx\r") (codes "alpha x\n")) {
   shows = Some
       (codes "\r\u{1b}[J\u{1b}[m> \u{1b}[m\u{1b}[m\u{1b}[malph\r\u{1b}[J\u{1b}[m> \u{1b}[mal" ++
       codes "pha \u{1b}[m\u{1b}[mx\r\n\r\u{1b}[J\u{1b}[m> \u{1b}[m\u{1b}[m\u{1b}[m\r\n");
 }
 
 -- modal vi words:"my␠file ends:"
-abbrev pub settings_229 : Settings
-settings_229 = record plain {
+abbrev pub settings_235 : Settings
+settings_235 = record plain {
   config = modal (vi plain.config);
   helping = aide_ending (codes "\"") false (Some ((codes "\"my file") ∷ []));
 }
 
 -- ls␠"my Tab Enter = ls␠"my␠file" | shows {} l s ␠ " m y {ls␠"my␠file"} ␍␊ {} ␍␊
-abbrev pub row_229 : Row
-row_229 = record (row 229 settings_229 (codes "ls \"my\t\r") (codes "ls \"my file\"\n")) {
+abbrev pub row_235 : Row
+row_235 = record (row 235 settings_235 (codes "ls \"my\t\r") (codes "ls \"my file\"\n")) {
   shows = Some
       (codes "\r\u{1b}[J\u{1b}[m> \u{1b}[m\u{1b}[m\u{1b}[mls \"my\r\u{1b}[J\u{1b}[m> \u{1b}[" ++
       codes "mls \"my file\"\u{1b}[m\u{1b}[m\r\n\r\u{1b}[J\u{1b}[m> \u{1b}[m\u{1b}[m\u{1b}[" ++
@@ -1493,14 +1530,14 @@ row_229 = record (row 229 settings_229 (codes "ls \"my\t\r") (codes "ls \"my fil
 }
 
 -- words:alpha ends:␠
-abbrev pub settings_232 : Settings
-settings_232 = record plain {
+abbrev pub settings_238 : Settings
+settings_238 = record plain {
   helping = aide_ending (codes " ") false (Some ((codes "alpha") ∷ []));
 }
 
 -- al Tab Enter = alpha | shows {} a l {alpha} ␍␊ {} ␍␊
-abbrev pub row_232 : Row
-row_232 = record (row 232 settings_232 (codes "al\t\r") (codes "alpha\n")) {
+abbrev pub row_238 : Row
+row_238 = record (row 238 settings_238 (codes "al\t\r") (codes "alpha\n")) {
   shows = Some
       (codes "\r\u{1b}[J\u{1b}[m> \u{1b}[m\u{1b}[m\u{1b}[mal\r\u{1b}[J\u{1b}[m> \u{1b}[malph" ++
       codes "a\u{1b}[m\u{1b}[m\r\n\r\u{1b}[J\u{1b}[m> \u{1b}[m\u{1b}[m\u{1b}[m\r\n");
@@ -1512,13 +1549,13 @@ candidates_rows = row_7 ∷ row_8 ∷ row_9 ∷ row_10 ∷ row_11 ∷ row_12 ∷
     ∷ row_29 ∷ row_30 ∷ row_31 ∷ row_32 ∷ row_33 ∷ row_34 ∷ row_37 ∷ row_38 ∷ row_39 ∷ row_40 ∷
     row_41 ∷ row_42 ∷ row_45 ∷ row_46 ∷ row_49 ∷ row_50 ∷ row_51 ∷ row_52 ∷ row_53 ∷ row_57 ∷ row_58
     ∷ row_59 ∷ row_62 ∷ row_66 ∷ row_67 ∷ row_68 ∷ row_72 ∷ row_73 ∷ row_76 ∷ row_77 ∷ row_80 ∷
-    row_84 ∷ row_85 ∷ row_86 ∷ row_87 ∷ row_88 ∷ row_92 ∷ row_95 ∷ row_98 ∷ row_101 ∷ row_104 ∷
-    row_107 ∷ row_110 ∷ row_114 ∷ row_115 ∷ row_116 ∷ row_117 ∷ row_118 ∷ row_119 ∷ row_120 ∷
-    row_121 ∷ row_122 ∷ row_123 ∷ row_124 ∷ row_125 ∷ row_126 ∷ row_129 ∷ row_130 ∷ row_131 ∷
-    row_132 ∷ row_133 ∷ row_134 ∷ row_135 ∷ row_136 ∷ row_139 ∷ row_140 ∷ row_141 ∷ row_142 ∷
-    row_143 ∷ row_144 ∷ row_145 ∷ row_146 ∷ row_147 ∷ row_148 ∷ row_151 ∷ row_152 ∷ row_153 ∷
-    row_156 ∷ row_157 ∷ row_160 ∷ row_161 ∷ row_162 ∷ row_163 ∷ row_164 ∷ row_165 ∷ row_166 ∷
-    row_170 ∷ row_171 ∷ row_172 ∷ row_175 ∷ row_176 ∷ row_179 ∷ row_182 ∷ row_186 ∷ row_187 ∷
-    row_188 ∷ row_191 ∷ row_194 ∷ row_195 ∷ row_196 ∷ row_197 ∷ row_198 ∷ row_202 ∷ row_205 ∷
-    row_208 ∷ row_212 ∷ row_216 ∷ row_217 ∷ row_218 ∷ row_219 ∷ row_222 ∷ row_225 ∷ row_226 ∷
-    row_229 ∷ row_232 ∷ []
+    row_84 ∷ row_85 ∷ row_86 ∷ row_87 ∷ row_88 ∷ row_91 ∷ row_95 ∷ row_98 ∷ row_101 ∷ row_104 ∷
+    row_107 ∷ row_110 ∷ row_113 ∷ row_117 ∷ row_118 ∷ row_119 ∷ row_120 ∷ row_121 ∷ row_122 ∷
+    row_123 ∷ row_124 ∷ row_125 ∷ row_126 ∷ row_127 ∷ row_128 ∷ row_129 ∷ row_132 ∷ row_133 ∷
+    row_134 ∷ row_135 ∷ row_136 ∷ row_137 ∷ row_138 ∷ row_139 ∷ row_142 ∷ row_143 ∷ row_144 ∷
+    row_145 ∷ row_146 ∷ row_147 ∷ row_148 ∷ row_149 ∷ row_150 ∷ row_151 ∷ row_154 ∷ row_155 ∷
+    row_156 ∷ row_159 ∷ row_160 ∷ row_163 ∷ row_164 ∷ row_165 ∷ row_166 ∷ row_167 ∷ row_168 ∷
+    row_169 ∷ row_173 ∷ row_174 ∷ row_175 ∷ row_178 ∷ row_179 ∷ row_182 ∷ row_185 ∷ row_188 ∷
+    row_192 ∷ row_193 ∷ row_194 ∷ row_197 ∷ row_200 ∷ row_201 ∷ row_202 ∷ row_203 ∷ row_204 ∷
+    row_208 ∷ row_211 ∷ row_214 ∷ row_218 ∷ row_222 ∷ row_223 ∷ row_224 ∷ row_225 ∷ row_228 ∷
+    row_231 ∷ row_232 ∷ row_235 ∷ row_238 ∷ []

@@ -1,6 +1,6 @@
 -- The rows of emacs.txt; tests/definition/worked_rows.py writes them.
 use Rattle.line_config.specs.declared.errors.ReadlineError.TheVariants.{Interrupted}
-use Rattle.std.specs.Prelude.{List, [], ◌∷◌, Some, codes, encode_utf8_all}
+use Rattle.std.specs.Prelude.{List, [], ◌∷◌, ◌++◌, Some, codes, encode_utf8_all}
 use Rattle.worked_rows.specs.Playing.{Row, row}
 use Rattle.worked_rows.specs.Settings.{Settings, adding, plain}
 
@@ -254,320 +254,386 @@ row_70 = row 70 plain (codes "one\u{15}\u{19}\r\u{19}\r") (codes "one\none\n")
 abbrev pub row_71 : Row
 row_71 = row 71 plain (codes "ab\u{15}\u{1b}3\u{19}\r") (codes "ababab\n")
 
--- C-y a Enter = a
+-- a␠b C-w ␛␡ C-y Enter = a␠b
 abbrev pub row_72 : Row
-row_72 = row 72 plain (codes "\u{19}a\r") (codes "a\n")
+row_72 = row 72 plain (codes "a b\u{17}\u{1b}\u{7f}\u{19}\r") (codes "a b\n")
+
+-- a␠b C-w Left ␛␡ C-y M-y Enter = b␠
+abbrev pub row_73 : Row
+row_73 = row 73 plain (codes "a b\u{17}\u{1b}[D\u{1b}\u{7f}\u{19}\u{1b}y\r") (codes "b \n")
+
+-- ab Backspace C-y Enter = a
+abbrev pub row_74 : Row
+row_74 = row 74 plain (codes "ab\u{7f}\u{19}\r") (codes "a\n")
+
+-- C-y a Enter = a
+abbrev pub row_75 : Row
+row_75 = row 75 plain (codes "\u{19}a\r") (codes "a\n")
 
 -- one C-u x M-y Enter = x
-abbrev pub row_73 : Row
-row_73 = row 73 plain (codes "one\u{15}x\u{1b}y\r") (codes "x\n")
+abbrev pub row_76 : Row
+row_76 = row 76 plain (codes "one\u{15}x\u{1b}y\r") (codes "x\n")
 
 -- one␠two C-a M-d C-e C-y Enter = ␠twoone
-abbrev pub row_74 : Row
-row_74 = row 74 plain (codes "one two\u{1}\u{1b}d\u{5}\u{19}\r") (codes " twoone\n")
+abbrev pub row_77 : Row
+row_77 = row 77 plain (codes "one two\u{1}\u{1b}d\u{5}\u{19}\r") (codes " twoone\n")
 
 -- one␠two␠six C-w C-w C-a C-y ␠ Enter = two␠six␠one␠
-abbrev pub row_75 : Row
-row_75 = row 75 plain (codes "one two six\u{17}\u{17}\u{1}\u{19} \r") (codes "two six one \n")
+abbrev pub row_78 : Row
+row_78 = row 78 plain (codes "one two six\u{17}\u{17}\u{1}\u{19} \r") (codes "two six one \n")
 
 -- abc C-_ Enter = ""
-abbrev pub row_78 : Row
-row_78 = row 78 plain (codes "abc\u{1f}\r") (codes "\n")
+abbrev pub row_81 : Row
+row_81 = row 81 plain (codes "abc\u{1f}\r") (codes "\n")
 
 -- one␠two C-_ Enter = one
-abbrev pub row_79 : Row
-row_79 = row 79 plain (codes "one two\u{1f}\r") (codes "one\n")
+abbrev pub row_82 : Row
+row_82 = row 82 plain (codes "one two\u{1f}\r") (codes "one\n")
 
 -- one␠two C-_ C-_ Enter = ""
-abbrev pub row_80 : Row
-row_80 = row 80 plain (codes "one two\u{1f}\u{1f}\r") (codes "\n")
+abbrev pub row_83 : Row
+row_83 = row 83 plain (codes "one two\u{1f}\u{1f}\r") (codes "\n")
 
 -- one␠two C-w C-_ Enter = one␠two
-abbrev pub row_81 : Row
-row_81 = row 81 plain (codes "one two\u{17}\u{1f}\r") (codes "one two\n")
+abbrev pub row_84 : Row
+row_84 = row 84 plain (codes "one two\u{17}\u{1f}\r") (codes "one two\n")
 
 -- abc C-x C-u Enter = ""
-abbrev pub row_82 : Row
-row_82 = row 82 plain (codes "abc\u{18}\u{15}\r") (codes "\n")
+abbrev pub row_85 : Row
+row_85 = row 85 plain (codes "abc\u{18}\u{15}\r") (codes "\n")
 
 -- abc C-a C-k C-_ Enter = abc
-abbrev pub row_83 : Row
-row_83 = row 83 plain (codes "abc\u{1}\u{b}\u{1f}\r") (codes "abc\n")
+abbrev pub row_86 : Row
+row_86 = row 86 plain (codes "abc\u{1}\u{b}\u{1f}\r") (codes "abc\n")
 
 -- abc Backspace C-_ Enter = abc
-abbrev pub row_84 : Row
-row_84 = row 84 plain (codes "abc\u{7f}\u{1f}\r") (codes "abc\n")
+abbrev pub row_87 : Row
+row_87 = row 87 plain (codes "abc\u{7f}\u{1f}\r") (codes "abc\n")
 
 -- C-_ a Enter = a
-abbrev pub row_85 : Row
-row_85 = row 85 plain (codes "\u{1f}a\r") (codes "a\n")
+abbrev pub row_88 : Row
+row_88 = row 88 plain (codes "\u{1f}a\r") (codes "a\n")
 
 -- ab Enter cd C-_ Enter = ab ""
-abbrev pub row_86 : Row
-row_86 = row 86 plain (codes "ab\rcd\u{1f}\r") (codes "ab\n\n")
+abbrev pub row_89 : Row
+row_89 = row 89 plain (codes "ab\rcd\u{1f}\r") (codes "ab\n\n")
 
 -- one␠two C-w C-y C-y C-_ Enter = one␠two
-abbrev pub row_87 : Row
-row_87 = row 87 plain (codes "one two\u{17}\u{19}\u{19}\u{1f}\r") (codes "one two\n")
+abbrev pub row_90 : Row
+row_90 = row 90 plain (codes "one two\u{17}\u{19}\u{19}\u{1f}\r") (codes "one two\n")
 
 -- ab C-t Enter = ba
-abbrev pub row_90 : Row
-row_90 = row 90 plain (codes "ab\u{14}\r") (codes "ba\n")
+abbrev pub row_93 : Row
+row_93 = row 93 plain (codes "ab\u{14}\r") (codes "ba\n")
 
 -- abc C-b C-t Enter = acb
-abbrev pub row_91 : Row
-row_91 = row 91 plain (codes "abc\u{2}\u{14}\r") (codes "acb\n")
+abbrev pub row_94 : Row
+row_94 = row 94 plain (codes "abc\u{2}\u{14}\r") (codes "acb\n")
 
 -- abc C-a C-t Enter = abc
-abbrev pub row_92 : Row
-row_92 = row 92 plain (codes "abc\u{1}\u{14}\r") (codes "abc\n")
+abbrev pub row_95 : Row
+row_95 = row 95 plain (codes "abc\u{1}\u{14}\r") (codes "abc\n")
 
 -- a C-t Enter = a
-abbrev pub row_93 : Row
-row_93 = row 93 plain (codes "a\u{14}\r") (codes "a\n")
+abbrev pub row_96 : Row
+row_96 = row 96 plain (codes "a\u{14}\r") (codes "a\n")
 
 -- one␠two M-t Enter = two␠one
-abbrev pub row_94 : Row
-row_94 = row 94 plain (codes "one two\u{1b}t\r") (codes "two one\n")
+abbrev pub row_97 : Row
+row_97 = row 97 plain (codes "one two\u{1b}t\r") (codes "two one\n")
 
 -- one␠two␠six M-b M-t Enter = one␠six␠two
-abbrev pub row_95 : Row
-row_95 = row 95 plain (codes "one two six\u{1b}b\u{1b}t\r") (codes "one six two\n")
+abbrev pub row_98 : Row
+row_98 = row 98 plain (codes "one two six\u{1b}b\u{1b}t\r") (codes "one six two\n")
 
 -- one␠two C-a M-u Enter = ONE␠two
-abbrev pub row_96 : Row
-row_96 = row 96 plain (codes "one two\u{1}\u{1b}u\r") (codes "ONE two\n")
+abbrev pub row_99 : Row
+row_99 = row 99 plain (codes "one two\u{1}\u{1b}u\r") (codes "ONE two\n")
 
 -- one␠two C-a M-u M-u Enter = ONE␠TWO
-abbrev pub row_97 : Row
-row_97 = row 97 plain (codes "one two\u{1}\u{1b}u\u{1b}u\r") (codes "ONE TWO\n")
+abbrev pub row_100 : Row
+row_100 = row 100 plain (codes "one two\u{1}\u{1b}u\u{1b}u\r") (codes "ONE TWO\n")
 
 -- ONE␠TWO C-a M-l Enter = one␠TWO
-abbrev pub row_98 : Row
-row_98 = row 98 plain (codes "ONE TWO\u{1}\u{1b}l\r") (codes "one TWO\n")
+abbrev pub row_101 : Row
+row_101 = row 101 plain (codes "ONE TWO\u{1}\u{1b}l\r") (codes "one TWO\n")
 
 -- one␠two C-a M-c M-c Enter = One␠Two
-abbrev pub row_99 : Row
-row_99 = row 99 plain (codes "one two\u{1}\u{1b}c\u{1b}c\r") (codes "One Two\n")
+abbrev pub row_102 : Row
+row_102 = row 102 plain (codes "one two\u{1}\u{1b}c\u{1b}c\r") (codes "One Two\n")
 
 -- one␠two M-u x Enter = one␠twox
-abbrev pub row_100 : Row
-row_100 = row 100 plain (codes "one two\u{1b}ux\r") (codes "one twox\n")
+abbrev pub row_103 : Row
+row_103 = row 103 plain (codes "one two\u{1b}ux\r") (codes "one twox\n")
 
 -- M-5 x Enter = xxxxx
-abbrev pub row_103 : Row
-row_103 = row 103 plain (codes "\u{1b}5x\r") (codes "xxxxx\n")
+abbrev pub row_106 : Row
+row_106 = row 106 plain (codes "\u{1b}5x\r") (codes "xxxxx\n")
 
 -- M-1 2 x Enter = xxxxxxxxxxxx
-abbrev pub row_104 : Row
-row_104 = row 104 plain (codes "\u{1b}12x\r") (codes "xxxxxxxxxxxx\n")
+abbrev pub row_107 : Row
+row_107 = row 107 plain (codes "\u{1b}12x\r") (codes "xxxxxxxxxxxx\n")
 
 -- M-1 M-2 x Enter = xxxxxxxxxxxx
-abbrev pub row_105 : Row
-row_105 = row 105 plain (codes "\u{1b}1\u{1b}2x\r") (codes "xxxxxxxxxxxx\n")
+abbrev pub row_108 : Row
+row_108 = row 108 plain (codes "\u{1b}1\u{1b}2x\r") (codes "xxxxxxxxxxxx\n")
 
 -- M-0 x Enter = x
-abbrev pub row_106 : Row
-row_106 = row 106 plain (codes "\u{1b}0x\r") (codes "x\n")
+abbrev pub row_109 : Row
+row_109 = row 109 plain (codes "\u{1b}0x\r") (codes "x\n")
 
 -- abc M-2 C-b x Enter = axbc
-abbrev pub row_107 : Row
-row_107 = row 107 plain (codes "abc\u{1b}2\u{2}x\r") (codes "axbc\n")
+abbrev pub row_110 : Row
+row_110 = row 110 plain (codes "abc\u{1b}2\u{2}x\r") (codes "axbc\n")
 
 -- abc C-a M-2 C-f x Enter = abxc
-abbrev pub row_108 : Row
-row_108 = row 108 plain (codes "abc\u{1}\u{1b}2\u{6}x\r") (codes "abxc\n")
+abbrev pub row_111 : Row
+row_111 = row 111 plain (codes "abc\u{1}\u{1b}2\u{6}x\r") (codes "abxc\n")
 
 -- abc M-- C-b x Enter = abcx
-abbrev pub row_109 : Row
-row_109 = row 109 plain (codes "abc\u{1b}-\u{2}x\r") (codes "abcx\n")
+abbrev pub row_112 : Row
+row_112 = row 112 plain (codes "abc\u{1b}-\u{2}x\r") (codes "abcx\n")
 
 -- abcdef C-a M-- 2 C-b x Enter = abxcdef
-abbrev pub row_110 : Row
-row_110 = row 110 plain (codes "abcdef\u{1}\u{1b}-2\u{2}x\r") (codes "abxcdef\n")
+abbrev pub row_113 : Row
+row_113 = row 113 plain (codes "abcdef\u{1}\u{1b}-2\u{2}x\r") (codes "abxcdef\n")
 
 -- M-- x a Enter = a
-abbrev pub row_111 : Row
-row_111 = row 111 plain (codes "\u{1b}-xa\r") (codes "a\n")
+abbrev pub row_114 : Row
+row_114 = row 114 plain (codes "\u{1b}-xa\r") (codes "a\n")
 
 -- M-2 M-3 Left x Enter = x
-abbrev pub row_112 : Row
-row_112 = row 112 plain (codes "\u{1b}2\u{1b}3\u{1b}[Dx\r") (codes "x\n")
+abbrev pub row_115 : Row
+row_115 = row 115 plain (codes "\u{1b}2\u{1b}3\u{1b}[Dx\r") (codes "x\n")
+
+-- M-2 C-g x Enter = x | shows {} ␍␛[J␛[m(arg:␠2)␠␛[m␛[m␛[m {} x ␍␊ {} ␍␊
+abbrev pub row_116 : Row
+row_116 = record (row 116 plain (codes "\u{1b}2\u{7}x\r") (codes "x\n")) {
+  shows = Some
+      (codes "\r\u{1b}[J\u{1b}[m> \u{1b}[m\u{1b}[m\u{1b}[m\r\u{1b}[J\u{1b}[m(arg: 2) \u{1b}[" ++
+      codes "m\u{1b}[m\u{1b}[m\r\u{1b}[J\u{1b}[m> \u{1b}[m\u{1b}[m\u{1b}[mx\r\n\r\u{1b}[J" ++
+      codes "\u{1b}[m> \u{1b}[m\u{1b}[m\u{1b}[m\r\n");
+}
+
+-- M-0 Enter = "" | shows {} ␍␛[J␛[m(arg:␠0)␠␛[m␛[m␛[m {} ␍␊ {} ␍␊
+abbrev pub row_117 : Row
+row_117 = record (row 117 plain (codes "\u{1b}0\r") (codes "\n")) {
+  shows = Some
+      (codes "\r\u{1b}[J\u{1b}[m> \u{1b}[m\u{1b}[m\u{1b}[m\r\u{1b}[J\u{1b}[m(arg: 0) \u{1b}[" ++
+      codes "m\u{1b}[m\u{1b}[m\r\u{1b}[J\u{1b}[m> \u{1b}[m\u{1b}[m\u{1b}[m\r\n\r\u{1b}[J" ++
+      codes "\u{1b}[m> \u{1b}[m\u{1b}[m\u{1b}[m\r\n");
+}
+
+-- M-1 2 = nothing | shows {} ␍␛[J␛[m(arg:␠1)␠␛[m␛[m␛[m ␍␛[J␛[m(arg:␠12)␠␛[m␛[m␛[m ␍␊
+abbrev pub row_118 : Row
+row_118 = record (row 118 plain (codes "\u{1b}12") []) {
+  shows = Some
+      (codes "\r\u{1b}[J\u{1b}[m> \u{1b}[m\u{1b}[m\u{1b}[m\r\u{1b}[J\u{1b}[m(arg: 1) \u{1b}[" ++
+      codes "m\u{1b}[m\u{1b}[m\r\u{1b}[J\u{1b}[m(arg: 12) \u{1b}[m\u{1b}[m\u{1b}[m\r\n");
+}
+
+-- ab C-a M-- Left x Enter = axb | shows {} a b ␛[2D ␍␛[J␛[m(arg:␠-1)␠␛[mab␛[m␛[m␛[2D {ab}␛[2D ␛[1C {axb}␛[1D ␛[1C␍␊ {} ␍␊
+abbrev pub row_119 : Row
+row_119 = record (row 119 plain (codes "ab\u{1}\u{1b}-\u{1b}[Dx\r") (codes "axb\n")) {
+  shows = Some
+      (codes "\r\u{1b}[J\u{1b}[m> \u{1b}[m\u{1b}[m\u{1b}[mab\u{1b}[2D\r\u{1b}[J\u{1b}[m(arg:" ++
+      codes " -1) \u{1b}[mab\u{1b}[m\u{1b}[m\u{1b}[2D\r\u{1b}[J\u{1b}[m> \u{1b}[mab\u{1b}[m" ++
+      codes "\u{1b}[m\u{1b}[2D\u{1b}[1C\r\u{1b}[J\u{1b}[m> \u{1b}[maxb\u{1b}[m\u{1b}[m" ++
+      codes "\u{1b}[1D\u{1b}[1C\r\n\r\u{1b}[J\u{1b}[m> \u{1b}[m\u{1b}[m\u{1b}[m\r\n");
+}
+
+-- a Left M-2 b Enter = bba | shows {} a ␛[1D ␍␛[J␛[m(arg:␠2)␠␛[ma␛[m␛[m␛[1D {a}␛[1D {bba}␛[1D ␛[1C␍␊ {} ␍␊
+abbrev pub row_120 : Row
+row_120 = record (row 120 plain (codes "a\u{1b}[D\u{1b}2b\r") (codes "bba\n")) {
+  shows = Some
+      (codes "\r\u{1b}[J\u{1b}[m> \u{1b}[m\u{1b}[m\u{1b}[ma\u{1b}[1D\r\u{1b}[J\u{1b}[m(arg: " ++
+      codes "2) \u{1b}[ma\u{1b}[m\u{1b}[m\u{1b}[1D\r\u{1b}[J\u{1b}[m> \u{1b}[ma\u{1b}[m" ++
+      codes "\u{1b}[m\u{1b}[1D\r\u{1b}[J\u{1b}[m> \u{1b}[mbba\u{1b}[m\u{1b}[m\u{1b}[1D" ++
+      codes "\u{1b}[1C\r\n\r\u{1b}[J\u{1b}[m> \u{1b}[m\u{1b}[m\u{1b}[m\r\n");
+}
 
 -- abc M-2 C-l x Enter = abcx
-abbrev pub row_113 : Row
-row_113 = row 113 plain (codes "abc\u{1b}2\u{c}x\r") (codes "abcx\n")
+abbrev pub row_121 : Row
+row_121 = row 121 plain (codes "abc\u{1b}2\u{c}x\r") (codes "abcx\n")
 
 -- a Tab b Enter = ab
-abbrev pub row_116 : Row
-row_116 = row 116 plain (codes "a\tb\r") (codes "ab\n")
+abbrev pub row_124 : Row
+row_124 = row 124 plain (codes "a\tb\r") (codes "ab\n")
 
 -- a C-g b Enter = ab
-abbrev pub row_117 : Row
-row_117 = row 117 plain (codes "a\u{7}b\r") (codes "ab\n")
+abbrev pub row_125 : Row
+row_125 = row 125 plain (codes "a\u{7}b\r") (codes "ab\n")
 
 -- ab Esc Esc b x Enter = xab
-abbrev pub row_118 : Row
-row_118 = row 118 plain (codes "ab\u{1b}\u{1b}bx\r") (codes "xab\n")
+abbrev pub row_126 : Row
+row_126 = row 126 plain (codes "ab\u{1b}\u{1b}bx\r") (codes "xab\n")
 
 -- a C-r b C-s c Enter = abc
-abbrev pub row_119 : Row
-row_119 = row 119 plain (codes "a\u{12}b\u{13}c\r") (codes "abc\n")
+abbrev pub row_127 : Row
+row_127 = row 127 plain (codes "a\u{12}b\u{13}c\r") (codes "abc\n")
 
 -- a C-q b C-v c Enter = abc
-abbrev pub row_120 : Row
-row_120 = row 120 plain (codes "a\u{11}b\u{16}c\r") (codes "abc\n")
+abbrev pub row_128 : Row
+row_128 = row 128 plain (codes "a\u{11}b\u{16}c\r") (codes "abc\n")
 
 -- a ␛[5~ b ␛[6~ c Enter = abc
-abbrev pub row_121 : Row
-row_121 = row 121 plain (codes "a\u{1b}[5~b\u{1b}[6~c\r") (codes "abc\n")
+abbrev pub row_129 : Row
+row_129 = row 129 plain (codes "a\u{1b}[5~b\u{1b}[6~c\r") (codes "abc\n")
 
 -- a ␛[15~ b Enter = ab
-abbrev pub row_122 : Row
-row_122 = row 122 plain (codes "a\u{1b}[15~b\r") (codes "ab\n")
+abbrev pub row_130 : Row
+row_130 = row 130 plain (codes "a\u{1b}[15~b\r") (codes "ab\n")
 
 -- a ␛[999x b Enter = ab
-abbrev pub row_123 : Row
-row_123 = row 123 plain (codes "a\u{1b}[999xb\r") (codes "ab\n")
+abbrev pub row_131 : Row
+row_131 = row 131 plain (codes "a\u{1b}[999xb\r") (codes "ab\n")
 
 -- a C-x z b Enter = ab
-abbrev pub row_124 : Row
-row_124 = row 124 plain (codes "a\u{18}zb\r") (codes "ab\n")
+abbrev pub row_132 : Row
+row_132 = row 132 plain (codes "a\u{18}zb\r") (codes "ab\n")
 
 -- a M-< b M-> c Enter = abc
-abbrev pub row_125 : Row
-row_125 = row 125 plain (codes "a\u{1b}<b\u{1b}>c\r") (codes "abc\n")
+abbrev pub row_133 : Row
+row_133 = row 133 plain (codes "a\u{1b}<b\u{1b}>c\r") (codes "abc\n")
 
 -- Paste ab Pasted Enter = ab
-abbrev pub row_128 : Row
-row_128 = row 128 plain (codes "\u{1b}[200~ab\u{1b}[201~\r") (codes "ab\n")
+abbrev pub row_136 : Row
+row_136 = row 136 plain (codes "\u{1b}[200~ab\u{1b}[201~\r") (codes "ab\n")
 
 -- x Paste a␍b Pasted y Enter = xa␊by
-abbrev pub row_129 : Row
-row_129 = row 129 plain (codes "x\u{1b}[200~a\rb\u{1b}[201~y\r") (codes "xa\nby\n")
+abbrev pub row_137 : Row
+row_137 = row 137 plain (codes "x\u{1b}[200~a\rb\u{1b}[201~y\r") (codes "xa\nby\n")
 
 -- Paste a␍␊b Pasted Enter = a␊b
-abbrev pub row_130 : Row
-row_130 = row 130 plain (codes "\u{1b}[200~a\r\nb\u{1b}[201~\r") (codes "a\nb\n")
+abbrev pub row_138 : Row
+row_138 = row 138 plain (codes "\u{1b}[200~a\r\nb\u{1b}[201~\r") (codes "a\nb\n")
 
 -- Paste Pasted a Enter = a
-abbrev pub row_131 : Row
-row_131 = row 131 plain (codes "\u{1b}[200~\u{1b}[201~a\r") (codes "a\n")
+abbrev pub row_139 : Row
+row_139 = row 139 plain (codes "\u{1b}[200~\u{1b}[201~a\r") (codes "a\n")
 
 -- Paste ab Pasted C-_ Enter = ""
-abbrev pub row_132 : Row
-row_132 = row 132 plain (codes "\u{1b}[200~ab\u{1b}[201~\u{1f}\r") (codes "\n")
+abbrev pub row_140 : Row
+row_140 = row 140 plain (codes "\u{1b}[200~ab\u{1b}[201~\u{1f}\r") (codes "\n")
 
 -- Paste ␛[A Pasted Enter = ␛[A
-abbrev pub row_133 : Row
-row_133 = row 133 plain (codes "\u{1b}[200~\u{1b}[A\u{1b}[201~\r") (codes "\u{1b}[A\n")
+abbrev pub row_141 : Row
+row_141 = row 141 plain (codes "\u{1b}[200~\u{1b}[A\u{1b}[201~\r") (codes "\u{1b}[A\n")
 
 -- Paste a␊b Pasted C-a x Enter = a␊xb
-abbrev pub row_134 : Row
-row_134 = row 134 plain (codes "\u{1b}[200~a\nb\u{1b}[201~\u{1}x\r") (codes "a\nxb\n")
+abbrev pub row_142 : Row
+row_142 = row 142 plain (codes "\u{1b}[200~a\nb\u{1b}[201~\u{1}x\r") (codes "a\nxb\n")
 
 -- Paste a␊b Pasted Up x Enter = xa␊b
-abbrev pub row_135 : Row
-row_135 = row 135 plain (codes "\u{1b}[200~a\nb\u{1b}[201~\u{1b}[Ax\r") (codes "xa\nb\n")
+abbrev pub row_143 : Row
+row_143 = row 143 plain (codes "\u{1b}[200~a\nb\u{1b}[201~\u{1b}[Ax\r") (codes "xa\nb\n")
 
 -- Paste a␊b Pasted C-k C-a C-k Enter = a␊
-abbrev pub row_136 : Row
-row_136 = row 136 plain (codes "\u{1b}[200~a\nb\u{1b}[201~\u{b}\u{1}\u{b}\r") (codes "a\n\n")
+abbrev pub row_144 : Row
+row_144 = row 144 plain (codes "\u{1b}[200~a\nb\u{1b}[201~\u{b}\u{1}\u{b}\r") (codes "a\n\n")
 
 -- Paste a␊b Pasted C-u Backspace C-u Enter = ""
-abbrev pub row_137 : Row
-row_137 = row 137 plain (codes "\u{1b}[200~a\nb\u{1b}[201~\u{15}\u{7f}\u{15}\r") (codes "\n")
+abbrev pub row_145 : Row
+row_145 = row 145 plain (codes "\u{1b}[200~a\nb\u{1b}[201~\u{15}\u{7f}\u{15}\r") (codes "\n")
 
 -- adding
-abbrev pub settings_141 : Settings
-settings_141 = record plain {
+abbrev pub settings_149 : Settings
+settings_149 = record plain {
   config = adding plain.config;
 }
 
 -- one Enter Up Enter = one one | saves #V2␊one␊
-abbrev pub row_141 : Row
-row_141 = record (row 141 settings_141 (codes "one\r\u{1b}[A\r") (codes "one\none\n")) {
+abbrev pub row_149 : Row
+row_149 = record (row 149 settings_149 (codes "one\r\u{1b}[A\r") (codes "one\none\n")) {
   saves = Some (codes "#V2\none\n");
 }
 
 -- one Enter two Enter C-p C-p C-n Enter = one two two | saves #V2␊one␊two␊
-abbrev pub row_142 : Row
-row_142 = record (row 142 settings_141 (codes "one\rtwo\r\u{10}\u{10}\u{e}\r")
+abbrev pub row_150 : Row
+row_150 = record (row 150 settings_149 (codes "one\rtwo\r\u{10}\u{10}\u{e}\r")
     (codes "one\ntwo\ntwo\n")) {
       saves = Some (codes "#V2\none\ntwo\n");
     }
 
 -- one Enter two Enter C-p C-p C-p Enter = one two one | saves #V2␊one␊two␊one␊
-abbrev pub row_143 : Row
-row_143 = record (row 143 settings_141 (codes "one\rtwo\r\u{10}\u{10}\u{10}\r")
+abbrev pub row_151 : Row
+row_151 = record (row 151 settings_149 (codes "one\rtwo\r\u{10}\u{10}\u{10}\r")
     (codes "one\ntwo\none\n")) {
       saves = Some (codes "#V2\none\ntwo\none\n");
     }
 
 -- one Enter tw C-p C-n o Enter = one two
-abbrev pub row_144 : Row
-row_144 = row 144 settings_141 (codes "one\rtw\u{10}\u{e}o\r") (codes "one\ntwo\n")
+abbrev pub row_152 : Row
+row_152 = row 152 settings_149 (codes "one\rtw\u{10}\u{e}o\r") (codes "one\ntwo\n")
 
 -- one Enter C-p x Enter = one onex
-abbrev pub row_145 : Row
-row_145 = row 145 settings_141 (codes "one\r\u{10}x\r") (codes "one\nonex\n")
+abbrev pub row_153 : Row
+row_153 = row 153 settings_149 (codes "one\r\u{10}x\r") (codes "one\nonex\n")
 
 -- one Enter Up Down x Enter = one x
-abbrev pub row_146 : Row
-row_146 = row 146 settings_141 (codes "one\r\u{1b}[A\u{1b}[Bx\r") (codes "one\nx\n")
+abbrev pub row_154 : Row
+row_154 = row 154 settings_149 (codes "one\r\u{1b}[A\u{1b}[Bx\r") (codes "one\nx\n")
 
 -- one Enter two Enter M-< Enter = one two one
-abbrev pub row_147 : Row
-row_147 = row 147 settings_141 (codes "one\rtwo\r\u{1b}<\r") (codes "one\ntwo\none\n")
+abbrev pub row_155 : Row
+row_155 = row 155 settings_149 (codes "one\rtwo\r\u{1b}<\r") (codes "one\ntwo\none\n")
 
 -- one Enter two Enter six M-< M-> Enter = one two six
-abbrev pub row_148 : Row
-row_148 = row 148 settings_141 (codes "one\rtwo\rsix\u{1b}<\u{1b}>\r") (codes "one\ntwo\nsix\n")
+abbrev pub row_156 : Row
+row_156 = row 156 settings_149 (codes "one\rtwo\rsix\u{1b}<\u{1b}>\r") (codes "one\ntwo\nsix\n")
 
 -- one Enter one Enter = one one | saves #V2␊one␊
-abbrev pub row_149 : Row
-row_149 = record (row 149 settings_141 (codes "one\rone\r") (codes "one\none\n")) {
+abbrev pub row_157 : Row
+row_157 = record (row 157 settings_149 (codes "one\rone\r") (codes "one\none\n")) {
   saves = Some (codes "#V2\none\n");
 }
 
 -- one Enter Enter = one "" | saves #V2␊one␊
-abbrev pub row_150 : Row
-row_150 = record (row 150 settings_141 (codes "one\r\r") (codes "one\n\n")) {
+abbrev pub row_158 : Row
+row_158 = record (row 158 settings_149 (codes "one\r\r") (codes "one\n\n")) {
   saves = Some (codes "#V2\none\n");
 }
 
 -- ␠one Enter = ␠one | saves #V2␊␠one␊
-abbrev pub row_151 : Row
-row_151 = record (row 151 settings_141 (codes " one\r") (codes " one\n")) {
+abbrev pub row_159 : Row
+row_159 = record (row 159 settings_149 (codes " one\r") (codes " one\n")) {
   saves = Some (codes "#V2\n one\n");
 }
 
 -- adding loaded:#V2␊first␊second␊
-abbrev pub settings_154 : Settings
-settings_154 = record plain {
+abbrev pub settings_162 : Settings
+settings_162 = record plain {
   config = adding plain.config;
   loaded = codes "#V2\nfirst\nsecond\n";
 }
 
 -- Up Up Enter = first | saves #V2␊first␊second␊first␊
-abbrev pub row_154 : Row
-row_154 = record (row 154 settings_154 (codes "\u{1b}[A\u{1b}[A\r") (codes "first\n")) {
+abbrev pub row_162 : Row
+row_162 = record (row 162 settings_162 (codes "\u{1b}[A\u{1b}[A\r") (codes "first\n")) {
   saves = Some (codes "#V2\nfirst\nsecond\nfirst\n");
 }
 
 -- Up Up Up Enter = first
-abbrev pub row_155 : Row
-row_155 = row 155 settings_154 (codes "\u{1b}[A\u{1b}[A\u{1b}[A\r") (codes "first\n")
+abbrev pub row_163 : Row
+row_163 = row 163 settings_162 (codes "\u{1b}[A\u{1b}[A\u{1b}[A\r") (codes "first\n")
 
 -- C-p x Enter = secondx | saves #V2␊first␊second␊secondx␊
-abbrev pub row_156 : Row
-row_156 = record (row 156 settings_154 (codes "\u{10}x\r") (codes "secondx\n")) {
+abbrev pub row_164 : Row
+row_164 = record (row 164 settings_162 (codes "\u{10}x\r") (codes "secondx\n")) {
   saves = Some (codes "#V2\nfirst\nsecond\nsecondx\n");
 }
 
 -- third Up Down ! Enter = third!
-abbrev pub row_157 : Row
-row_157 = row 157 settings_154 (codes "third\u{1b}[A\u{1b}[B!\r") (codes "third!\n")
+abbrev pub row_165 : Row
+row_165 = row 165 settings_162 (codes "third\u{1b}[A\u{1b}[B!\r") (codes "third!\n")
+
+-- M-< Enter = first | shows {} {first} ␍␊ {} ␍␊
+abbrev pub row_166 : Row
+row_166 = record (row 166 settings_162 (codes "\u{1b}<\r") (codes "first\n")) {
+  shows = Some
+      (codes "\r\u{1b}[J\u{1b}[m> \u{1b}[m\u{1b}[m\u{1b}[m\r\u{1b}[J\u{1b}[m> \u{1b}[mfirst" ++
+      codes "\u{1b}[m\u{1b}[m\r\n\r\u{1b}[J\u{1b}[m> \u{1b}[m\u{1b}[m\u{1b}[m\r\n");
+}
 
 abbrev pub emacs_rows : List Row
 emacs_rows = row_5 ∷ row_6 ∷ row_7 ∷ row_8 ∷ row_9 ∷ row_10 ∷ row_11 ∷ row_12 ∷ row_13 ∷ row_14 ∷
@@ -576,11 +642,12 @@ emacs_rows = row_5 ∷ row_6 ∷ row_7 ∷ row_8 ∷ row_9 ∷ row_10 ∷ row_11
     row_38 ∷ row_39 ∷ row_40 ∷ row_43 ∷ row_44 ∷ row_45 ∷ row_46 ∷ row_47 ∷ row_48 ∷ row_49 ∷ row_50
     ∷ row_51 ∷ row_52 ∷ row_53 ∷ row_54 ∷ row_55 ∷ row_56 ∷ row_57 ∷ row_58 ∷ row_59 ∷ row_60 ∷
     row_61 ∷ row_62 ∷ row_65 ∷ row_66 ∷ row_67 ∷ row_68 ∷ row_69 ∷ row_70 ∷ row_71 ∷ row_72 ∷ row_73
-    ∷ row_74 ∷ row_75 ∷ row_78 ∷ row_79 ∷ row_80 ∷ row_81 ∷ row_82 ∷ row_83 ∷ row_84 ∷ row_85 ∷
-    row_86 ∷ row_87 ∷ row_90 ∷ row_91 ∷ row_92 ∷ row_93 ∷ row_94 ∷ row_95 ∷ row_96 ∷ row_97 ∷ row_98
-    ∷ row_99 ∷ row_100 ∷ row_103 ∷ row_104 ∷ row_105 ∷ row_106 ∷ row_107 ∷ row_108 ∷ row_109 ∷
-    row_110 ∷ row_111 ∷ row_112 ∷ row_113 ∷ row_116 ∷ row_117 ∷ row_118 ∷ row_119 ∷ row_120 ∷
-    row_121 ∷ row_122 ∷ row_123 ∷ row_124 ∷ row_125 ∷ row_128 ∷ row_129 ∷ row_130 ∷ row_131 ∷
-    row_132 ∷ row_133 ∷ row_134 ∷ row_135 ∷ row_136 ∷ row_137 ∷ row_141 ∷ row_142 ∷ row_143 ∷
-    row_144 ∷ row_145 ∷ row_146 ∷ row_147 ∷ row_148 ∷ row_149 ∷ row_150 ∷ row_151 ∷ row_154 ∷
-    row_155 ∷ row_156 ∷ row_157 ∷ []
+    ∷ row_74 ∷ row_75 ∷ row_76 ∷ row_77 ∷ row_78 ∷ row_81 ∷ row_82 ∷ row_83 ∷ row_84 ∷ row_85 ∷
+    row_86 ∷ row_87 ∷ row_88 ∷ row_89 ∷ row_90 ∷ row_93 ∷ row_94 ∷ row_95 ∷ row_96 ∷ row_97 ∷ row_98
+    ∷ row_99 ∷ row_100 ∷ row_101 ∷ row_102 ∷ row_103 ∷ row_106 ∷ row_107 ∷ row_108 ∷ row_109 ∷
+    row_110 ∷ row_111 ∷ row_112 ∷ row_113 ∷ row_114 ∷ row_115 ∷ row_116 ∷ row_117 ∷ row_118 ∷
+    row_119 ∷ row_120 ∷ row_121 ∷ row_124 ∷ row_125 ∷ row_126 ∷ row_127 ∷ row_128 ∷ row_129 ∷
+    row_130 ∷ row_131 ∷ row_132 ∷ row_133 ∷ row_136 ∷ row_137 ∷ row_138 ∷ row_139 ∷ row_140 ∷
+    row_141 ∷ row_142 ∷ row_143 ∷ row_144 ∷ row_145 ∷ row_149 ∷ row_150 ∷ row_151 ∷ row_152 ∷
+    row_153 ∷ row_154 ∷ row_155 ∷ row_156 ∷ row_157 ∷ row_158 ∷ row_159 ∷ row_162 ∷ row_163 ∷
+    row_164 ∷ row_165 ∷ row_166 ∷ []

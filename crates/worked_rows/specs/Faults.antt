@@ -80,15 +80,49 @@ row_12 = record (row 12 settings_5 (codes "ab\u{1b}[D\rc\r") (codes "ab\nc\n")) 
       codes "\u{1b}[m");
 }
 
+-- a Left M-2 = nothing | ends Reader | shows {} a ␛[1D ␍␛[J␛[m(arg:␠2)␠␛[ma␛[m␛[m␛[1D
+abbrev pub row_13 : Row
+row_13 = record (row 13 settings_5 (codes "a\u{1b}[D\u{1b}2") []) {
+  ends = Reader;
+  shows = Some
+      (codes "\r\u{1b}[J\u{1b}[m> \u{1b}[m\u{1b}[m\u{1b}[ma\u{1b}[1D\r\u{1b}[J\u{1b}[m(arg: " ++
+      codes "2) \u{1b}[ma\u{1b}[m\u{1b}[m\u{1b}[1D");
+}
+
+-- a Left M-2 b = nothing | ends Reader | shows {} a ␛[1D ␍␛[J␛[m(arg:␠2)␠␛[ma␛[m␛[m␛[1D {a}␛[1D {bba}␛[1D
+abbrev pub row_14 : Row
+row_14 = record (row 14 settings_5 (codes "a\u{1b}[D\u{1b}2b") []) {
+  ends = Reader;
+  shows = Some
+      (codes "\r\u{1b}[J\u{1b}[m> \u{1b}[m\u{1b}[m\u{1b}[ma\u{1b}[1D\r\u{1b}[J\u{1b}[m(arg: " ++
+      codes "2) \u{1b}[ma\u{1b}[m\u{1b}[m\u{1b}[1D\r\u{1b}[J\u{1b}[m> \u{1b}[ma\u{1b}[m" ++
+      codes "\u{1b}[m\u{1b}[1D\r\u{1b}[J\u{1b}[m> \u{1b}[mbba\u{1b}[m\u{1b}[m\u{1b}[1D");
+}
+
+-- C-x = nothing | ends Reader | shows {}
+abbrev pub row_15 : Row
+row_15 = record (row 15 settings_5 (codes "\u{18}") []) {
+  ends = Reader;
+  shows = Some (codes "\r\u{1b}[J\u{1b}[m> \u{1b}[m\u{1b}[m\u{1b}[m");
+}
+
+-- Paste ab Pasted = nothing | ends Reader | shows {} {ab}
+abbrev pub row_16 : Row
+row_16 = record (row 16 settings_5 (codes "\u{1b}[200~ab\u{1b}[201~") []) {
+  ends = Reader;
+  shows = Some (codes "\r\u{1b}[J\u{1b}[m> \u{1b}[m\u{1b}[m\u{1b}[m\r\u{1b}[J\u{1b}[m> \u{1b}[mab"
+      ++ codes "\u{1b}[m\u{1b}[m");
+}
+
 -- bind:C-O⇒Fails
-abbrev pub settings_77 : Settings
-settings_77 = record plain {
+abbrev pub settings_81 : Settings
+settings_81 = record plain {
   custom = bound ((KeySeq ((key_with (Char 79) ctrl) ∷ []), one_way Fails) ∷ []);
 }
 
 -- a Enter b C-O = a | ends Handler | shows {} a ␍␊ {} b
-abbrev pub row_77 : Row
-row_77 = record (row 77 settings_77 (codes "a\rb\u{f}") (codes "a\n")) {
+abbrev pub row_81 : Row
+row_81 = record (row 81 settings_81 (codes "a\rb\u{f}") (codes "a\n")) {
   ends = Handler;
   shows = Some
       (codes "\r\u{1b}[J\u{1b}[m> \u{1b}[m\u{1b}[m\u{1b}[ma\r\n\r\u{1b}[J\u{1b}[m> \u{1b}[m" ++
@@ -96,30 +130,30 @@ row_77 = record (row 77 settings_77 (codes "a\rb\u{f}") (codes "a\n")) {
 }
 
 -- bind:Esc⇒AcceptLine keys@end
-abbrev pub settings_80 : Settings
-settings_80 = record plain {
+abbrev pub settings_84 : Settings
+settings_84 = record plain {
   custom = bound ((KeySeq ((key_with Esc none) ∷ []), command AcceptLine) ∷ []);
   last = Failed;
 }
 
 -- ab Esc = nothing | ends Reader | shows {} a b
-abbrev pub row_80 : Row
-row_80 = record (row 80 settings_80 (codes "ab\u{1b}") []) {
+abbrev pub row_84 : Row
+row_84 = record (row 84 settings_84 (codes "ab\u{1b}") []) {
   ends = Reader;
   shows = Some (codes "\r\u{1b}[J\u{1b}[m> \u{1b}[m\u{1b}[m\u{1b}[mab");
 }
 
 -- modal keys@end loaded:#V2␊make␠test␊
-abbrev pub settings_84 : Settings
-settings_84 = record plain {
+abbrev pub settings_92 : Settings
+settings_92 = record plain {
   config = modal plain.config;
   loaded = codes "#V2\nmake test\n";
   last = Failed;
 }
 
 -- C-R t = nothing | ends Reader | shows {} ''} 't'make␠test}␛[4D
-abbrev pub row_84 : Row
-row_84 = record (row 84 settings_84 (codes "\u{12}t") []) {
+abbrev pub row_92 : Row
+row_92 = record (row 92 settings_92 (codes "\u{12}t") []) {
   ends = Reader;
   shows = Some
       (codes "\r\u{1b}[J\u{1b}[m> \u{1b}[m\u{1b}[m\u{1b}[m\r\u{1b}[J\u{1b}[m(reverse-i-searc" ++
@@ -128,16 +162,16 @@ row_84 = record (row 84 settings_84 (codes "\u{12}t") []) {
 }
 
 -- modal bind:C-O⇒Fails loaded:#V2␊make␠test␊
-abbrev pub settings_87 : Settings
-settings_87 = record plain {
+abbrev pub settings_95 : Settings
+settings_95 = record plain {
   config = modal plain.config;
   custom = bound ((KeySeq ((key_with (Char 79) ctrl) ∷ []), one_way Fails) ∷ []);
   loaded = codes "#V2\nmake test\n";
 }
 
 -- C-R t C-O = nothing | ends Handler | shows {} ''} 't'make␠test}␛[4D
-abbrev pub row_87 : Row
-row_87 = record (row 87 settings_87 (codes "\u{12}t\u{f}") []) {
+abbrev pub row_95 : Row
+row_95 = record (row 95 settings_95 (codes "\u{12}t\u{f}") []) {
   ends = Handler;
   shows = Some
       (codes "\r\u{1b}[J\u{1b}[m> \u{1b}[m\u{1b}[m\u{1b}[m\r\u{1b}[J\u{1b}[m(reverse-i-searc" ++
@@ -146,16 +180,16 @@ row_87 = record (row 87 settings_87 (codes "\u{12}t\u{f}") []) {
 }
 
 -- modal keys@end listed words:alpha,alpine
-abbrev pub settings_94 : Settings
-settings_94 = record plain {
+abbrev pub settings_105 : Settings
+settings_105 = record plain {
   config = listed (modal plain.config);
   helping = aide false (Some ((codes "alpha") ∷ (codes "alpine") ∷ []));
   last = Failed;
 }
 
 -- alp Tab Tab = nothing | ends Reader | shows {} a l p ␇ {alp␛[m␍␊alpha␍␊alpine␛[m␛[2A␛[1D
-abbrev pub row_94 : Row
-row_94 = record (row 94 settings_94 (codes "alp\t\t") []) {
+abbrev pub row_105 : Row
+row_105 = record (row 105 settings_105 (codes "alp\t\t") []) {
   ends = Reader;
   shows = Some
       (codes "\r\u{1b}[J\u{1b}[m> \u{1b}[m\u{1b}[m\u{1b}[malp\u{7}\r\u{1b}[J\u{1b}[m> \u{1b}" ++
@@ -163,16 +197,16 @@ row_94 = record (row 94 settings_94 (codes "alp\t\t") []) {
 }
 
 -- modal keys@end words:alpha,alpine
-abbrev pub settings_97 : Settings
-settings_97 = record plain {
+abbrev pub settings_108 : Settings
+settings_108 = record plain {
   config = modal plain.config;
   helping = aide false (Some ((codes "alpha") ∷ (codes "alpine") ∷ []));
   last = Failed;
 }
 
 -- al Tab Tab Tab = nothing | ends Reader | shows {} a l {alpha} {alpine} {al} ␇
-abbrev pub row_97 : Row
-row_97 = record (row 97 settings_97 (codes "al\t\t\t") []) {
+abbrev pub row_108 : Row
+row_108 = record (row 108 settings_108 (codes "al\t\t\t") []) {
   ends = Reader;
   shows = Some
       (codes "\r\u{1b}[J\u{1b}[m> \u{1b}[m\u{1b}[m\u{1b}[mal\r\u{1b}[J\u{1b}[m> \u{1b}[malph" ++
@@ -181,16 +215,16 @@ row_97 = record (row 97 settings_97 (codes "al\t\t\t") []) {
 }
 
 -- modal bind:C-O⇒Fails words:alpha,alpine
-abbrev pub settings_100 : Settings
-settings_100 = record plain {
+abbrev pub settings_111 : Settings
+settings_111 = record plain {
   config = modal plain.config;
   custom = bound ((KeySeq ((key_with (Char 79) ctrl) ∷ []), one_way Fails) ∷ []);
   helping = aide false (Some ((codes "alpha") ∷ (codes "alpine") ∷ []));
 }
 
 -- al Tab C-O = nothing | ends Handler | shows {} a l {alpha}
-abbrev pub row_100 : Row
-row_100 = record (row 100 settings_100 (codes "al\t\u{f}") []) {
+abbrev pub row_111 : Row
+row_111 = record (row 111 settings_111 (codes "al\t\u{f}") []) {
   ends = Handler;
   shows = Some
       (codes "\r\u{1b}[J\u{1b}[m> \u{1b}[m\u{1b}[m\u{1b}[mal\r\u{1b}[J\u{1b}[m> \u{1b}[malph" ++
@@ -198,16 +232,16 @@ row_100 = record (row 100 settings_100 (codes "al\t\u{f}") []) {
 }
 
 -- modal vi keys@end loaded:#V2␊test␊make␠test␊
-abbrev pub settings_103 : Settings
-settings_103 = record plain {
+abbrev pub settings_117 : Settings
+settings_117 = record plain {
   config = modal (vi plain.config);
   loaded = codes "#V2\ntest\nmake test\n";
   last = Failed;
 }
 
 -- C-R t Esc n = nothing | ends Reader | shows {} ''} 't'make␠test}␛[4D {make␠test}␛[4D ␛[1D {test}␛[4D
-abbrev pub row_103 : Row
-row_103 = record (row 103 settings_103 (codes "\u{12}t\u{1b}n") []) {
+abbrev pub row_117 : Row
+row_117 = record (row 117 settings_117 (codes "\u{12}t\u{1b}n") []) {
   ends = Reader;
   shows = Some
       (codes "\r\u{1b}[J\u{1b}[m> \u{1b}[m\u{1b}[m\u{1b}[m\r\u{1b}[J\u{1b}[m(reverse-i-searc" ++
@@ -218,5 +252,5 @@ row_103 = record (row 103 settings_103 (codes "\u{12}t\u{1b}n") []) {
 }
 
 abbrev pub faults_rows : List Row
-faults_rows = row_5 ∷ row_6 ∷ row_7 ∷ row_8 ∷ row_9 ∷ row_10 ∷ row_11 ∷ row_12 ∷ row_77 ∷ row_80 ∷
-    row_84 ∷ row_87 ∷ row_94 ∷ row_97 ∷ row_100 ∷ row_103 ∷ []
+faults_rows = row_5 ∷ row_6 ∷ row_7 ∷ row_8 ∷ row_9 ∷ row_10 ∷ row_11 ∷ row_12 ∷ row_13 ∷ row_14 ∷
+    row_15 ∷ row_16 ∷ row_81 ∷ row_84 ∷ row_92 ∷ row_95 ∷ row_105 ∷ row_108 ∷ row_111 ∷ row_117 ∷ []

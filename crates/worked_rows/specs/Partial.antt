@@ -979,6 +979,93 @@ row_172 = record (row 172 settings_172 (codes "f(x)\r") (codes "f(x)\n")) {
       codes "[m\u{1b}[m\r\n");
 }
 
+-- partial bare columns:4
+abbrev pub settings_236 : Settings
+settings_236 = record plain {
+  config = partial plain.config;
+  columns = 4;
+  prompt = [];
+}
+
+-- Paste abcd Pasted C-a Right x Enter = axbcd | shows ␍␛[J␛[m␛[m␛[m␛[m ␛[Jabcd␍␊ ␛[1A ␛[1C ␛[@x␍␊␛[@d␛[1A␛[1C ␛[1B␛[1D␍␊ ␍␛[J␛[m␛[m␛[m␛[m ␍␊
+abbrev pub row_236 : Row
+row_236 = record (row 236 settings_236 (codes "\u{1b}[200~abcd\u{1b}[201~\u{1}\u{1b}[Cx\r")
+    (codes "axbcd\n")) {
+      shows = Some (codes "\r\u{1b}[J\u{1b}[m\u{1b}[m\u{1b}[m\u{1b}[m\u{1b}[Jabcd\r\n\u{1b}[1A\u{1b}[1C"
+          ++ codes "\u{1b}[@x\r\n\u{1b}[@d\u{1b}[1A\u{1b}[1C\u{1b}[1B\u{1b}[1D\r\n\r\u{1b}[J\u{1b}" ++
+          codes "[m\u{1b}[m\u{1b}[m\u{1b}[m\r\n");
+    }
+
+-- Paste abcdefg Pasted C-a Right x Enter = axbcdefg | shows ␍␛[J␛[m␛[m␛[m␛[m ␛[Jabcd␍␊efg ␛[1A␛[3D ␛[1C ␛[@x␍␊␛[@d␍␊␛[2A␛[2C ␛[2B␛[2D␍␊ ␍␛[J␛[m␛[m␛[m␛[m ␍␊
+abbrev pub row_237 : Row
+row_237 = record (row 237 settings_236 (codes "\u{1b}[200~abcdefg\u{1b}[201~\u{1}\u{1b}[Cx\r")
+    (codes "axbcdefg\n")) {
+      shows = Some
+          (codes "\r\u{1b}[J\u{1b}[m\u{1b}[m\u{1b}[m\u{1b}[m\u{1b}[Jabcd\r\nefg\u{1b}[1A\u{1b}[3" ++
+          codes "D\u{1b}[1C\u{1b}[@x\r\n\u{1b}[@d\r\n\u{1b}[2A\u{1b}[2C\u{1b}[2B\u{1b}[2D\r\n\r" ++
+          codes "\u{1b}[J\u{1b}[m\u{1b}[m\u{1b}[m\u{1b}[m\r\n");
+    }
+
+-- Paste abcdefgh Pasted C-a Right x Enter = axbcdefgh | shows ␍␛[J␛[m␛[m␛[m␛[m ␛[Jabcd␍␊efgh␍␊ ␛[2A ␛[1C ␛[4hx␍␊d␍␊h␛[4l␛[2A␛[1C ␛[2B␛[1D␍␊ ␍␛[J␛[m␛[m␛[m␛[m ␍␊
+abbrev pub row_238 : Row
+row_238 = record (row 238 settings_236 (codes "\u{1b}[200~abcdefgh\u{1b}[201~\u{1}\u{1b}[Cx\r")
+    (codes "axbcdefgh\n")) {
+      shows = Some (codes "\r\u{1b}[J\u{1b}[m\u{1b}[m\u{1b}[m\u{1b}[m\u{1b}[Jabcd\r\nefgh\r\n\u{1b}[2A"
+          ++ codes "\u{1b}[1C\u{1b}[4hx\r\nd\r\nh\u{1b}[4l\u{1b}[2A\u{1b}[1C\u{1b}[2B\u{1b}[1D\r\n" ++
+          codes "\r\u{1b}[J\u{1b}[m\u{1b}[m\u{1b}[m\u{1b}[m\r\n");
+    }
+
+-- partial bare columns:2
+abbrev pub settings_241 : Settings
+settings_241 = record plain {
+  config = partial plain.config;
+  columns = 2;
+  prompt = [];
+}
+
+-- Paste ab Pasted C-a Right x Enter = axb | shows ␍␛[J␛[m␛[m␛[m␛[m ␛[Jab␍␊ ␛[1A ␛[1C ␛[@x␍␊␛[@b␛[1D ␛[1C␍␊ ␍␛[J␛[m␛[m␛[m␛[m ␍␊
+abbrev pub row_241 : Row
+row_241 = record (row 241 settings_241 (codes "\u{1b}[200~ab\u{1b}[201~\u{1}\u{1b}[Cx\r")
+    (codes "axb\n")) {
+      shows = Some (codes "\r\u{1b}[J\u{1b}[m\u{1b}[m\u{1b}[m\u{1b}[m\u{1b}[Jab\r\n\u{1b}[1A\u{1b}[1C"
+          ++ codes "\u{1b}[@x\r\n\u{1b}[@b\u{1b}[1D\u{1b}[1C\r\n\r\u{1b}[J\u{1b}[m\u{1b}[m\u{1b}[m" ++
+          codes "\u{1b}[m\r\n");
+    }
+
+-- Paste abcd Pasted C-a Right x Enter = axbcd | shows ␍␛[J␛[m␛[m␛[m␛[m ␛[Jab␍␊cd␍␊ ␛[2A ␛[1C ␛[4hx␍␊b␍␊d␛[4l␛[1A␛[1D ␛[1B␛[1C␍␊ ␍␛[J␛[m␛[m␛[m␛[m ␍␊
+abbrev pub row_242 : Row
+row_242 = record (row 242 settings_241 (codes "\u{1b}[200~abcd\u{1b}[201~\u{1}\u{1b}[Cx\r")
+    (codes "axbcd\n")) {
+      shows = Some
+          (codes "\r\u{1b}[J\u{1b}[m\u{1b}[m\u{1b}[m\u{1b}[m\u{1b}[Jab\r\ncd\r\n\u{1b}[2A\u{1b}[" ++
+          codes "1C\u{1b}[4hx\r\nb\r\nd\u{1b}[4l\u{1b}[1A\u{1b}[1D\u{1b}[1B\u{1b}[1C\r\n\r" ++
+          codes "\u{1b}[J\u{1b}[m\u{1b}[m\u{1b}[m\u{1b}[m\r\n");
+    }
+
+-- partial colours helped
+abbrev pub settings_246 : Settings
+settings_246 = record plain {
+  config = partial (colours plain.config);
+  helping = aide true None;
+}
+
+-- Paste (␉) Pasted C-c = nothing | ends Interrupted | shows {} ␛[J␛[0;1;34m(␛[m␛[m?␛[m) ␍␊
+abbrev pub row_246 : Row
+row_246 = record (row 246 settings_246 (codes "\u{1b}[200~(\t)\u{1b}[201~\u{3}") []) {
+  ends = Interrupted;
+  shows = Some (codes "\r\u{1b}[J\u{1b}[m> \u{1b}[m\u{1b}[m\u{1b}[m\u{1b}[J\u{1b}[0;1;34m(\u{1b}[m"
+      ++ codes "\u{1b}[m?\u{1b}[m)\r\n");
+}
+
+-- Paste a(␊) Pasted C-c = nothing | ends Interrupted | shows {} ␛[Ja␛[0;1;34m(␛[m␍␊) ␍␊
+abbrev pub row_247 : Row
+row_247 = record (row 247 settings_246 (codes "\u{1b}[200~a(\n)\u{1b}[201~\u{3}") []) {
+  ends = Interrupted;
+  shows = Some
+      (codes "\r\u{1b}[J\u{1b}[m> \u{1b}[m\u{1b}[m\u{1b}[m\u{1b}[Ja\u{1b}[0;1;34m(\u{1b}[m\r" ++
+      codes "\n)\r\n");
+}
+
 abbrev pub partial_rows : List Row
 partial_rows = row_8 ∷ row_9 ∷ row_10 ∷ row_11 ∷ row_12 ∷ row_15 ∷ row_16 ∷ row_17 ∷ row_18 ∷ row_21
     ∷ row_22 ∷ row_23 ∷ row_24 ∷ row_27 ∷ row_28 ∷ row_29 ∷ row_32 ∷ row_33 ∷ row_34 ∷ row_35 ∷
@@ -990,4 +1077,4 @@ partial_rows = row_8 ∷ row_9 ∷ row_10 ∷ row_11 ∷ row_12 ∷ row_15 ∷ r
     ∷ row_116 ∷ row_117 ∷ row_118 ∷ row_119 ∷ row_122 ∷ row_123 ∷ row_127 ∷ row_131 ∷ row_132 ∷
     row_133 ∷ row_136 ∷ row_140 ∷ row_141 ∷ row_142 ∷ row_145 ∷ row_149 ∷ row_150 ∷ row_151 ∷
     row_152 ∷ row_155 ∷ row_156 ∷ row_157 ∷ row_158 ∷ row_161 ∷ row_165 ∷ row_166 ∷ row_167 ∷
-    row_168 ∷ row_172 ∷ []
+    row_168 ∷ row_172 ∷ row_236 ∷ row_237 ∷ row_238 ∷ row_241 ∷ row_242 ∷ row_246 ∷ row_247 ∷ []

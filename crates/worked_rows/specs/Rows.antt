@@ -611,16 +611,61 @@ row_140 = record (row 140 settings_140 (encode_utf8_all (codes "漢字")) []) {
       codes "m字\u{1b}[m\u{1b}[m\u{1b}[m\r\n"));
 }
 
+-- columns:3
+abbrev pub settings_144 : Settings
+settings_144 = record plain {
+  columns = 3;
+}
+
+-- 漢 = nothing | shows {} {␍␊␛[m漢␛[m} ␍␊
+abbrev pub row_144 : Row
+row_144 = record (row 144 settings_144 (encode_utf8_all (codes "漢")) []) {
+  shows = Some (encode_utf8_all
+      (codes "\r\u{1b}[J\u{1b}[m> \u{1b}[m\u{1b}[m\u{1b}[m\r\u{1b}[J\u{1b}[m> \u{1b}[m\r\n" ++
+      codes "\u{1b}[m漢\u{1b}[m\u{1b}[m\u{1b}[m\r\n"));
+}
+
 -- columns:2 bare
-abbrev pub settings_143 : Settings
-settings_143 = record plain {
+abbrev pub settings_148 : Settings
+settings_148 = record plain {
   columns = 2;
   prompt = [];
 }
 
+-- ‹e1›‹9f›‹98› = nothing | shows ␍␛[J␛[m␛[m␛[m␛[m ␍␛[J␛[m␛[m␛[m?␛[m␛[m␛[m ␍␊
+abbrev pub row_148 : Row
+row_148 = record (row 148 settings_148 (encode_utf8_all (codes "៘")) []) {
+  shows = Some
+      (codes "\r\u{1b}[J\u{1b}[m\u{1b}[m\u{1b}[m\u{1b}[m\r\u{1b}[J\u{1b}[m\u{1b}[m\u{1b}[m?" ++
+      codes "\u{1b}[m\u{1b}[m\u{1b}[m\r\n");
+}
+
+-- bare
+abbrev pub settings_151 : Settings
+settings_151 = record plain {
+  prompt = [];
+}
+
+-- ‹e2›‹80›‹8b› = nothing | shows ␍␛[J␛[m␛[m␛[m␛[m ␍␛[J␛[m␛[m␛[m?␛[m␛[m␛[m ␍␊
+abbrev pub row_151 : Row
+row_151 = record (row 151 settings_151 (encode_utf8_all (codes "\u{200b}")) []) {
+  shows = Some
+      (codes "\r\u{1b}[J\u{1b}[m\u{1b}[m\u{1b}[m\u{1b}[m\r\u{1b}[J\u{1b}[m\u{1b}[m\u{1b}[m?" ++
+      codes "\u{1b}[m\u{1b}[m\u{1b}[m\r\n");
+}
+
+-- Paste a‹c2›‹85›␡ Pasted = nothing | shows ␍␛[J␛[m␛[m␛[m␛[m ␍␛[J␛[m␛[ma␛[m?␛[m␛[m?␛[m␛[m␛[m ␍␊
+abbrev pub row_152 : Row
+row_152 = record (row 152 settings_151 (encode_utf8_all
+    (codes "\u{1b}[200~a\u{85}\u{7f}\u{1b}[201~")) []) {
+      shows = Some
+          (codes "\r\u{1b}[J\u{1b}[m\u{1b}[m\u{1b}[m\u{1b}[m\r\u{1b}[J\u{1b}[m\u{1b}[ma\u{1b}[m?" ++
+          codes "\u{1b}[m\u{1b}[m?\u{1b}[m\u{1b}[m\u{1b}[m\r\n");
+    }
+
 -- 漢 a = nothing | shows ␍␛[J␛[m␛[m␛[m␛[m ␍␛[J␛[m␛[m␛[m漢␛[m␍␊␛[m␛[m ␛[1A␍␛[J␛[m␛[m␛[m漢␛[m␍␊a␛[m␛[m ␍␊
-abbrev pub row_143 : Row
-row_143 = record (row 143 settings_143 (encode_utf8_all (codes "漢a")) []) {
+abbrev pub row_155 : Row
+row_155 = record (row 155 settings_148 (encode_utf8_all (codes "漢a")) []) {
   shows = Some (encode_utf8_all
       (codes "\r\u{1b}[J\u{1b}[m\u{1b}[m\u{1b}[m\u{1b}[m\r\u{1b}[J\u{1b}[m\u{1b}[m\u{1b}[m漢" ++
       codes "\u{1b}[m\r\n\u{1b}[m\u{1b}[m\u{1b}[1A\r\u{1b}[J\u{1b}[m\u{1b}[m\u{1b}[m漢\u{1b}" ++
@@ -628,14 +673,14 @@ row_143 = record (row 143 settings_143 (encode_utf8_all (codes "漢a")) []) {
 }
 
 -- columns:2
-abbrev pub settings_146 : Settings
-settings_146 = record plain {
+abbrev pub settings_158 : Settings
+settings_158 = record plain {
   columns = 2;
 }
 
 -- ab = nothing | shows ␍␛[J␛[m>␠␍␊␛[m␛[m␛[m a ␛[1A␍␛[J␛[m>␠␍␊␛[mab␍␊␛[m␛[m ␍␊
-abbrev pub row_146 : Row
-row_146 = record (row 146 settings_146 (codes "ab") []) {
+abbrev pub row_158 : Row
+row_158 = record (row 158 settings_158 (codes "ab") []) {
   shows = Some
       (codes "\r\u{1b}[J\u{1b}[m> \r\n\u{1b}[m\u{1b}[m\u{1b}[ma\u{1b}[1A\r\u{1b}[J\u{1b}[m> " ++
       codes "\r\n\u{1b}[mab\r\n\u{1b}[m\u{1b}[m\r\n");
@@ -650,4 +695,4 @@ rows_rows = row_4 ∷ row_5 ∷ row_6 ∷ row_7 ∷ row_8 ∷ row_9 ∷ row_10 �
     row_81 ∷ row_84 ∷ row_85 ∷ row_86 ∷ row_87 ∷ row_90 ∷ row_94 ∷ row_95 ∷ row_98 ∷ row_101 ∷
     row_102 ∷ row_103 ∷ row_104 ∷ row_105 ∷ row_106 ∷ row_110 ∷ row_111 ∷ row_112 ∷ row_113 ∷
     row_117 ∷ row_120 ∷ row_121 ∷ row_122 ∷ row_125 ∷ row_128 ∷ row_132 ∷ row_135 ∷ row_137 ∷
-    row_140 ∷ row_143 ∷ row_146 ∷ []
+    row_140 ∷ row_144 ∷ row_148 ∷ row_151 ∷ row_152 ∷ row_155 ∷ row_158 ∷ []

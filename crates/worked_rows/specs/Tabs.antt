@@ -732,6 +732,21 @@ row_155 = record (row 155 settings_155 (codes "\u{10}\r") (codes "a\tb\n")) {
       codes "\u{1b}[m\r\n");
 }
 
+-- tabs columns:2
+abbrev pub settings_159 : Settings
+settings_159 = record plain {
+  config = tabs plain.config;
+  columns = 2;
+}
+
+-- Paste ␉ Pasted = nothing | shows ␍␛[J␛[m>␠␍␊␛[m␛[m␛[m ␛[1A␍␛[J␛[m>␠␍␊␛[m␠␠␍␊␛[m␛[m ␍␊
+abbrev pub row_159 : Row
+row_159 = record (row 159 settings_159 (codes "\u{1b}[200~\t\u{1b}[201~") []) {
+  shows = Some
+      (codes "\r\u{1b}[J\u{1b}[m> \r\n\u{1b}[m\u{1b}[m\u{1b}[m\u{1b}[1A\r\u{1b}[J\u{1b}[m> " ++
+      codes "\r\n\u{1b}[m  \r\n\u{1b}[m\u{1b}[m\r\n");
+}
+
 abbrev pub tabs_rows : List Row
 tabs_rows = row_7 ∷ row_8 ∷ row_9 ∷ row_10 ∷ row_13 ∷ row_14 ∷ row_15 ∷ row_18 ∷ row_19 ∷ row_22 ∷
     row_23 ∷ row_26 ∷ row_27 ∷ row_28 ∷ row_31 ∷ row_32 ∷ row_33 ∷ row_34 ∷ row_35 ∷ row_38 ∷ row_39
@@ -739,4 +754,4 @@ tabs_rows = row_7 ∷ row_8 ∷ row_9 ∷ row_10 ∷ row_13 ∷ row_14 ∷ row_1
     row_57 ∷ row_60 ∷ row_63 ∷ row_67 ∷ row_68 ∷ row_72 ∷ row_73 ∷ row_76 ∷ row_79 ∷ row_80 ∷ row_83
     ∷ row_86 ∷ row_93 ∷ row_100 ∷ row_101 ∷ row_105 ∷ row_106 ∷ row_107 ∷ row_108 ∷ row_109 ∷
     row_112 ∷ row_116 ∷ row_119 ∷ row_137 ∷ row_138 ∷ row_142 ∷ row_143 ∷ row_146 ∷ row_149 ∷
-    row_152 ∷ row_155 ∷ []
+    row_152 ∷ row_155 ∷ row_159 ∷ []

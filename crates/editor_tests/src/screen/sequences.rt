@@ -1,10 +1,10 @@
 //! Control sequences and their keys.
 
-use crate::screen::reading::{read_as, read_in_both_modes, read_until_a_failure};
+use crate::screen::reading::called;
 use line_config::EditMode;
 use stand_ins::rows::{Player, raised, rows_hold};
 use stand_ins::tables::{meant_bytes, word_and_rest};
-use std::alloc::{AllocError, Global};
+use std::alloc::Global;
 use std::test::Fail;
 
 const PLAIN: &str = "
@@ -131,6 +131,7 @@ const MODIFIED: &str = "
 /// Reads sequences with a number in place of `@`, each a key with a prefix.
 #[derive(Drop)]
 struct Sequences {
+    mode: EditMode,
     number: &'static str,
     prefix: &'static str,
 }
@@ -138,47 +139,37 @@ struct Sequences {
 impl Player for Sequences {
     fn play(&mut self, alloc: Global, sequence: &str) -> Result<String, Fail> {
         let sequence = sequence.replace(alloc, "@", self.number)?;
-        raised(key_told(alloc, sequence.as_str(), self.prefix))
+        key_told(alloc, self.mode, sequence.as_str(), self.prefix)
     }
 }
 
-// The key of a sequence, without the prefix; if it isn't one such key, what it is read as.
-fn key_told(alloc: Global, sequence: &str, prefix: &str) -> Result<String, AllocError> {
+// The key of a sequence, without the prefix; if it isn't one such key, `another`.
+fn key_told(alloc: Global, mode: EditMode, sequence: &str, prefix: &str) -> Result<String, Fail> {
     let bytes = meant_bytes(alloc, sequence)?;
-    if !all_cut_off(alloc, &bytes)? {
-        return String::from_str(alloc, "another answer where it is cut off");
-    }
-    let said = read_in_both_modes(alloc, &bytes, false)?;
+    let said = called(alloc, mode, &bytes, "key key")?;
     let key = said.as_str().strip_suffix(" Eof").unwrap_or("another end");
-    String::from_str(alloc, key.strip_prefix(prefix).unwrap_or("another key"))
+    raised(String::from_str(alloc, key.strip_prefix(prefix).unwrap_or("another")))
 }
 
-// Whether a sequence is no key if it is cut off after a byte, by the end and by a failure.
-fn is_cut_off(alloc: Global, front: &[u8]) -> Result<bool, AllocError> {
-    let by_end = read_in_both_modes(alloc, front, false)?;
-    let by_failure = read_until_a_failure(alloc, front, false)?;
-    let answer = if front.len() == 1 { "Esc Eof" } else { "Eof" };
-    Ok(by_end.as_str() == answer && by_failure.as_str() == "Reader")
-}
-
-fn all_cut_off(alloc: Global, bytes: &[u8]) -> Result<bool, AllocError> {
-    for cut in 1..bytes.len() {
-        if !is_cut_off(alloc, &bytes[..cut])? {
-            return Ok(false);
-        }
-    }
-    Ok(true)
-}
-
-// Reads the sequences in both modes: whole, one byte per read, and cut after each byte by the end
-// and by a failure.
+// Reads the sequences in both modes.
 fn each_key(
     alloc: Global,
     table: &str,
     number: &'static str,
     prefix: &'static str,
 ) -> Result<(), Fail> {
-    rows_hold(alloc, &mut Sequences { number, prefix }, table)
+    let mut in_emacs = Sequences {
+        mode: EditMode::Emacs,
+        number,
+        prefix,
+    };
+    rows_hold(alloc, &mut in_emacs, table)?;
+    let mut in_vi = Sequences {
+        mode: EditMode::Vi,
+        number,
+        prefix,
+    };
+    rows_hold(alloc, &mut in_vi, table)
 }
 
 #[test]
@@ -197,7 +188,7 @@ fn sequences_have_their_keys(rt: HostRuntime) -> Result<(), Fail> {
 // The result of each byte after ESC [: the first and the last byte of a row.
 const FIRST: &str = "
     00 1f = UnknownEscSeq Eof
-    20 3f = Eof
+    20 3f = Eof Eof
     40 40 = UnknownEscSeq Eof
     41 41 = Up Eof
     42 42 = Down Eof
@@ -209,27 +200,27 @@ const FIRST: &str = "
     48 48 = Home Eof
     49 59 = UnknownEscSeq Eof
     5a 5a = BackTab Eof
-    5b 5b = Eof
+    5b 5b = Eof Eof
     5c 7f = UnknownEscSeq Eof
-    80 ff = NotUtf8
+    80 ff = NotUtf8 NotUtf8
 ";
 
 // After ESC [ 1.
 const PARAMETER: &str = "
     00 1f = UnknownEscSeq Eof
-    20 3f = Eof
+    20 3f = Eof Eof
     40 7d = UnknownEscSeq Eof
     7e 7e = Home Eof
     7f 7f = UnknownEscSeq Eof
-    80 ff = NotUtf8
+    80 ff = NotUtf8 NotUtf8
 ";
 
 // After ESC [ with a blank: a parameter can't follow an intermediate character.
 const INTERMEDIATE: &str = "
     00 1f = UnknownEscSeq Eof
-    20 2f = Eof
+    20 2f = Eof Eof
     30 7f = UnknownEscSeq Eof
-    80 ff = NotUtf8
+    80 ff = NotUtf8 NotUtf8
 ";
 
 /// Reads each byte of a row's range after the same bytes.
@@ -240,19 +231,19 @@ struct After {
 
 impl After {
     // The result of a byte.
-    fn read(&self, alloc: Global, byte: u8) -> Result<String, AllocError> {
+    fn read(&self, alloc: Global, byte: u8) -> Result<String, Fail> {
         let mut bytes = meant_bytes(alloc, self.front)?;
         bytes.push(byte)?;
-        read_as(alloc, &bytes, EditMode::Emacs, false)
+        called(alloc, EditMode::Emacs, &bytes, "key key")
     }
 
     // The result of the first byte, and whether the bytes after it have the same up to the last
     // one.
-    fn read_all(&self, alloc: Global, first: u8, last: u8) -> Result<String, AllocError> {
+    fn read_all(&self, alloc: Global, first: u8, last: u8) -> Result<String, Fail> {
         let said = self.read(alloc, first)?;
         for byte in first..=last {
             if self.read(alloc, byte)? != said {
-                return format!(in alloc; "another answer to {byte:02x}");
+                return raised(format!(in alloc; "another answer to {byte:02x}"));
             }
         }
         Ok(said)
@@ -264,7 +255,7 @@ impl Player for After {
         let (first, last) = word_and_rest(range);
         let first = u8::from_str_radix(first, 16)?;
         let last = u8::from_str_radix(last, 16)?;
-        raised(self.read_all(alloc, first, last))
+        self.read_all(alloc, first, last)
     }
 }
 

@@ -10,8 +10,11 @@ use Rattle.worked_rows.proofs.emacs.Goals as goal
 abbrev part : ℕ → List Row
 part n = take 22 (drop n emacs_rows)
 
+abbrev from_132 : List Row
+from_132 = drop 132 emacs_rows
+
 abbrev from_110 : List Row
-from_110 = drop 110 emacs_rows
+from_110 = part 110 ++ from_132
 
 abbrev from_88 : List Row
 from_88 = part 88 ++ from_110
@@ -86,16 +89,27 @@ unshown-88 = refl
 shown-88 : AllShown (short (part 88))
 shown-88 = all_shown (short (part 88)) unshown-88
 
-given-110 : differing from_110 ≡ []
+given-110 : differing (part 110) ≡ []
 unfolding computing
 given-110 = refl
 
-unshown-110 : unshown (short from_110) ≡ []
+unshown-110 : unshown (short (part 110)) ≡ []
 unfolding computing
 unshown-110 = refl
 
-shown-110 : AllShown (short from_110)
-shown-110 = all_shown (short from_110) unshown-110
+shown-110 : AllShown (short (part 110))
+shown-110 = all_shown (short (part 110)) unshown-110
+
+given-132 : differing from_132 ≡ []
+unfolding computing
+given-132 = refl
+
+unshown-132 : unshown (short from_132) ≡ []
+unfolding computing
+unshown-132 = refl
+
+shown-132 : AllShown (short from_132)
+shown-132 = all_shown (short from_132) unshown-132
 
 pub returns-clause-given : goal.returns-clause-given
 returns-clause-given c = subst (λ rows. differing rows ≡ []) all-rows
@@ -103,7 +117,8 @@ returns-clause-given c = subst (λ rows. differing rows ≡ []) all-rows
     (both_given (part 22) from_44 given-22
     (both_given (part 44) from_66 given-44
     (both_given (part 66) from_88 given-66
-    (both_given (part 88) from_110 given-88 given-110)))))
+    (both_given (part 88) from_110 given-88
+    (both_given (part 110) from_132 given-110 given-132))))))
 
 pub returns-clause-shown : goal.returns-clause-shown
 returns-clause-shown c = subst (λ rows. AllShown (short rows)) all-rows
@@ -111,4 +126,5 @@ returns-clause-shown c = subst (λ rows. AllShown (short rows)) all-rows
     (both_shown (part 22) from_44 shown-22
     (both_shown (part 44) from_66 shown-44
     (both_shown (part 66) from_88 shown-66
-    (both_shown (part 88) from_110 shown-88 shown-110)))))
+    (both_shown (part 88) from_110 shown-88
+    (both_shown (part 110) from_132 shown-110 shown-132))))))

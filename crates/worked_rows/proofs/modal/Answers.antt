@@ -10,8 +10,11 @@ use Rattle.worked_rows.proofs.modal.Goals as goal
 abbrev part : ℕ → List Row
 part n = take 1 (drop n modal_rows)
 
+abbrev from_128 : List Row
+from_128 = drop 128 modal_rows
+
 abbrev from_127 : List Row
-from_127 = drop 127 modal_rows
+from_127 = part 127 ++ from_128
 
 abbrev from_126 : List Row
 from_126 = part 126 ++ from_127
@@ -1794,16 +1797,27 @@ unshown-126 = refl
 shown-126 : AllShown (short (part 126))
 shown-126 = all_shown (short (part 126)) unshown-126
 
-given-127 : differing from_127 ≡ []
+given-127 : differing (part 127) ≡ []
 unfolding computing
 given-127 = refl
 
-unshown-127 : unshown (short from_127) ≡ []
+unshown-127 : unshown (short (part 127)) ≡ []
 unfolding computing
 unshown-127 = refl
 
-shown-127 : AllShown (short from_127)
-shown-127 = all_shown (short from_127) unshown-127
+shown-127 : AllShown (short (part 127))
+shown-127 = all_shown (short (part 127)) unshown-127
+
+given-128 : differing from_128 ≡ []
+unfolding computing
+given-128 = refl
+
+unshown-128 : unshown (short from_128) ≡ []
+unfolding computing
+unshown-128 = refl
+
+shown-128 : AllShown (short from_128)
+shown-128 = all_shown (short from_128) unshown-128
 
 pub returns-clause-given : goal.returns-clause-given
 returns-clause-given c = subst (λ rows. differing rows ≡ []) all-rows
@@ -1933,7 +1947,8 @@ returns-clause-given c = subst (λ rows. differing rows ≡ []) all-rows
     (both_given (part 123) from_124 given-123
     (both_given (part 124) from_125 given-124
     (both_given (part 125) from_126 given-125
-    (both_given (part 126) from_127 given-126 given-127)))))))))))))))))))))))))))))))))))))))))))))))))))))))))))))))))))))))))))))))))))))))))))))))))))))))))))))))))))))))))))))))
+    (both_given (part 126) from_127 given-126
+    (both_given (part 127) from_128 given-127 given-128))))))))))))))))))))))))))))))))))))))))))))))))))))))))))))))))))))))))))))))))))))))))))))))))))))))))))))))))))))))))))))))))
 
 pub returns-clause-shown : goal.returns-clause-shown
 returns-clause-shown c = subst (λ rows. AllShown (short rows)) all-rows
@@ -2063,4 +2078,5 @@ returns-clause-shown c = subst (λ rows. AllShown (short rows)) all-rows
     (both_shown (part 123) from_124 shown-123
     (both_shown (part 124) from_125 shown-124
     (both_shown (part 125) from_126 shown-125
-    (both_shown (part 126) from_127 shown-126 shown-127)))))))))))))))))))))))))))))))))))))))))))))))))))))))))))))))))))))))))))))))))))))))))))))))))))))))))))))))))))))))))))))))
+    (both_shown (part 126) from_127 shown-126
+    (both_shown (part 127) from_128 shown-127 shown-128))))))))))))))))))))))))))))))))))))))))))))))))))))))))))))))))))))))))))))))))))))))))))))))))))))))))))))))))))))))))))))))))

@@ -10,8 +10,14 @@ use Rattle.worked_rows.proofs.partial.Goals as goal
 abbrev part : ℕ → List Row
 part n = take 5 (drop n partial_rows)
 
+abbrev from_105 : List Row
+from_105 = drop 105 partial_rows
+
+abbrev from_100 : List Row
+from_100 = part 100 ++ from_105
+
 abbrev from_95 : List Row
-from_95 = drop 95 partial_rows
+from_95 = part 95 ++ from_100
 
 abbrev from_90 : List Row
 from_90 = part 90 ++ from_95
@@ -282,16 +288,38 @@ unshown-90 = refl
 shown-90 : AllShown (short (part 90))
 shown-90 = all_shown (short (part 90)) unshown-90
 
-given-95 : differing from_95 ≡ []
+given-95 : differing (part 95) ≡ []
 unfolding computing
 given-95 = refl
 
-unshown-95 : unshown (short from_95) ≡ []
+unshown-95 : unshown (short (part 95)) ≡ []
 unfolding computing
 unshown-95 = refl
 
-shown-95 : AllShown (short from_95)
-shown-95 = all_shown (short from_95) unshown-95
+shown-95 : AllShown (short (part 95))
+shown-95 = all_shown (short (part 95)) unshown-95
+
+given-100 : differing (part 100) ≡ []
+unfolding computing
+given-100 = refl
+
+unshown-100 : unshown (short (part 100)) ≡ []
+unfolding computing
+unshown-100 = refl
+
+shown-100 : AllShown (short (part 100))
+shown-100 = all_shown (short (part 100)) unshown-100
+
+given-105 : differing from_105 ≡ []
+unfolding computing
+given-105 = refl
+
+unshown-105 : unshown (short from_105) ≡ []
+unfolding computing
+unshown-105 = refl
+
+shown-105 : AllShown (short from_105)
+shown-105 = all_shown (short from_105) unshown-105
 
 pub returns-clause-given : goal.returns-clause-given
 returns-clause-given c = subst (λ rows. differing rows ≡ []) all-rows
@@ -313,7 +341,9 @@ returns-clause-given c = subst (λ rows. differing rows ≡ []) all-rows
     (both_given (part 75) from_80 given-75
     (both_given (part 80) from_85 given-80
     (both_given (part 85) from_90 given-85
-    (both_given (part 90) from_95 given-90 given-95)))))))))))))))))))
+    (both_given (part 90) from_95 given-90
+    (both_given (part 95) from_100 given-95
+    (both_given (part 100) from_105 given-100 given-105)))))))))))))))))))))
 
 pub returns-clause-shown : goal.returns-clause-shown
 returns-clause-shown c = subst (λ rows. AllShown (short rows)) all-rows
@@ -335,4 +365,6 @@ returns-clause-shown c = subst (λ rows. AllShown (short rows)) all-rows
     (both_shown (part 75) from_80 shown-75
     (both_shown (part 80) from_85 shown-80
     (both_shown (part 85) from_90 shown-85
-    (both_shown (part 90) from_95 shown-90 shown-95)))))))))))))))))))
+    (both_shown (part 90) from_95 shown-90
+    (both_shown (part 95) from_100 shown-95
+    (both_shown (part 100) from_105 shown-100 shown-105)))))))))))))))))))))
