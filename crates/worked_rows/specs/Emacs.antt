@@ -1,8 +1,13 @@
 -- The rows of emacs.txt; tests/definition/worked_rows.py writes them.
+use Rattle.line_buffer.specs.declared.types.Movement.TheVariants.{BeginningOfBuffer, EndOfBuffer, EndOfLine, LineDown, LineUp, ViFirstPrint, WholeBuffer, WholeLine}
 use Rattle.line_config.specs.declared.errors.ReadlineError.TheVariants.{Interrupted}
-use Rattle.std.specs.Prelude.{List, [], ◌∷◌, Some, codes, encode_utf8_all}
+use Rattle.line_keys.specs.Keys.{ctrl, key_with}
+use Rattle.line_keys.specs.declared.command.Cmd.TheVariants.{Dedent, Indent, Kill}
+use Rattle.line_keys.specs.declared.events.Event.TheVariants.{KeySeq}
+use Rattle.line_keys.specs.declared.key.KeyCode.TheVariants.{Char}
+use Rattle.std.specs.Prelude.{List, [], ◌∷◌, None, Some, true, codes, encode_utf8_all}
 use Rattle.worked_rows.specs.Playing.{Row, row}
-use Rattle.worked_rows.specs.Settings.{Settings, adding, plain}
+use Rattle.worked_rows.specs.Settings.{Settings, adding, aide, bound, command, plain}
 
 -- abc Enter = abc
 abbrev pub row_5 : Row
@@ -478,96 +483,469 @@ row_136 = row 136 plain (codes "\u{1b}[200~a\nb\u{1b}[201~\u{b}\u{1}\u{b}\r") (c
 abbrev pub row_137 : Row
 row_137 = row 137 plain (codes "\u{1b}[200~a\nb\u{1b}[201~\u{15}\u{7f}\u{15}\r") (codes "\n")
 
+-- Paste αß␊γδ␠12␊ε␠f4 Pasted M-9 C-b C-k X C-y Enter = αß␊γXδ␠12␊ε␠f4
+abbrev pub row_140 : Row
+row_140 = row 140 plain (encode_utf8_all
+    (codes "\u{1b}[200~αß\nγδ 12\nε f4\u{1b}[201~\u{1b}9\u{2}\u{b}X\u{19}\r")) (encode_utf8_all
+    (codes "αß\nγXδ 12\nε f4\n"))
+
+-- Paste αß␊γδ␠12␊ε␠f4 Pasted M-9 C-b C-k C-k X Enter = αß␊γXε␠f4
+abbrev pub row_141 : Row
+row_141 = row 141 plain (encode_utf8_all
+    (codes "\u{1b}[200~αß\nγδ 12\nε f4\u{1b}[201~\u{1b}9\u{2}\u{b}\u{b}X\r")) (encode_utf8_all
+    (codes "αß\nγXε f4\n"))
+
+-- Paste αß␊γδ␠12␊ε␠f4 Pasted M-9 C-b C-k C-k C-k C-k X C-y Enter = αß␊γXδ␠12␊ε␠f4
+abbrev pub row_142 : Row
+row_142 = row 142 plain (encode_utf8_all
+    (codes "\u{1b}[200~αß\nγδ 12\nε f4\u{1b}[201~\u{1b}9\u{2}\u{b}\u{b}\u{b}\u{b}X\u{19}\r"))
+    (encode_utf8_all (codes "αß\nγXδ 12\nε f4\n"))
+
+-- Paste ab␊cde Pasted C-b C-u X C-y Enter = ab␊Xcde
+abbrev pub row_143 : Row
+row_143 = row 143 plain (codes "\u{1b}[200~ab\ncde\u{1b}[201~\u{2}\u{15}X\u{19}\r")
+    (codes "ab\nXcde\n")
+
+-- Paste a␊b Pasted C-b C-u X Enter = aXb
+abbrev pub row_144 : Row
+row_144 = row 144 plain (codes "\u{1b}[200~a\nb\u{1b}[201~\u{2}\u{15}X\r") (codes "aXb\n")
+
+-- Paste a␊b Pasted C-b C-b C-k X Enter = aXb
+abbrev pub row_145 : Row
+row_145 = row 145 plain (codes "\u{1b}[200~a\nb\u{1b}[201~\u{2}\u{2}\u{b}X\r") (codes "aXb\n")
+
+-- Paste a␊ Pasted C-k X Enter = a␊X
+abbrev pub row_146 : Row
+row_146 = row 146 plain (codes "\u{1b}[200~a\n\u{1b}[201~\u{b}X\r") (codes "a\nX\n")
+
+-- abcd C-b C-b C-k C-u C-y X Enter = abcdX
+abbrev pub row_147 : Row
+row_147 = row 147 plain (codes "abcd\u{2}\u{2}\u{b}\u{15}\u{19}X\r") (codes "abcdX\n")
+
+-- abcd C-b C-b C-u C-k C-y X Enter = abcdX
+abbrev pub row_148 : Row
+row_148 = row 148 plain (codes "abcd\u{2}\u{2}\u{15}\u{b}\u{19}X\r") (codes "abcdX\n")
+
+-- ab C-w cd M-2 Backspace C-y X Enter = abX
+abbrev pub row_149 : Row
+row_149 = row 149 plain (codes "ab\u{17}cd\u{1b}2\u{7f}\u{19}X\r") (codes "abX\n")
+
+-- one␠two,six C-a M-f M-2 M-d X C-y Enter = oneX␠two,six
+abbrev pub row_150 : Row
+row_150 = row 150 plain (codes "one two,six\u{1}\u{1b}f\u{1b}2\u{1b}dX\u{19}\r")
+    (codes "oneX two,six\n")
+
+-- aßc C-a Right C-t X Enter = ßaXc
+abbrev pub row_153 : Row
+row_153 = row 153 plain (encode_utf8_all (codes "aßc\u{1}\u{1b}[C\u{14}X\r")) (encode_utf8_all
+    (codes "ßaXc\n"))
+
+-- aßc Left C-t X Enter = acßX
+abbrev pub row_154 : Row
+row_154 = row 154 plain (encode_utf8_all (codes "aßc\u{1b}[D\u{14}X\r")) (encode_utf8_all
+    (codes "acßX\n"))
+
+-- xe‹cc›‹81› C-t X Enter = e‹cc›‹81›xX
+abbrev pub row_155 : Row
+row_155 = row 155 plain (encode_utf8_all (codes "xé\u{14}X\r")) (encode_utf8_all
+    (codes "éxX\n"))
+
+-- ab␠c M-t X Enter = c␠abX
+abbrev pub row_156 : Row
+row_156 = row 156 plain (codes "ab c\u{1b}tX\r") (codes "c abX\n")
+
+-- ab␠c C-a M-2 M-t X Enter = c␠abX
+abbrev pub row_157 : Row
+row_157 = row 157 plain (codes "ab c\u{1}\u{1b}2\u{1b}tX\r") (codes "c abX\n")
+
+-- ab␠c C-a M-t X Enter = abX␠c
+abbrev pub row_158 : Row
+row_158 = row 158 plain (codes "ab c\u{1}\u{1b}tX\r") (codes "abX c\n")
+
+-- é,␠two␠x C-a Right Right M-t X Enter = two,␠éX␠x
+abbrev pub row_159 : Row
+row_159 = row 159 plain (encode_utf8_all (codes "é, two x\u{1}\u{1b}[C\u{1b}[C\u{1b}tX\r"))
+    (encode_utf8_all (codes "two, éX x\n"))
+
+-- ␠␠fOO␠bar C-a M-c X Enter = ␠␠FooX␠bar
+abbrev pub row_160 : Row
+row_160 = row 160 plain (codes "  fOO bar\u{1}\u{1b}cX\r") (codes "  FooX bar\n")
+
+-- fOO␠bar C-a Right M-l X Enter = fooX␠bar
+abbrev pub row_161 : Row
+row_161 = row 161 plain (codes "fOO bar\u{1}\u{1b}[C\u{1b}lX\r") (codes "fooX bar\n")
+
+-- foo␠bar C-a M-f M-u X Enter = foo␠BARX
+abbrev pub row_162 : Row
+row_162 = row 162 plain (codes "foo bar\u{1}\u{1b}f\u{1b}uX\r") (codes "foo BARX\n")
+
+-- éA␠b C-a M-u X Enter = éAX␠b
+abbrev pub row_163 : Row
+row_163 = row 163 plain (encode_utf8_all (codes "éA b\u{1}\u{1b}uX\r")) (encode_utf8_all
+    (codes "éAX b\n"))
+
+-- éA␠b C-a M-l X Enter = éaX␠b
+abbrev pub row_164 : Row
+row_164 = row 164 plain (encode_utf8_all (codes "éA b\u{1}\u{1b}lX\r")) (encode_utf8_all
+    (codes "éaX b\n"))
+
+-- aßA C-a M-c X Enter = AßaX
+abbrev pub row_165 : Row
+row_165 = row 165 plain (encode_utf8_all (codes "aßA\u{1}\u{1b}cX\r")) (encode_utf8_all
+    (codes "AßaX\n"))
+
+-- ab␠- C-a M-f M-u X Enter = abX␠-
+abbrev pub row_166 : Row
+row_166 = row 166 plain (codes "ab -\u{1}\u{1b}f\u{1b}uX\r") (codes "abX -\n")
+
+-- ab␠c C-_ X Enter = abX
+abbrev pub row_169 : Row
+row_169 = row 169 plain (codes "ab c\u{1f}X\r") (codes "abX\n")
+
+-- ab␠c M-9 C-_ X Enter = X
+abbrev pub row_170 : Row
+row_170 = row 170 plain (codes "ab c\u{1b}9\u{1f}X\r") (codes "X\n")
+
+-- abcd Left Backspace Backspace C-d C-_ X Enter = abcdX
+abbrev pub row_171 : Row
+row_171 = row 171 plain (codes "abcd\u{1b}[D\u{7f}\u{7f}\u{4}\u{1f}X\r") (codes "abcdX\n")
+
+-- abc Backspace M-2 Backspace C-_ X Enter = abX
+abbrev pub row_172 : Row
+row_172 = row 172 plain (codes "abc\u{7f}\u{1b}2\u{7f}\u{1f}X\r") (codes "abX\n")
+
+-- abc Backspace Backspace Backspace C-_ X Enter = abcX
+abbrev pub row_173 : Row
+row_173 = row 173 plain (codes "abc\u{7f}\u{7f}\u{7f}\u{1f}X\r") (codes "abcX\n")
+
+-- abc Backspace Backspace Backspace C-_ C-_ X Enter = X
+abbrev pub row_174 : Row
+row_174 = row 174 plain (codes "abc\u{7f}\u{7f}\u{7f}\u{1f}\u{1f}X\r") (codes "X\n")
+
+-- abc Backspace Backspace Backspace C-_ d C-_ X Enter = X
+abbrev pub row_175 : Row
+row_175 = row 175 plain (codes "abc\u{7f}\u{7f}\u{7f}\u{1f}d\u{1f}X\r") (codes "X\n")
+
+-- a Paste b Pasted cß C-_ X Enter = aX
+abbrev pub row_176 : Row
+row_176 = row 176 plain (encode_utf8_all (codes "a\u{1b}[200~b\u{1b}[201~cß\u{1f}X\r"))
+    (codes "aX\n")
+
+-- a Paste b Pasted C-_ X Enter = aX
+abbrev pub row_177 : Row
+row_177 = row 177 plain (codes "a\u{1b}[200~b\u{1b}[201~\u{1f}X\r") (codes "aX\n")
+
+-- one␠two C-a M-u C-_ X Enter = oneX␠two
+abbrev pub row_178 : Row
+row_178 = row 178 plain (codes "one two\u{1}\u{1b}u\u{1f}X\r") (codes "oneX two\n")
+
+-- one␠two C-a M-u C-e Paste !! Pasted Backspace M-2 C-_ X Enter = ONE␠twoX
+abbrev pub row_179 : Row
+row_179 = row 179 plain
+    (codes "one two\u{1}\u{1b}u\u{5}\u{1b}[200~!!\u{1b}[201~\u{7f}\u{1b}2\u{1f}X\r")
+    (codes "ONE twoX\n")
+
+-- one␠two C-w C-a C-y C-_ X Enter = Xone␠
+abbrev pub row_180 : Row
+row_180 = row 180 plain (codes "one two\u{17}\u{1}\u{19}\u{1f}X\r") (codes "Xone \n")
+
 -- adding
-abbrev pub settings_141 : Settings
-settings_141 = record plain {
+abbrev pub settings_184 : Settings
+settings_184 = record plain {
   config = adding plain.config;
 }
 
 -- one Enter Up Enter = one one | saves #V2␊one␊
-abbrev pub row_141 : Row
-row_141 = record (row 141 settings_141 (codes "one\r\u{1b}[A\r") (codes "one\none\n")) {
+abbrev pub row_184 : Row
+row_184 = record (row 184 settings_184 (codes "one\r\u{1b}[A\r") (codes "one\none\n")) {
   saves = Some (codes "#V2\none\n");
 }
 
 -- one Enter two Enter C-p C-p C-n Enter = one two two | saves #V2␊one␊two␊
-abbrev pub row_142 : Row
-row_142 = record (row 142 settings_141 (codes "one\rtwo\r\u{10}\u{10}\u{e}\r")
+abbrev pub row_185 : Row
+row_185 = record (row 185 settings_184 (codes "one\rtwo\r\u{10}\u{10}\u{e}\r")
     (codes "one\ntwo\ntwo\n")) {
       saves = Some (codes "#V2\none\ntwo\n");
     }
 
 -- one Enter two Enter C-p C-p C-p Enter = one two one | saves #V2␊one␊two␊one␊
-abbrev pub row_143 : Row
-row_143 = record (row 143 settings_141 (codes "one\rtwo\r\u{10}\u{10}\u{10}\r")
+abbrev pub row_186 : Row
+row_186 = record (row 186 settings_184 (codes "one\rtwo\r\u{10}\u{10}\u{10}\r")
     (codes "one\ntwo\none\n")) {
       saves = Some (codes "#V2\none\ntwo\none\n");
     }
 
 -- one Enter tw C-p C-n o Enter = one two
-abbrev pub row_144 : Row
-row_144 = row 144 settings_141 (codes "one\rtw\u{10}\u{e}o\r") (codes "one\ntwo\n")
+abbrev pub row_187 : Row
+row_187 = row 187 settings_184 (codes "one\rtw\u{10}\u{e}o\r") (codes "one\ntwo\n")
 
 -- one Enter C-p x Enter = one onex
-abbrev pub row_145 : Row
-row_145 = row 145 settings_141 (codes "one\r\u{10}x\r") (codes "one\nonex\n")
+abbrev pub row_188 : Row
+row_188 = row 188 settings_184 (codes "one\r\u{10}x\r") (codes "one\nonex\n")
 
 -- one Enter Up Down x Enter = one x
-abbrev pub row_146 : Row
-row_146 = row 146 settings_141 (codes "one\r\u{1b}[A\u{1b}[Bx\r") (codes "one\nx\n")
+abbrev pub row_189 : Row
+row_189 = row 189 settings_184 (codes "one\r\u{1b}[A\u{1b}[Bx\r") (codes "one\nx\n")
 
 -- one Enter two Enter M-< Enter = one two one
-abbrev pub row_147 : Row
-row_147 = row 147 settings_141 (codes "one\rtwo\r\u{1b}<\r") (codes "one\ntwo\none\n")
+abbrev pub row_190 : Row
+row_190 = row 190 settings_184 (codes "one\rtwo\r\u{1b}<\r") (codes "one\ntwo\none\n")
 
 -- one Enter two Enter six M-< M-> Enter = one two six
-abbrev pub row_148 : Row
-row_148 = row 148 settings_141 (codes "one\rtwo\rsix\u{1b}<\u{1b}>\r") (codes "one\ntwo\nsix\n")
+abbrev pub row_191 : Row
+row_191 = row 191 settings_184 (codes "one\rtwo\rsix\u{1b}<\u{1b}>\r") (codes "one\ntwo\nsix\n")
 
 -- one Enter one Enter = one one | saves #V2␊one␊
-abbrev pub row_149 : Row
-row_149 = record (row 149 settings_141 (codes "one\rone\r") (codes "one\none\n")) {
+abbrev pub row_192 : Row
+row_192 = record (row 192 settings_184 (codes "one\rone\r") (codes "one\none\n")) {
   saves = Some (codes "#V2\none\n");
 }
 
 -- one Enter Enter = one "" | saves #V2␊one␊
-abbrev pub row_150 : Row
-row_150 = record (row 150 settings_141 (codes "one\r\r") (codes "one\n\n")) {
+abbrev pub row_193 : Row
+row_193 = record (row 193 settings_184 (codes "one\r\r") (codes "one\n\n")) {
   saves = Some (codes "#V2\none\n");
 }
 
 -- ␠one Enter = ␠one | saves #V2␊␠one␊
-abbrev pub row_151 : Row
-row_151 = record (row 151 settings_141 (codes " one\r") (codes " one\n")) {
+abbrev pub row_194 : Row
+row_194 = record (row 194 settings_184 (codes " one\r") (codes " one\n")) {
   saves = Some (codes "#V2\n one\n");
 }
 
 -- adding loaded:#V2␊first␊second␊
-abbrev pub settings_154 : Settings
-settings_154 = record plain {
+abbrev pub settings_197 : Settings
+settings_197 = record plain {
   config = adding plain.config;
   loaded = codes "#V2\nfirst\nsecond\n";
 }
 
 -- Up Up Enter = first | saves #V2␊first␊second␊first␊
-abbrev pub row_154 : Row
-row_154 = record (row 154 settings_154 (codes "\u{1b}[A\u{1b}[A\r") (codes "first\n")) {
+abbrev pub row_197 : Row
+row_197 = record (row 197 settings_197 (codes "\u{1b}[A\u{1b}[A\r") (codes "first\n")) {
   saves = Some (codes "#V2\nfirst\nsecond\nfirst\n");
 }
 
 -- Up Up Up Enter = first
-abbrev pub row_155 : Row
-row_155 = row 155 settings_154 (codes "\u{1b}[A\u{1b}[A\u{1b}[A\r") (codes "first\n")
+abbrev pub row_198 : Row
+row_198 = row 198 settings_197 (codes "\u{1b}[A\u{1b}[A\u{1b}[A\r") (codes "first\n")
 
 -- C-p x Enter = secondx | saves #V2␊first␊second␊secondx␊
-abbrev pub row_156 : Row
-row_156 = record (row 156 settings_154 (codes "\u{10}x\r") (codes "secondx\n")) {
+abbrev pub row_199 : Row
+row_199 = record (row 199 settings_197 (codes "\u{10}x\r") (codes "secondx\n")) {
   saves = Some (codes "#V2\nfirst\nsecond\nsecondx\n");
 }
 
 -- third Up Down ! Enter = third!
-abbrev pub row_157 : Row
-row_157 = row 157 settings_154 (codes "third\u{1b}[A\u{1b}[B!\r") (codes "third!\n")
+abbrev pub row_200 : Row
+row_200 = row 200 settings_197 (codes "third\u{1b}[A\u{1b}[B!\r") (codes "third!\n")
+
+-- bind:C-O⇒Kill·WholeLine
+abbrev pub settings_204 : Settings
+settings_204 = record plain {
+  custom = bound ((KeySeq ((key_with (Char 79) ctrl) ∷ []), command (Kill WholeLine)) ∷ []);
+}
+
+-- Paste a␊bc␊d Pasted Left Left Left C-o X C-y Enter = a␊Xbc␊d
+abbrev pub row_204 : Row
+row_204 = row 204 settings_204
+    (codes "\u{1b}[200~a\nbc\nd\u{1b}[201~\u{1b}[D\u{1b}[D\u{1b}[D\u{f}X\u{19}\r")
+    (codes "a\nXbc\nd\n")
+
+-- Paste a␊␊b Pasted Left Left C-o X Enter = a␊Xb
+abbrev pub row_205 : Row
+row_205 = row 205 settings_204 (codes "\u{1b}[200~a\n\nb\u{1b}[201~\u{1b}[D\u{1b}[D\u{f}X\r")
+    (codes "a\nXb\n")
+
+-- Paste a␊ Pasted C-o X Enter = a␊X
+abbrev pub row_206 : Row
+row_206 = row 206 settings_204 (codes "\u{1b}[200~a\n\u{1b}[201~\u{f}X\r") (codes "a\nX\n")
+
+-- bind:C-O⇒Kill·LineUp·1
+abbrev pub settings_209 : Settings
+settings_209 = record plain {
+  custom = bound ((KeySeq ((key_with (Char 79) ctrl) ∷ []), command (Kill (LineUp 1))) ∷ []);
+}
+
+-- Paste ab␊cd␊e Pasted M-3 Left C-o X C-y Enter = Xab␊cd␊e
+abbrev pub row_209 : Row
+row_209 = row 209 settings_209
+    (codes "\u{1b}[200~ab\ncd\ne\u{1b}[201~\u{1b}3\u{1b}[D\u{f}X\u{19}\r") (codes "Xab\ncd\ne\n")
+
+-- Paste a␊b Pasted C-o X C-y Enter = Xa␊b
+abbrev pub row_210 : Row
+row_210 = row 210 settings_209 (codes "\u{1b}[200~a\nb\u{1b}[201~\u{f}X\u{19}\r") (codes "Xa\nb\n")
+
+-- Paste a␊b Pasted Left Left C-o X Enter = aX␊b
+abbrev pub row_211 : Row
+row_211 = row 211 settings_209 (codes "\u{1b}[200~a\nb\u{1b}[201~\u{1b}[D\u{1b}[D\u{f}X\r")
+    (codes "aX\nb\n")
+
+-- bind:C-O⇒Kill·LineDown·1
+abbrev pub settings_214 : Settings
+settings_214 = record plain {
+  custom = bound ((KeySeq ((key_with (Char 79) ctrl) ∷ []), command (Kill (LineDown 1))) ∷ []);
+}
+
+-- Paste ab␊cd␊ef␊y Pasted M-6 Left C-o X C-y Enter = ab␊Xcd␊ef␊y
+abbrev pub row_214 : Row
+row_214 = row 214 settings_214
+    (codes "\u{1b}[200~ab\ncd\nef\ny\u{1b}[201~\u{1b}6\u{1b}[D\u{f}X\u{19}\r")
+    (codes "ab\nXcd\nef\ny\n")
+
+-- Paste ab␊cd␊ef Pasted M-4 Left C-o X C-y Enter = ab␊Xcd␊ef
+abbrev pub row_215 : Row
+row_215 = row 215 settings_214
+    (codes "\u{1b}[200~ab\ncd\nef\u{1b}[201~\u{1b}4\u{1b}[D\u{f}X\u{19}\r") (codes "ab\nXcd\nef\n")
+
+-- Paste a␊b Pasted Left C-o X Enter = a␊Xb
+abbrev pub row_216 : Row
+row_216 = row 216 settings_214 (codes "\u{1b}[200~a\nb\u{1b}[201~\u{1b}[D\u{f}X\r")
+    (codes "a\nXb\n")
+
+-- bind:C-O⇒Kill·WholeBuffer
+abbrev pub settings_219 : Settings
+settings_219 = record plain {
+  custom = bound ((KeySeq ((key_with (Char 79) ctrl) ∷ []), command (Kill WholeBuffer)) ∷ []);
+}
+
+-- Paste ab␊c Pasted Left C-o X C-y Enter = Xab␊c
+abbrev pub row_219 : Row
+row_219 = row 219 settings_219 (codes "\u{1b}[200~ab\nc\u{1b}[201~\u{1b}[D\u{f}X\u{19}\r")
+    (codes "Xab\nc\n")
+
+-- C-o X C-y Enter = X
+abbrev pub row_220 : Row
+row_220 = row 220 settings_219 (codes "\u{f}X\u{19}\r") (codes "X\n")
+
+-- bind:C-O⇒Kill·BeginningOfBuffer
+abbrev pub settings_223 : Settings
+settings_223 = record plain {
+  custom = bound ((KeySeq ((key_with (Char 79) ctrl) ∷ []), command (Kill BeginningOfBuffer)) ∷ []);
+}
+
+-- Paste ab␊cd␊e Pasted M-3 Left C-o X C-y Enter = Xab␊cd␊e
+abbrev pub row_223 : Row
+row_223 = row 223 settings_223
+    (codes "\u{1b}[200~ab\ncd\ne\u{1b}[201~\u{1b}3\u{1b}[D\u{f}X\u{19}\r") (codes "Xab\ncd\ne\n")
+
+-- ab C-a C-o X Enter = Xab
+abbrev pub row_224 : Row
+row_224 = row 224 settings_223 (codes "ab\u{1}\u{f}X\r") (codes "Xab\n")
+
+-- bind:C-O⇒Kill·EndOfBuffer
+abbrev pub settings_227 : Settings
+settings_227 = record plain {
+  custom = bound ((KeySeq ((key_with (Char 79) ctrl) ∷ []), command (Kill EndOfBuffer)) ∷ []);
+}
+
+-- Paste ab␊cd␊e Pasted M-3 Left C-o X C-y Enter = ab␊cXd␊e
+abbrev pub row_227 : Row
+row_227 = row 227 settings_227
+    (codes "\u{1b}[200~ab\ncd\ne\u{1b}[201~\u{1b}3\u{1b}[D\u{f}X\u{19}\r") (codes "ab\ncXd\ne\n")
+
+-- ab C-o X Enter = abX
+abbrev pub row_228 : Row
+row_228 = row 228 settings_227 (codes "ab\u{f}X\r") (codes "abX\n")
+
+-- bind:C-O⇒Kill·ViFirstPrint
+abbrev pub settings_231 : Settings
+settings_231 = record plain {
+  custom = bound ((KeySeq ((key_with (Char 79) ctrl) ∷ []), command (Kill ViFirstPrint)) ∷ []);
+}
+
+-- ab Left C-o X Enter = aXb
+abbrev pub row_231 : Row
+row_231 = row 231 settings_231 (codes "ab\u{1b}[D\u{f}X\r") (codes "aXb\n")
+
+-- bind:C-O⇒Indent·WholeBuffer
+abbrev pub settings_235 : Settings
+settings_235 = record plain {
+  custom = bound ((KeySeq ((key_with (Char 79) ctrl) ∷ []), command (Indent WholeBuffer)) ∷ []);
+}
+
+-- Paste a␊b␊c Pasted M-3 Left C-o X Enter = ␠␠a␊␠␠Xb␊␠␠c
+abbrev pub row_235 : Row
+row_235 = row 235 settings_235 (codes "\u{1b}[200~a\nb\nc\u{1b}[201~\u{1b}3\u{1b}[D\u{f}X\r")
+    (codes "  a\n  Xb\n  c\n")
+
+-- bind:C-O⇒Indent·BeginningOfBuffer
+abbrev pub settings_238 : Settings
+settings_238 = record plain {
+  custom = bound ((KeySeq ((key_with (Char 79) ctrl) ∷ []), command (Indent BeginningOfBuffer)) ∷
+      []);
+}
+
+-- Paste a␊b␊c Pasted M-3 Left C-o X Enter = ␠␠a␊␠␠Xb␊c
+abbrev pub row_238 : Row
+row_238 = row 238 settings_238 (codes "\u{1b}[200~a\nb\nc\u{1b}[201~\u{1b}3\u{1b}[D\u{f}X\r")
+    (codes "  a\n  Xb\nc\n")
+
+-- bind:C-O⇒Indent·EndOfBuffer
+abbrev pub settings_241 : Settings
+settings_241 = record plain {
+  custom = bound ((KeySeq ((key_with (Char 79) ctrl) ∷ []), command (Indent EndOfBuffer)) ∷ []);
+}
+
+-- Paste a␊b␊c Pasted M-3 Left C-o X Enter = a␊␠␠Xb␊␠␠c
+abbrev pub row_241 : Row
+row_241 = row 241 settings_241 (codes "\u{1b}[200~a\nb\nc\u{1b}[201~\u{1b}3\u{1b}[D\u{f}X\r")
+    (codes "a\n  Xb\n  c\n")
+
+-- Paste a␊b␊ Pasted M-4 Left C-o X Enter = ␠␠Xa␊␠␠b␊␠␠
+abbrev pub row_242 : Row
+row_242 = row 242 settings_241 (codes "\u{1b}[200~a\nb\n\u{1b}[201~\u{1b}4\u{1b}[D\u{f}X\r")
+    (codes "  Xa\n  b\n  \n")
+
+-- bind:C-O⇒Dedent·WholeBuffer
+abbrev pub settings_245 : Settings
+settings_245 = record plain {
+  custom = bound ((KeySeq ((key_with (Char 79) ctrl) ∷ []), command (Dedent WholeBuffer)) ∷ []);
+}
+
+-- Paste ␠␠␠a␊␠b␊c Pasted M-8 Left C-o X Enter = X␠a␊b␊c
+abbrev pub row_245 : Row
+row_245 = row 245 settings_245 (codes "\u{1b}[200~   a\n b\nc\u{1b}[201~\u{1b}8\u{1b}[D\u{f}X\r")
+    (codes "X a\nb\nc\n")
+
+-- bind:C-O⇒Dedent·EndOfLine
+abbrev pub settings_248 : Settings
+settings_248 = record plain {
+  custom = bound ((KeySeq ((key_with (Char 79) ctrl) ∷ []), command (Dedent EndOfLine)) ∷ []);
+}
+
+-- Paste ‹e3›‹80›‹80›‹e3›‹80›‹80›é Pasted Left C-o X Enter = Xé
+abbrev pub row_248 : Row
+row_248 = row 248 settings_248 (encode_utf8_all
+    (codes "\u{1b}[200~\u{3000}\u{3000}é\u{1b}[201~\u{1b}[D\u{f}X\r")) (encode_utf8_all
+    (codes "Xé\n"))
+
+-- helped loaded:#V2␊hello␠world␊
+abbrev pub settings_252 : Settings
+settings_252 = record plain {
+  helping = aide true None;
+  loaded = codes "#V2\nhello world\n";
+}
+
+-- hello Right ! Enter = hello␠world!
+abbrev pub row_252 : Row
+row_252 = row 252 settings_252 (codes "hello\u{1b}[C!\r") (codes "hello world!\n")
+
+-- hello C-f X Enter = helloX
+abbrev pub row_253 : Row
+row_253 = row 253 settings_252 (codes "hello\u{6}X\r") (codes "helloX\n")
+
+-- hello␠world Right ! Enter = hello␠world!
+abbrev pub row_254 : Row
+row_254 = row 254 settings_252 (codes "hello world\u{1b}[C!\r") (codes "hello world!\n")
+
+-- help Right ! Enter = help!
+abbrev pub row_255 : Row
+row_255 = row 255 settings_252 (codes "help\u{1b}[C!\r") (codes "help!\n")
+
+-- Right ! Enter = !
+abbrev pub row_256 : Row
+row_256 = row 256 settings_252 (codes "\u{1b}[C!\r") (codes "!\n")
 
 abbrev pub emacs_rows : List Row
 emacs_rows = row_5 ∷ row_6 ∷ row_7 ∷ row_8 ∷ row_9 ∷ row_10 ∷ row_11 ∷ row_12 ∷ row_13 ∷ row_14 ∷
@@ -581,6 +959,13 @@ emacs_rows = row_5 ∷ row_6 ∷ row_7 ∷ row_8 ∷ row_9 ∷ row_10 ∷ row_11
     ∷ row_99 ∷ row_100 ∷ row_103 ∷ row_104 ∷ row_105 ∷ row_106 ∷ row_107 ∷ row_108 ∷ row_109 ∷
     row_110 ∷ row_111 ∷ row_112 ∷ row_113 ∷ row_116 ∷ row_117 ∷ row_118 ∷ row_119 ∷ row_120 ∷
     row_121 ∷ row_122 ∷ row_123 ∷ row_124 ∷ row_125 ∷ row_128 ∷ row_129 ∷ row_130 ∷ row_131 ∷
-    row_132 ∷ row_133 ∷ row_134 ∷ row_135 ∷ row_136 ∷ row_137 ∷ row_141 ∷ row_142 ∷ row_143 ∷
-    row_144 ∷ row_145 ∷ row_146 ∷ row_147 ∷ row_148 ∷ row_149 ∷ row_150 ∷ row_151 ∷ row_154 ∷
-    row_155 ∷ row_156 ∷ row_157 ∷ []
+    row_132 ∷ row_133 ∷ row_134 ∷ row_135 ∷ row_136 ∷ row_137 ∷ row_140 ∷ row_141 ∷ row_142 ∷
+    row_143 ∷ row_144 ∷ row_145 ∷ row_146 ∷ row_147 ∷ row_148 ∷ row_149 ∷ row_150 ∷ row_153 ∷
+    row_154 ∷ row_155 ∷ row_156 ∷ row_157 ∷ row_158 ∷ row_159 ∷ row_160 ∷ row_161 ∷ row_162 ∷
+    row_163 ∷ row_164 ∷ row_165 ∷ row_166 ∷ row_169 ∷ row_170 ∷ row_171 ∷ row_172 ∷ row_173 ∷
+    row_174 ∷ row_175 ∷ row_176 ∷ row_177 ∷ row_178 ∷ row_179 ∷ row_180 ∷ row_184 ∷ row_185 ∷
+    row_186 ∷ row_187 ∷ row_188 ∷ row_189 ∷ row_190 ∷ row_191 ∷ row_192 ∷ row_193 ∷ row_194 ∷
+    row_197 ∷ row_198 ∷ row_199 ∷ row_200 ∷ row_204 ∷ row_205 ∷ row_206 ∷ row_209 ∷ row_210 ∷
+    row_211 ∷ row_214 ∷ row_215 ∷ row_216 ∷ row_219 ∷ row_220 ∷ row_223 ∷ row_224 ∷ row_227 ∷
+    row_228 ∷ row_231 ∷ row_235 ∷ row_238 ∷ row_241 ∷ row_242 ∷ row_245 ∷ row_248 ∷ row_252 ∷
+    row_253 ∷ row_254 ∷ row_255 ∷ row_256 ∷ []
