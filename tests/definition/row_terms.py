@@ -20,8 +20,8 @@ NAMES = {
         "Handler", "Helper", "Interrupted", "NotUtf8", "PasteOutOfPlace", "Reader"],
     "Rattle.line_keys.specs.Keys": ["alt", "ctrl", "key_with", "none"],
     "Rattle.line_keys.specs.declared.command.Cmd.TheVariants": [
-        "Abort", "AcceptLine", "CapitalizeWord", "ClearScreen", "Complete", "CompleteHint", "HistorySearchBackward",
-        "HistorySearchForward", "Kill", "Move", "Newline", "Noop", "PreviousHistory", "Repaint", "SelfInsert", "TransposeWords",
+        "Abort", "AcceptLine", "CapitalizeWord", "ClearScreen", "Complete", "CompleteHint", "Dedent", "HistorySearchBackward",
+        "HistorySearchForward", "Indent", "Kill", "Move", "Newline", "Noop", "PreviousHistory", "Repaint", "SelfInsert", "TransposeWords",
         "Undo", "Unknown", "UpcaseWord", "YankPop"],
     "Rattle.line_keys.specs.declared.events.Event.TheVariants": ["Any", "KeySeq"],
     "Rattle.line_keys.specs.declared.key.KeyCode.TheVariants": ["Char", "Esc"],
@@ -117,7 +117,7 @@ def event_term(names):
 def command_term(words):
     """A command with these words: its movement has counts and no other words."""
     name, rest = words[0], words[1:]
-    if name in ("Kill", "Move"):
+    if name in ("Dedent", "Indent", "Kill", "Move"):
         return f"{name} {within(' '.join(rest))}"
     if name == "SelfInsert":
         return f"SelfInsert {rest[0]} {ord(rest[1])}"

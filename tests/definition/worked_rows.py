@@ -32,7 +32,7 @@ CRATE = os.path.join(TOP, "crates", "worked_rows")
 KIT = os.path.join(os.path.dirname(os.path.dirname(RATTLE)), "rattle")
 TABLES = ("emacs", "vi", "rows", "refusals", "faults", "worked", "modal", "candidates", "colours", "tabs", "partial")
 # The tables that are computed in parts, and how many rows a part has.
-PARTS = {"emacs": 22, "vi": 22, "refusals": 6, "modal": 1, "candidates": 7, "colours": 7, "tabs": 4, "partial": 5}
+PARTS = {"emacs": 6, "vi": 6, "refusals": 6, "modal": 1, "candidates": 7, "colours": 7, "tabs": 4, "partial": 5}
 # Files of definitions that are written by hand: what they mention is unfolded.
 BY_HAND = ("Calls", "Comparing", "Playing", "Prompts", "Settings", "Showing", "Splitting")
 # What no definition of a session speaks of: devices that fail, and a helper of the tests.

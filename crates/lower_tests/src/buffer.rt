@@ -1,11 +1,9 @@
-//! The promises of `line_buffer` at work. In the tables of text each row is a call on a line, with
-//! its answer, the line then, and the events for its listener.
+//! The promises of `line_buffer` at work: where motions go, what columns texts have, and insertions
+//! into lines that can't grow. Its other edits are rows of `crates/sessions_program`.
 
 mod arguments;
 mod columns;
 mod edits;
-mod kills;
-mod log;
 mod motions;
 mod table;
 
@@ -14,8 +12,7 @@ use std::test::Fail;
 use table::Desk;
 
 #[test]
-fn motions_and_edits(rt: HostRuntime) -> Result<(), Fail> {
+fn motions_of_lines(rt: HostRuntime) -> Result<(), Fail> {
     tables_hold::<Desk>(rt.alloc(), &motions::TABLES)?;
-    tables_hold::<Desk>(rt.alloc(), &columns::TABLES)?;
-    tables_hold::<Desk>(rt.alloc(), &edits::TABLES)
+    tables_hold::<Desk>(rt.alloc(), &columns::TABLES)
 }

@@ -45,5 +45,6 @@ fn tables_of_keys(rt: HostRuntime) -> Result<(), Fail> {
     )?;
     plays(rt.alloc(), EditMode::Vi, &vi_insert::TABLES)?;
     plays(rt.alloc(), EditMode::Vi, &vi_command::TABLES)?;
+    plays(rt.alloc(), EditMode::Vi, &vi_operators::TABLES)?;
     plays(rt.alloc(), EditMode::Vi, &modal::MODAL_KEYS_OF_VI)
 }

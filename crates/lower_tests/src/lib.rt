@@ -1,13 +1,11 @@
-//! Tests of the six lowest libraries, each in its own module: texts, the undo record and the kill
-//! ring, edits of both, settings and devices, keys and their commands, histories and helpers.
+//! Tests of the lowest libraries, each in its own module: motions, columns and insertions of lines,
+//! the undo record, settings and devices, keys and their commands, histories and helpers.
 #![tactic(auto)]
 
 #[cfg(test)]
 mod buffer;
 #[cfg(test)]
 mod config;
-#[cfg(test)]
-mod edits;
 #[cfg(test)]
 mod help;
 #[cfg(test)]

@@ -1,6 +1,3 @@
-//! The promises of `line_record` at work: tables of text in which each row is a call, with its
-//! answer and what it leaves.
+//! The promises of `line_record` at work: what is undone and redone.
 
-mod changes;
-mod ring;
 mod undo;

@@ -1,8 +1,13 @@
 -- The rows of emacs.txt; tests/definition/worked_rows.py writes them.
+use Rattle.line_buffer.specs.declared.types.Movement.TheVariants.{BeginningOfBuffer, EndOfBuffer, EndOfLine, LineDown, LineUp, ViFirstPrint, WholeBuffer, WholeLine}
 use Rattle.line_config.specs.declared.errors.ReadlineError.TheVariants.{Interrupted}
-use Rattle.std.specs.Prelude.{List, [], ◌∷◌, ◌++◌, Some, codes, encode_utf8_all}
+use Rattle.line_keys.specs.Keys.{ctrl, key_with}
+use Rattle.line_keys.specs.declared.command.Cmd.TheVariants.{Dedent, Indent, Kill}
+use Rattle.line_keys.specs.declared.events.Event.TheVariants.{KeySeq}
+use Rattle.line_keys.specs.declared.key.KeyCode.TheVariants.{Char}
+use Rattle.std.specs.Prelude.{List, [], ◌∷◌, ◌++◌, None, Some, true, codes, encode_utf8_all}
 use Rattle.worked_rows.specs.Playing.{Row, row}
-use Rattle.worked_rows.specs.Settings.{Settings, adding, plain}
+use Rattle.worked_rows.specs.Settings.{Settings, adding, aide, bound, command, plain}
 
 -- abc Enter = abc
 abbrev pub row_5 : Row
@@ -536,104 +541,477 @@ row_144 = row 144 plain (codes "\u{1b}[200~a\nb\u{1b}[201~\u{b}\u{1}\u{b}\r") (c
 abbrev pub row_145 : Row
 row_145 = row 145 plain (codes "\u{1b}[200~a\nb\u{1b}[201~\u{15}\u{7f}\u{15}\r") (codes "\n")
 
+-- Paste αß␊γδ␠12␊ε␠f4 Pasted M-9 C-b C-k X C-y Enter = αß␊γXδ␠12␊ε␠f4
+abbrev pub row_148 : Row
+row_148 = row 148 plain (encode_utf8_all
+    (codes "\u{1b}[200~αß\nγδ 12\nε f4\u{1b}[201~\u{1b}9\u{2}\u{b}X\u{19}\r")) (encode_utf8_all
+    (codes "αß\nγXδ 12\nε f4\n"))
+
+-- Paste αß␊γδ␠12␊ε␠f4 Pasted M-9 C-b C-k C-k X Enter = αß␊γXε␠f4
+abbrev pub row_149 : Row
+row_149 = row 149 plain (encode_utf8_all
+    (codes "\u{1b}[200~αß\nγδ 12\nε f4\u{1b}[201~\u{1b}9\u{2}\u{b}\u{b}X\r")) (encode_utf8_all
+    (codes "αß\nγXε f4\n"))
+
+-- Paste αß␊γδ␠12␊ε␠f4 Pasted M-9 C-b C-k C-k C-k C-k X C-y Enter = αß␊γXδ␠12␊ε␠f4
+abbrev pub row_150 : Row
+row_150 = row 150 plain (encode_utf8_all
+    (codes "\u{1b}[200~αß\nγδ 12\nε f4\u{1b}[201~\u{1b}9\u{2}\u{b}\u{b}\u{b}\u{b}X\u{19}\r"))
+    (encode_utf8_all (codes "αß\nγXδ 12\nε f4\n"))
+
+-- Paste ab␊cde Pasted C-b C-u X C-y Enter = ab␊Xcde
+abbrev pub row_151 : Row
+row_151 = row 151 plain (codes "\u{1b}[200~ab\ncde\u{1b}[201~\u{2}\u{15}X\u{19}\r")
+    (codes "ab\nXcde\n")
+
+-- Paste a␊b Pasted C-b C-u X Enter = aXb
+abbrev pub row_152 : Row
+row_152 = row 152 plain (codes "\u{1b}[200~a\nb\u{1b}[201~\u{2}\u{15}X\r") (codes "aXb\n")
+
+-- Paste a␊b Pasted C-b C-b C-k X Enter = aXb
+abbrev pub row_153 : Row
+row_153 = row 153 plain (codes "\u{1b}[200~a\nb\u{1b}[201~\u{2}\u{2}\u{b}X\r") (codes "aXb\n")
+
+-- Paste a␊ Pasted C-k X Enter = a␊X
+abbrev pub row_154 : Row
+row_154 = row 154 plain (codes "\u{1b}[200~a\n\u{1b}[201~\u{b}X\r") (codes "a\nX\n")
+
+-- abcd C-b C-b C-k C-u C-y X Enter = abcdX
+abbrev pub row_155 : Row
+row_155 = row 155 plain (codes "abcd\u{2}\u{2}\u{b}\u{15}\u{19}X\r") (codes "abcdX\n")
+
+-- abcd C-b C-b C-u C-k C-y X Enter = abcdX
+abbrev pub row_156 : Row
+row_156 = row 156 plain (codes "abcd\u{2}\u{2}\u{15}\u{b}\u{19}X\r") (codes "abcdX\n")
+
+-- ab C-w cd M-2 Backspace C-y X Enter = abX
+abbrev pub row_157 : Row
+row_157 = row 157 plain (codes "ab\u{17}cd\u{1b}2\u{7f}\u{19}X\r") (codes "abX\n")
+
+-- one␠two,six C-a M-f M-2 M-d X C-y Enter = oneX␠two,six
+abbrev pub row_158 : Row
+row_158 = row 158 plain (codes "one two,six\u{1}\u{1b}f\u{1b}2\u{1b}dX\u{19}\r")
+    (codes "oneX two,six\n")
+
+-- aßc C-a Right C-t X Enter = ßaXc
+abbrev pub row_161 : Row
+row_161 = row 161 plain (encode_utf8_all (codes "aßc\u{1}\u{1b}[C\u{14}X\r")) (encode_utf8_all
+    (codes "ßaXc\n"))
+
+-- aßc Left C-t X Enter = acßX
+abbrev pub row_162 : Row
+row_162 = row 162 plain (encode_utf8_all (codes "aßc\u{1b}[D\u{14}X\r")) (encode_utf8_all
+    (codes "acßX\n"))
+
+-- xe‹cc›‹81› C-t X Enter = e‹cc›‹81›xX
+abbrev pub row_163 : Row
+row_163 = row 163 plain (encode_utf8_all (codes "xé\u{14}X\r")) (encode_utf8_all
+    (codes "éxX\n"))
+
+-- ab␠c M-t X Enter = c␠abX
+abbrev pub row_164 : Row
+row_164 = row 164 plain (codes "ab c\u{1b}tX\r") (codes "c abX\n")
+
+-- ab␠c C-a M-2 M-t X Enter = c␠abX
+abbrev pub row_165 : Row
+row_165 = row 165 plain (codes "ab c\u{1}\u{1b}2\u{1b}tX\r") (codes "c abX\n")
+
+-- ab␠c C-a M-t X Enter = abX␠c
+abbrev pub row_166 : Row
+row_166 = row 166 plain (codes "ab c\u{1}\u{1b}tX\r") (codes "abX c\n")
+
+-- é,␠two␠x C-a Right Right M-t X Enter = two,␠éX␠x
+abbrev pub row_167 : Row
+row_167 = row 167 plain (encode_utf8_all (codes "é, two x\u{1}\u{1b}[C\u{1b}[C\u{1b}tX\r"))
+    (encode_utf8_all (codes "two, éX x\n"))
+
+-- ␠␠fOO␠bar C-a M-c X Enter = ␠␠FooX␠bar
+abbrev pub row_168 : Row
+row_168 = row 168 plain (codes "  fOO bar\u{1}\u{1b}cX\r") (codes "  FooX bar\n")
+
+-- fOO␠bar C-a Right M-l X Enter = fooX␠bar
+abbrev pub row_169 : Row
+row_169 = row 169 plain (codes "fOO bar\u{1}\u{1b}[C\u{1b}lX\r") (codes "fooX bar\n")
+
+-- foo␠bar C-a M-f M-u X Enter = foo␠BARX
+abbrev pub row_170 : Row
+row_170 = row 170 plain (codes "foo bar\u{1}\u{1b}f\u{1b}uX\r") (codes "foo BARX\n")
+
+-- éA␠b C-a M-u X Enter = éAX␠b
+abbrev pub row_171 : Row
+row_171 = row 171 plain (encode_utf8_all (codes "éA b\u{1}\u{1b}uX\r")) (encode_utf8_all
+    (codes "éAX b\n"))
+
+-- éA␠b C-a M-l X Enter = éaX␠b
+abbrev pub row_172 : Row
+row_172 = row 172 plain (encode_utf8_all (codes "éA b\u{1}\u{1b}lX\r")) (encode_utf8_all
+    (codes "éaX b\n"))
+
+-- aßA C-a M-c X Enter = AßaX
+abbrev pub row_173 : Row
+row_173 = row 173 plain (encode_utf8_all (codes "aßA\u{1}\u{1b}cX\r")) (encode_utf8_all
+    (codes "AßaX\n"))
+
+-- ab␠- C-a M-f M-u X Enter = abX␠-
+abbrev pub row_174 : Row
+row_174 = row 174 plain (codes "ab -\u{1}\u{1b}f\u{1b}uX\r") (codes "abX -\n")
+
+-- ab␠c C-_ X Enter = abX
+abbrev pub row_177 : Row
+row_177 = row 177 plain (codes "ab c\u{1f}X\r") (codes "abX\n")
+
+-- ab␠c M-9 C-_ X Enter = X
+abbrev pub row_178 : Row
+row_178 = row 178 plain (codes "ab c\u{1b}9\u{1f}X\r") (codes "X\n")
+
+-- abcd Left Backspace Backspace C-d C-_ X Enter = abcdX
+abbrev pub row_179 : Row
+row_179 = row 179 plain (codes "abcd\u{1b}[D\u{7f}\u{7f}\u{4}\u{1f}X\r") (codes "abcdX\n")
+
+-- abc Backspace M-2 Backspace C-_ X Enter = abX
+abbrev pub row_180 : Row
+row_180 = row 180 plain (codes "abc\u{7f}\u{1b}2\u{7f}\u{1f}X\r") (codes "abX\n")
+
+-- abc Backspace Backspace Backspace C-_ X Enter = abcX
+abbrev pub row_181 : Row
+row_181 = row 181 plain (codes "abc\u{7f}\u{7f}\u{7f}\u{1f}X\r") (codes "abcX\n")
+
+-- abc Backspace Backspace Backspace C-_ C-_ X Enter = X
+abbrev pub row_182 : Row
+row_182 = row 182 plain (codes "abc\u{7f}\u{7f}\u{7f}\u{1f}\u{1f}X\r") (codes "X\n")
+
+-- abc Backspace Backspace Backspace C-_ d C-_ X Enter = X
+abbrev pub row_183 : Row
+row_183 = row 183 plain (codes "abc\u{7f}\u{7f}\u{7f}\u{1f}d\u{1f}X\r") (codes "X\n")
+
+-- a Paste b Pasted cß C-_ X Enter = aX
+abbrev pub row_184 : Row
+row_184 = row 184 plain (encode_utf8_all (codes "a\u{1b}[200~b\u{1b}[201~cß\u{1f}X\r"))
+    (codes "aX\n")
+
+-- a Paste b Pasted C-_ X Enter = aX
+abbrev pub row_185 : Row
+row_185 = row 185 plain (codes "a\u{1b}[200~b\u{1b}[201~\u{1f}X\r") (codes "aX\n")
+
+-- one␠two C-a M-u C-_ X Enter = oneX␠two
+abbrev pub row_186 : Row
+row_186 = row 186 plain (codes "one two\u{1}\u{1b}u\u{1f}X\r") (codes "oneX two\n")
+
+-- one␠two C-a M-u C-e Paste !! Pasted Backspace M-2 C-_ X Enter = ONE␠twoX
+abbrev pub row_187 : Row
+row_187 = row 187 plain
+    (codes "one two\u{1}\u{1b}u\u{5}\u{1b}[200~!!\u{1b}[201~\u{7f}\u{1b}2\u{1f}X\r")
+    (codes "ONE twoX\n")
+
+-- one␠two C-w C-a C-y C-_ X Enter = Xone␠
+abbrev pub row_188 : Row
+row_188 = row 188 plain (codes "one two\u{17}\u{1}\u{19}\u{1f}X\r") (codes "Xone \n")
+
 -- adding
-abbrev pub settings_149 : Settings
-settings_149 = record plain {
+abbrev pub settings_192 : Settings
+settings_192 = record plain {
   config = adding plain.config;
 }
 
 -- one Enter Up Enter = one one | saves #V2␊one␊
-abbrev pub row_149 : Row
-row_149 = record (row 149 settings_149 (codes "one\r\u{1b}[A\r") (codes "one\none\n")) {
+abbrev pub row_192 : Row
+row_192 = record (row 192 settings_192 (codes "one\r\u{1b}[A\r") (codes "one\none\n")) {
   saves = Some (codes "#V2\none\n");
 }
 
 -- one Enter two Enter C-p C-p C-n Enter = one two two | saves #V2␊one␊two␊
-abbrev pub row_150 : Row
-row_150 = record (row 150 settings_149 (codes "one\rtwo\r\u{10}\u{10}\u{e}\r")
+abbrev pub row_193 : Row
+row_193 = record (row 193 settings_192 (codes "one\rtwo\r\u{10}\u{10}\u{e}\r")
     (codes "one\ntwo\ntwo\n")) {
       saves = Some (codes "#V2\none\ntwo\n");
     }
 
 -- one Enter two Enter C-p C-p C-p Enter = one two one | saves #V2␊one␊two␊one␊
-abbrev pub row_151 : Row
-row_151 = record (row 151 settings_149 (codes "one\rtwo\r\u{10}\u{10}\u{10}\r")
+abbrev pub row_194 : Row
+row_194 = record (row 194 settings_192 (codes "one\rtwo\r\u{10}\u{10}\u{10}\r")
     (codes "one\ntwo\none\n")) {
       saves = Some (codes "#V2\none\ntwo\none\n");
     }
 
 -- one Enter tw C-p C-n o Enter = one two
-abbrev pub row_152 : Row
-row_152 = row 152 settings_149 (codes "one\rtw\u{10}\u{e}o\r") (codes "one\ntwo\n")
+abbrev pub row_195 : Row
+row_195 = row 195 settings_192 (codes "one\rtw\u{10}\u{e}o\r") (codes "one\ntwo\n")
 
 -- one Enter C-p x Enter = one onex
-abbrev pub row_153 : Row
-row_153 = row 153 settings_149 (codes "one\r\u{10}x\r") (codes "one\nonex\n")
+abbrev pub row_196 : Row
+row_196 = row 196 settings_192 (codes "one\r\u{10}x\r") (codes "one\nonex\n")
 
 -- one Enter Up Down x Enter = one x
-abbrev pub row_154 : Row
-row_154 = row 154 settings_149 (codes "one\r\u{1b}[A\u{1b}[Bx\r") (codes "one\nx\n")
+abbrev pub row_197 : Row
+row_197 = row 197 settings_192 (codes "one\r\u{1b}[A\u{1b}[Bx\r") (codes "one\nx\n")
 
 -- one Enter two Enter M-< Enter = one two one
-abbrev pub row_155 : Row
-row_155 = row 155 settings_149 (codes "one\rtwo\r\u{1b}<\r") (codes "one\ntwo\none\n")
+abbrev pub row_198 : Row
+row_198 = row 198 settings_192 (codes "one\rtwo\r\u{1b}<\r") (codes "one\ntwo\none\n")
 
 -- one Enter two Enter six M-< M-> Enter = one two six
-abbrev pub row_156 : Row
-row_156 = row 156 settings_149 (codes "one\rtwo\rsix\u{1b}<\u{1b}>\r") (codes "one\ntwo\nsix\n")
+abbrev pub row_199 : Row
+row_199 = row 199 settings_192 (codes "one\rtwo\rsix\u{1b}<\u{1b}>\r") (codes "one\ntwo\nsix\n")
 
 -- one Enter one Enter = one one | saves #V2␊one␊
-abbrev pub row_157 : Row
-row_157 = record (row 157 settings_149 (codes "one\rone\r") (codes "one\none\n")) {
+abbrev pub row_200 : Row
+row_200 = record (row 200 settings_192 (codes "one\rone\r") (codes "one\none\n")) {
   saves = Some (codes "#V2\none\n");
 }
 
 -- one Enter Enter = one "" | saves #V2␊one␊
-abbrev pub row_158 : Row
-row_158 = record (row 158 settings_149 (codes "one\r\r") (codes "one\n\n")) {
+abbrev pub row_201 : Row
+row_201 = record (row 201 settings_192 (codes "one\r\r") (codes "one\n\n")) {
   saves = Some (codes "#V2\none\n");
 }
 
 -- ␠one Enter = ␠one | saves #V2␊␠one␊
-abbrev pub row_159 : Row
-row_159 = record (row 159 settings_149 (codes " one\r") (codes " one\n")) {
+abbrev pub row_202 : Row
+row_202 = record (row 202 settings_192 (codes " one\r") (codes " one\n")) {
   saves = Some (codes "#V2\n one\n");
 }
 
 -- adding loaded:#V2␊first␊second␊
-abbrev pub settings_162 : Settings
-settings_162 = record plain {
+abbrev pub settings_205 : Settings
+settings_205 = record plain {
   config = adding plain.config;
   loaded = codes "#V2\nfirst\nsecond\n";
 }
 
 -- Up Up Enter = first | saves #V2␊first␊second␊first␊
-abbrev pub row_162 : Row
-row_162 = record (row 162 settings_162 (codes "\u{1b}[A\u{1b}[A\r") (codes "first\n")) {
+abbrev pub row_205 : Row
+row_205 = record (row 205 settings_205 (codes "\u{1b}[A\u{1b}[A\r") (codes "first\n")) {
   saves = Some (codes "#V2\nfirst\nsecond\nfirst\n");
 }
 
 -- Up Up Up Enter = first
-abbrev pub row_163 : Row
-row_163 = row 163 settings_162 (codes "\u{1b}[A\u{1b}[A\u{1b}[A\r") (codes "first\n")
+abbrev pub row_206 : Row
+row_206 = row 206 settings_205 (codes "\u{1b}[A\u{1b}[A\u{1b}[A\r") (codes "first\n")
 
 -- C-p x Enter = secondx | saves #V2␊first␊second␊secondx␊
-abbrev pub row_164 : Row
-row_164 = record (row 164 settings_162 (codes "\u{10}x\r") (codes "secondx\n")) {
+abbrev pub row_207 : Row
+row_207 = record (row 207 settings_205 (codes "\u{10}x\r") (codes "secondx\n")) {
   saves = Some (codes "#V2\nfirst\nsecond\nsecondx\n");
 }
 
 -- third Up Down ! Enter = third!
-abbrev pub row_165 : Row
-row_165 = row 165 settings_162 (codes "third\u{1b}[A\u{1b}[B!\r") (codes "third!\n")
+abbrev pub row_208 : Row
+row_208 = row 208 settings_205 (codes "third\u{1b}[A\u{1b}[B!\r") (codes "third!\n")
 
 -- M-< Enter = first | shows {} {first} ␍␊ {} ␍␊
-abbrev pub row_166 : Row
-row_166 = record (row 166 settings_162 (codes "\u{1b}<\r") (codes "first\n")) {
+abbrev pub row_209 : Row
+row_209 = record (row 209 settings_205 (codes "\u{1b}<\r") (codes "first\n")) {
   shows = Some
       (codes "\r\u{1b}[J\u{1b}[m> \u{1b}[m\u{1b}[m\u{1b}[m\r\u{1b}[J\u{1b}[m> \u{1b}[mfirst" ++
       codes "\u{1b}[m\u{1b}[m\r\n\r\u{1b}[J\u{1b}[m> \u{1b}[m\u{1b}[m\u{1b}[m\r\n");
 }
+
+-- bind:C-O⇒Kill·WholeLine
+abbrev pub settings_213 : Settings
+settings_213 = record plain {
+  custom = bound ((KeySeq ((key_with (Char 79) ctrl) ∷ []), command (Kill WholeLine)) ∷ []);
+}
+
+-- Paste a␊bc␊d Pasted Left Left Left C-o X C-y Enter = a␊Xbc␊d
+abbrev pub row_213 : Row
+row_213 = row 213 settings_213
+    (codes "\u{1b}[200~a\nbc\nd\u{1b}[201~\u{1b}[D\u{1b}[D\u{1b}[D\u{f}X\u{19}\r")
+    (codes "a\nXbc\nd\n")
+
+-- Paste a␊␊b Pasted Left Left C-o X Enter = a␊Xb
+abbrev pub row_214 : Row
+row_214 = row 214 settings_213 (codes "\u{1b}[200~a\n\nb\u{1b}[201~\u{1b}[D\u{1b}[D\u{f}X\r")
+    (codes "a\nXb\n")
+
+-- Paste a␊ Pasted C-o X Enter = a␊X
+abbrev pub row_215 : Row
+row_215 = row 215 settings_213 (codes "\u{1b}[200~a\n\u{1b}[201~\u{f}X\r") (codes "a\nX\n")
+
+-- bind:C-O⇒Kill·LineUp·1
+abbrev pub settings_218 : Settings
+settings_218 = record plain {
+  custom = bound ((KeySeq ((key_with (Char 79) ctrl) ∷ []), command (Kill (LineUp 1))) ∷ []);
+}
+
+-- Paste ab␊cd␊e Pasted M-3 Left C-o X C-y Enter = Xab␊cd␊e
+abbrev pub row_218 : Row
+row_218 = row 218 settings_218
+    (codes "\u{1b}[200~ab\ncd\ne\u{1b}[201~\u{1b}3\u{1b}[D\u{f}X\u{19}\r") (codes "Xab\ncd\ne\n")
+
+-- Paste a␊b Pasted C-o X C-y Enter = Xa␊b
+abbrev pub row_219 : Row
+row_219 = row 219 settings_218 (codes "\u{1b}[200~a\nb\u{1b}[201~\u{f}X\u{19}\r") (codes "Xa\nb\n")
+
+-- Paste a␊b Pasted Left Left C-o X Enter = aX␊b
+abbrev pub row_220 : Row
+row_220 = row 220 settings_218 (codes "\u{1b}[200~a\nb\u{1b}[201~\u{1b}[D\u{1b}[D\u{f}X\r")
+    (codes "aX\nb\n")
+
+-- bind:C-O⇒Kill·LineDown·1
+abbrev pub settings_223 : Settings
+settings_223 = record plain {
+  custom = bound ((KeySeq ((key_with (Char 79) ctrl) ∷ []), command (Kill (LineDown 1))) ∷ []);
+}
+
+-- Paste ab␊cd␊ef␊y Pasted M-6 Left C-o X C-y Enter = ab␊Xcd␊ef␊y
+abbrev pub row_223 : Row
+row_223 = row 223 settings_223
+    (codes "\u{1b}[200~ab\ncd\nef\ny\u{1b}[201~\u{1b}6\u{1b}[D\u{f}X\u{19}\r")
+    (codes "ab\nXcd\nef\ny\n")
+
+-- Paste ab␊cd␊ef Pasted M-4 Left C-o X C-y Enter = ab␊Xcd␊ef
+abbrev pub row_224 : Row
+row_224 = row 224 settings_223
+    (codes "\u{1b}[200~ab\ncd\nef\u{1b}[201~\u{1b}4\u{1b}[D\u{f}X\u{19}\r") (codes "ab\nXcd\nef\n")
+
+-- Paste a␊b Pasted Left C-o X Enter = a␊Xb
+abbrev pub row_225 : Row
+row_225 = row 225 settings_223 (codes "\u{1b}[200~a\nb\u{1b}[201~\u{1b}[D\u{f}X\r")
+    (codes "a\nXb\n")
+
+-- bind:C-O⇒Kill·WholeBuffer
+abbrev pub settings_228 : Settings
+settings_228 = record plain {
+  custom = bound ((KeySeq ((key_with (Char 79) ctrl) ∷ []), command (Kill WholeBuffer)) ∷ []);
+}
+
+-- Paste ab␊c Pasted Left C-o X C-y Enter = Xab␊c
+abbrev pub row_228 : Row
+row_228 = row 228 settings_228 (codes "\u{1b}[200~ab\nc\u{1b}[201~\u{1b}[D\u{f}X\u{19}\r")
+    (codes "Xab\nc\n")
+
+-- C-o X C-y Enter = X
+abbrev pub row_229 : Row
+row_229 = row 229 settings_228 (codes "\u{f}X\u{19}\r") (codes "X\n")
+
+-- bind:C-O⇒Kill·BeginningOfBuffer
+abbrev pub settings_232 : Settings
+settings_232 = record plain {
+  custom = bound ((KeySeq ((key_with (Char 79) ctrl) ∷ []), command (Kill BeginningOfBuffer)) ∷ []);
+}
+
+-- Paste ab␊cd␊e Pasted M-3 Left C-o X C-y Enter = Xab␊cd␊e
+abbrev pub row_232 : Row
+row_232 = row 232 settings_232
+    (codes "\u{1b}[200~ab\ncd\ne\u{1b}[201~\u{1b}3\u{1b}[D\u{f}X\u{19}\r") (codes "Xab\ncd\ne\n")
+
+-- ab C-a C-o X Enter = Xab
+abbrev pub row_233 : Row
+row_233 = row 233 settings_232 (codes "ab\u{1}\u{f}X\r") (codes "Xab\n")
+
+-- bind:C-O⇒Kill·EndOfBuffer
+abbrev pub settings_236 : Settings
+settings_236 = record plain {
+  custom = bound ((KeySeq ((key_with (Char 79) ctrl) ∷ []), command (Kill EndOfBuffer)) ∷ []);
+}
+
+-- Paste ab␊cd␊e Pasted M-3 Left C-o X C-y Enter = ab␊cXd␊e
+abbrev pub row_236 : Row
+row_236 = row 236 settings_236
+    (codes "\u{1b}[200~ab\ncd\ne\u{1b}[201~\u{1b}3\u{1b}[D\u{f}X\u{19}\r") (codes "ab\ncXd\ne\n")
+
+-- ab C-o X Enter = abX
+abbrev pub row_237 : Row
+row_237 = row 237 settings_236 (codes "ab\u{f}X\r") (codes "abX\n")
+
+-- bind:C-O⇒Kill·ViFirstPrint
+abbrev pub settings_240 : Settings
+settings_240 = record plain {
+  custom = bound ((KeySeq ((key_with (Char 79) ctrl) ∷ []), command (Kill ViFirstPrint)) ∷ []);
+}
+
+-- ab Left C-o X Enter = aXb
+abbrev pub row_240 : Row
+row_240 = row 240 settings_240 (codes "ab\u{1b}[D\u{f}X\r") (codes "aXb\n")
+
+-- bind:C-O⇒Indent·WholeBuffer
+abbrev pub settings_244 : Settings
+settings_244 = record plain {
+  custom = bound ((KeySeq ((key_with (Char 79) ctrl) ∷ []), command (Indent WholeBuffer)) ∷ []);
+}
+
+-- Paste a␊b␊c Pasted M-3 Left C-o X Enter = ␠␠a␊␠␠Xb␊␠␠c
+abbrev pub row_244 : Row
+row_244 = row 244 settings_244 (codes "\u{1b}[200~a\nb\nc\u{1b}[201~\u{1b}3\u{1b}[D\u{f}X\r")
+    (codes "  a\n  Xb\n  c\n")
+
+-- bind:C-O⇒Indent·BeginningOfBuffer
+abbrev pub settings_247 : Settings
+settings_247 = record plain {
+  custom = bound ((KeySeq ((key_with (Char 79) ctrl) ∷ []), command (Indent BeginningOfBuffer)) ∷
+      []);
+}
+
+-- Paste a␊b␊c Pasted M-3 Left C-o X Enter = ␠␠a␊␠␠Xb␊c
+abbrev pub row_247 : Row
+row_247 = row 247 settings_247 (codes "\u{1b}[200~a\nb\nc\u{1b}[201~\u{1b}3\u{1b}[D\u{f}X\r")
+    (codes "  a\n  Xb\nc\n")
+
+-- bind:C-O⇒Indent·EndOfBuffer
+abbrev pub settings_250 : Settings
+settings_250 = record plain {
+  custom = bound ((KeySeq ((key_with (Char 79) ctrl) ∷ []), command (Indent EndOfBuffer)) ∷ []);
+}
+
+-- Paste a␊b␊c Pasted M-3 Left C-o X Enter = a␊␠␠Xb␊␠␠c
+abbrev pub row_250 : Row
+row_250 = row 250 settings_250 (codes "\u{1b}[200~a\nb\nc\u{1b}[201~\u{1b}3\u{1b}[D\u{f}X\r")
+    (codes "a\n  Xb\n  c\n")
+
+-- Paste a␊b␊ Pasted M-4 Left C-o X Enter = ␠␠Xa␊␠␠b␊␠␠
+abbrev pub row_251 : Row
+row_251 = row 251 settings_250 (codes "\u{1b}[200~a\nb\n\u{1b}[201~\u{1b}4\u{1b}[D\u{f}X\r")
+    (codes "  Xa\n  b\n  \n")
+
+-- bind:C-O⇒Dedent·WholeBuffer
+abbrev pub settings_254 : Settings
+settings_254 = record plain {
+  custom = bound ((KeySeq ((key_with (Char 79) ctrl) ∷ []), command (Dedent WholeBuffer)) ∷ []);
+}
+
+-- Paste ␠␠␠a␊␠b␊c Pasted M-8 Left C-o X Enter = X␠a␊b␊c
+abbrev pub row_254 : Row
+row_254 = row 254 settings_254 (codes "\u{1b}[200~   a\n b\nc\u{1b}[201~\u{1b}8\u{1b}[D\u{f}X\r")
+    (codes "X a\nb\nc\n")
+
+-- bind:C-O⇒Dedent·EndOfLine
+abbrev pub settings_257 : Settings
+settings_257 = record plain {
+  custom = bound ((KeySeq ((key_with (Char 79) ctrl) ∷ []), command (Dedent EndOfLine)) ∷ []);
+}
+
+-- Paste ‹e3›‹80›‹80›‹e3›‹80›‹80›é Pasted Left C-o X Enter = Xé
+abbrev pub row_257 : Row
+row_257 = row 257 settings_257 (encode_utf8_all
+    (codes "\u{1b}[200~\u{3000}\u{3000}é\u{1b}[201~\u{1b}[D\u{f}X\r")) (encode_utf8_all
+    (codes "Xé\n"))
+
+-- helped loaded:#V2␊hello␠world␊
+abbrev pub settings_261 : Settings
+settings_261 = record plain {
+  helping = aide true None;
+  loaded = codes "#V2\nhello world\n";
+}
+
+-- hello Right ! Enter = hello␠world!
+abbrev pub row_261 : Row
+row_261 = row 261 settings_261 (codes "hello\u{1b}[C!\r") (codes "hello world!\n")
+
+-- hello C-f X Enter = helloX
+abbrev pub row_262 : Row
+row_262 = row 262 settings_261 (codes "hello\u{6}X\r") (codes "helloX\n")
+
+-- hello␠world Right ! Enter = hello␠world!
+abbrev pub row_263 : Row
+row_263 = row 263 settings_261 (codes "hello world\u{1b}[C!\r") (codes "hello world!\n")
+
+-- help Right ! Enter = help!
+abbrev pub row_264 : Row
+row_264 = row 264 settings_261 (codes "help\u{1b}[C!\r") (codes "help!\n")
+
+-- Right ! Enter = !
+abbrev pub row_265 : Row
+row_265 = row 265 settings_261 (codes "\u{1b}[C!\r") (codes "!\n")
 
 abbrev pub emacs_rows : List Row
 emacs_rows = row_5 ∷ row_6 ∷ row_7 ∷ row_8 ∷ row_9 ∷ row_10 ∷ row_11 ∷ row_12 ∷ row_13 ∷ row_14 ∷
@@ -648,6 +1026,13 @@ emacs_rows = row_5 ∷ row_6 ∷ row_7 ∷ row_8 ∷ row_9 ∷ row_10 ∷ row_11
     row_110 ∷ row_111 ∷ row_112 ∷ row_113 ∷ row_114 ∷ row_115 ∷ row_116 ∷ row_117 ∷ row_118 ∷
     row_119 ∷ row_120 ∷ row_121 ∷ row_124 ∷ row_125 ∷ row_126 ∷ row_127 ∷ row_128 ∷ row_129 ∷
     row_130 ∷ row_131 ∷ row_132 ∷ row_133 ∷ row_136 ∷ row_137 ∷ row_138 ∷ row_139 ∷ row_140 ∷
-    row_141 ∷ row_142 ∷ row_143 ∷ row_144 ∷ row_145 ∷ row_149 ∷ row_150 ∷ row_151 ∷ row_152 ∷
-    row_153 ∷ row_154 ∷ row_155 ∷ row_156 ∷ row_157 ∷ row_158 ∷ row_159 ∷ row_162 ∷ row_163 ∷
-    row_164 ∷ row_165 ∷ row_166 ∷ []
+    row_141 ∷ row_142 ∷ row_143 ∷ row_144 ∷ row_145 ∷ row_148 ∷ row_149 ∷ row_150 ∷ row_151 ∷
+    row_152 ∷ row_153 ∷ row_154 ∷ row_155 ∷ row_156 ∷ row_157 ∷ row_158 ∷ row_161 ∷ row_162 ∷
+    row_163 ∷ row_164 ∷ row_165 ∷ row_166 ∷ row_167 ∷ row_168 ∷ row_169 ∷ row_170 ∷ row_171 ∷
+    row_172 ∷ row_173 ∷ row_174 ∷ row_177 ∷ row_178 ∷ row_179 ∷ row_180 ∷ row_181 ∷ row_182 ∷
+    row_183 ∷ row_184 ∷ row_185 ∷ row_186 ∷ row_187 ∷ row_188 ∷ row_192 ∷ row_193 ∷ row_194 ∷
+    row_195 ∷ row_196 ∷ row_197 ∷ row_198 ∷ row_199 ∷ row_200 ∷ row_201 ∷ row_202 ∷ row_205 ∷
+    row_206 ∷ row_207 ∷ row_208 ∷ row_209 ∷ row_213 ∷ row_214 ∷ row_215 ∷ row_218 ∷ row_219 ∷
+    row_220 ∷ row_223 ∷ row_224 ∷ row_225 ∷ row_228 ∷ row_229 ∷ row_232 ∷ row_233 ∷ row_236 ∷
+    row_237 ∷ row_240 ∷ row_244 ∷ row_247 ∷ row_250 ∷ row_251 ∷ row_254 ∷ row_257 ∷ row_261 ∷
+    row_262 ∷ row_263 ∷ row_264 ∷ row_265 ∷ []

@@ -1,6 +1,6 @@
 -- The rows of vi.txt; tests/definition/worked_rows.py writes them.
 use Rattle.line_config.specs.declared.errors.ReadlineError.TheVariants.{Interrupted}
-use Rattle.std.specs.Prelude.{List, [], ◌∷◌, ◌++◌, Some, codes}
+use Rattle.std.specs.Prelude.{List, [], ◌∷◌, ◌++◌, Some, codes, encode_utf8_all}
 use Rattle.worked_rows.specs.Playing.{Row, row}
 use Rattle.worked_rows.specs.Settings.{Settings, adding, plain, vi}
 
@@ -521,31 +521,191 @@ row_142 = row 142 settings_5 (codes "\u{1b}[200~ab\u{1b}[201~\r") (codes "ab\n")
 abbrev pub row_143 : Row
 row_143 = row 143 settings_5 (codes "ac\u{1b}[D\u{1b}[200~b\u{1b}[201~\r") (codes "abc\n")
 
+-- Paste ab␊e_f␊xy Pasted Left Left Left Left Left Esc dwiX C-y Enter = ab␊Xe_f␊xy
+abbrev pub row_146 : Row
+row_146 = row 146 settings_5
+    (codes "\u{1b}[200~ab\ne_f\nxy\u{1b}[201~\u{1b}[D\u{1b}[D\u{1b}[D\u{1b}[D\u{1b}[D" ++
+    codes "\u{1b}dwiX\u{19}\r") (codes "ab\nXe_f\nxy\n")
+
+-- Paste ab␊e_f␊xy Pasted Left Left Left Left Left Esc deiX C-y Enter = ab␊Xe_f␊xy
+abbrev pub row_147 : Row
+row_147 = row 147 settings_5
+    (codes "\u{1b}[200~ab\ne_f\nxy\u{1b}[201~\u{1b}[D\u{1b}[D\u{1b}[D\u{1b}[D\u{1b}[D" ++
+    codes "\u{1b}deiX\u{19}\r") (codes "ab\nXe_f\nxy\n")
+
+-- Paste ab␠ced␊漢字␠e_f Pasted Left Left Esc d2BiX C-y Enter = ab␠Xced␊漢字␠e_f
+abbrev pub row_148 : Row
+row_148 = row 148 settings_5 (encode_utf8_all
+    (codes "\u{1b}[200~ab ced\n漢字 e_f\u{1b}[201~\u{1b}[D\u{1b}[D\u{1b}d2BiX\u{19}\r"))
+    (encode_utf8_all (codes "ab Xced\n漢字 e_f\n"))
+
+-- Paste ab␊漢字␠e_f Pasted Left Left Esc dfeiX C-y Enter = ab␊漢字␠Xe_f
+abbrev pub row_149 : Row
+row_149 = row 149 settings_5 (encode_utf8_all
+    (codes "\u{1b}[200~ab\n漢字 e_f\u{1b}[201~\u{1b}[D\u{1b}[D\u{1b}dfeiX\u{19}\r")) (encode_utf8_all
+    (codes "ab\n漢字 Xe_f\n"))
+
+-- Paste ab␊漢字␠e_f Pasted Left Left Esc dffiX C-y Enter = ab␊漢字␠Xe_f
+abbrev pub row_150 : Row
+row_150 = row 150 settings_5 (encode_utf8_all
+    (codes "\u{1b}[200~ab\n漢字 e_f\u{1b}[201~\u{1b}[D\u{1b}[D\u{1b}dffiX\u{19}\r")) (encode_utf8_all
+    (codes "ab\n漢字 Xe_f\n"))
+
+-- Paste ab␊漢字␠e_f Pasted Left Left Esc dtfiX C-y Enter = ab␊漢字␠Xe_f
+abbrev pub row_151 : Row
+row_151 = row 151 settings_5 (encode_utf8_all
+    (codes "\u{1b}[200~ab\n漢字 e_f\u{1b}[201~\u{1b}[D\u{1b}[D\u{1b}dtfiX\u{19}\r")) (encode_utf8_all
+    (codes "ab\n漢字 Xe_f\n"))
+
+-- Paste ab␊漢字␠e_f Pasted Left Left Esc dF字iX C-y Enter = ab␊漢X字␠e_f
+abbrev pub row_152 : Row
+row_152 = row 152 settings_5 (encode_utf8_all
+    (codes "\u{1b}[200~ab\n漢字 e_f\u{1b}[201~\u{1b}[D\u{1b}[D\u{1b}dF字iX\u{19}\r")) (encode_utf8_all
+    (codes "ab\n漢X字 e_f\n"))
+
+-- Paste ab␊漢字␠e_f Pasted Left Left Esc dT字iX C-y Enter = ab␊漢字X␠e_f
+abbrev pub row_153 : Row
+row_153 = row 153 settings_5 (encode_utf8_all
+    (codes "\u{1b}[200~ab\n漢字 e_f\u{1b}[201~\u{1b}[D\u{1b}[D\u{1b}dT字iX\u{19}\r")) (encode_utf8_all
+    (codes "ab\n漢字X e_f\n"))
+
+-- Paste ab␊cd␊ef␊y Pasted Left Left Left Left Left Esc djiX C-y Enter = ab␊Xcd␊ef␊y
+abbrev pub row_154 : Row
+row_154 = row 154 settings_5
+    (codes "\u{1b}[200~ab\ncd\nef\ny\u{1b}[201~\u{1b}[D\u{1b}[D\u{1b}[D\u{1b}[D\u{1b}[D" ++
+    codes "\u{1b}djiX\u{19}\r") (codes "ab\nXcd\nef\ny\n")
+
+-- Paste ab␊cd␊ef␊y Pasted Left Left Left Left Left Esc dkiX C-y Enter = Xab␊cd␊ef␊y
+abbrev pub row_155 : Row
+row_155 = row 155 settings_5
+    (codes "\u{1b}[200~ab\ncd\nef\ny\u{1b}[201~\u{1b}[D\u{1b}[D\u{1b}[D\u{1b}[D\u{1b}[D" ++
+    codes "\u{1b}dkiX\u{19}\r") (codes "Xab\ncd\nef\ny\n")
+
+-- Paste ab␊cd␊ef␊y Pasted Left Left Left Left Left Esc ddiX C-y Enter = ab␊Xcd␊ef␊y
+abbrev pub row_156 : Row
+row_156 = row 156 settings_5
+    (codes "\u{1b}[200~ab\ncd\nef\ny\u{1b}[201~\u{1b}[D\u{1b}[D\u{1b}[D\u{1b}[D\u{1b}[D" ++
+    codes "\u{1b}ddiX\u{19}\r") (codes "ab\nXcd\nef\ny\n")
+
+-- Esc >wiX Enter = ␠␠X
+abbrev pub row_159 : Row
+row_159 = row 159 settings_5 (codes "\u{1b}>wiX\r") (codes "  X\n")
+
+-- Paste a␊b␊c Pasted Left Left Esc >>iX Enter = a␊␠␠Xb␊c
+abbrev pub row_160 : Row
+row_160 = row 160 settings_5 (codes "\u{1b}[200~a\nb\nc\u{1b}[201~\u{1b}[D\u{1b}[D\u{1b}>>iX\r")
+    (codes "a\n  Xb\nc\n")
+
+-- Paste a␊b␊c Pasted Left Left Esc >hiX Enter = a␊␠␠Xb␊c
+abbrev pub row_161 : Row
+row_161 = row 161 settings_5 (codes "\u{1b}[200~a\nb\nc\u{1b}[201~\u{1b}[D\u{1b}[D\u{1b}>hiX\r")
+    (codes "a\n  Xb\nc\n")
+
+-- Paste a␊b␊c Pasted Left Left Esc >jiX Enter = a␊␠␠Xb␊␠␠c
+abbrev pub row_162 : Row
+row_162 = row 162 settings_5 (codes "\u{1b}[200~a\nb\nc\u{1b}[201~\u{1b}[D\u{1b}[D\u{1b}>jiX\r")
+    (codes "a\n  Xb\n  c\n")
+
+-- Paste a␊b␊c Pasted Left Left Esc >kiX Enter = ␠␠a␊␠␠Xb␊c
+abbrev pub row_163 : Row
+row_163 = row 163 settings_5 (codes "\u{1b}[200~a\nb\nc\u{1b}[201~\u{1b}[D\u{1b}[D\u{1b}>kiX\r")
+    (codes "  a\n  Xb\nc\n")
+
+-- Paste a␊b␊c Pasted Left Left Esc >biX Enter = ␠␠a␊␠␠Xb␊c
+abbrev pub row_164 : Row
+row_164 = row 164 settings_5 (codes "\u{1b}[200~a\nb\nc\u{1b}[201~\u{1b}[D\u{1b}[D\u{1b}>biX\r")
+    (codes "  a\n  Xb\nc\n")
+
+-- Paste a␊b␊c Pasted Left Left Left Left Esc >wiX Enter = ␠␠Xa␊␠␠b␊c
+abbrev pub row_165 : Row
+row_165 = row 165 settings_5
+    (codes "\u{1b}[200~a\nb\nc\u{1b}[201~\u{1b}[D\u{1b}[D\u{1b}[D\u{1b}[D\u{1b}>wiX\r")
+    (codes "  Xa\n  b\nc\n")
+
+-- Paste a␊b␊c Pasted Esc >jiX Enter = a␊b␊␠␠Xc
+abbrev pub row_166 : Row
+row_166 = row 166 settings_5 (codes "\u{1b}[200~a\nb\nc\u{1b}[201~\u{1b}>jiX\r")
+    (codes "a\nb\n  Xc\n")
+
+-- Paste ab␊cd Pasted Esc >k<kiX Enter = ab␊cXd
+abbrev pub row_167 : Row
+row_167 = row 167 settings_5 (codes "\u{1b}[200~ab\ncd\u{1b}[201~\u{1b}>k<kiX\r")
+    (codes "ab\ncXd\n")
+
+-- Paste ␠␠␠a␊␠b␊c Pasted Left Left Left Left Left Esc <2jiX Enter = ␠Xa␊b␊c
+abbrev pub row_168 : Row
+row_168 = row 168 settings_5
+    (codes "\u{1b}[200~   a\n b\nc\u{1b}[201~\u{1b}[D\u{1b}[D\u{1b}[D\u{1b}[D\u{1b}[D" ++
+    codes "\u{1b}<2jiX\r") (codes " Xa\nb\nc\n")
+
+-- Paste ␠␠␠a␊␠b␊c Pasted Left Left Left Left Left Esc <2juiX Enter = ␠a␊␠Xb␊c
+abbrev pub row_169 : Row
+row_169 = row 169 settings_5
+    (codes "\u{1b}[200~   a\n b\nc\u{1b}[201~\u{1b}[D\u{1b}[D\u{1b}[D\u{1b}[D\u{1b}[D" ++
+    codes "\u{1b}<2juiX\r") (codes " a\n Xb\nc\n")
+
+-- 漢 Esc ié␠b␠d Esc uiX Enter = X漢
+abbrev pub row_172 : Row
+row_172 = row 172 settings_5 (encode_utf8_all (codes "漢\u{1b}ié b d\u{1b}uiX\r")) (encode_utf8_all
+    (codes "X漢\n"))
+
+-- 漢 Esc ié␠b␠d Right ! Esc uiX Enter = X漢
+abbrev pub row_173 : Row
+row_173 = row 173 settings_5 (encode_utf8_all (codes "漢\u{1b}ié b d\u{1b}[C!\u{1b}uiX\r"))
+    (encode_utf8_all (codes "X漢\n"))
+
+-- one␠two Esc 0cwx␠y Esc uiX Enter = oneX␠two
+abbrev pub row_174 : Row
+row_174 = row 174 settings_5 (codes "one two\u{1b}0cwx y\u{1b}uiX\r") (codes "oneX two\n")
+
+-- Paste a␊b Pasted Esc y0PiX Enter = a␊Xb
+abbrev pub row_177 : Row
+row_177 = row 177 settings_5 (codes "\u{1b}[200~a\nb\u{1b}[201~\u{1b}y0PiX\r") (codes "a\nXb\n")
+
+-- Paste a␊b Pasted Left Esc y$PiX Enter = aX␊b
+abbrev pub row_178 : Row
+row_178 = row 178 settings_5 (codes "\u{1b}[200~a\nb\u{1b}[201~\u{1b}[D\u{1b}y$PiX\r")
+    (codes "aX\nb\n")
+
+-- Paste a␊bc Pasted Esc yyPiX Enter = a␊bbXcc
+abbrev pub row_179 : Row
+row_179 = row 179 settings_5 (codes "\u{1b}[200~a\nbc\u{1b}[201~\u{1b}yyPiX\r") (codes "a\nbbXcc\n")
+
+-- Paste ab␊cd␊e Pasted Left Left Left Esc ykPiX Enter = ab␊ab␊cdX␊cd␊e
+abbrev pub row_180 : Row
+row_180 = row 180 settings_5
+    (codes "\u{1b}[200~ab\ncd\ne\u{1b}[201~\u{1b}[D\u{1b}[D\u{1b}[D\u{1b}ykPiX\r")
+    (codes "ab\nab\ncdX\ncd\ne\n")
+
+-- Esc ione␠two Esc . Enter = one␠tw␠twoo
+abbrev pub row_181 : Row
+row_181 = row 181 settings_5 (codes "\u{1b}ione two\u{1b}.\r") (codes "one tw twoo\n")
+
 -- vi adding
-abbrev pub settings_147 : Settings
-settings_147 = record plain {
+abbrev pub settings_185 : Settings
+settings_185 = record plain {
   config = adding (vi plain.config);
 }
 
 -- one Enter two Enter Esc kk Enter = one two one
-abbrev pub row_147 : Row
-row_147 = row 147 settings_147 (codes "one\rtwo\r\u{1b}kk\r") (codes "one\ntwo\none\n")
+abbrev pub row_185 : Row
+row_185 = row 185 settings_185 (codes "one\rtwo\r\u{1b}kk\r") (codes "one\ntwo\none\n")
 
 -- one Enter two Enter Esc kkj Enter = one two two
-abbrev pub row_148 : Row
-row_148 = row 148 settings_147 (codes "one\rtwo\r\u{1b}kkj\r") (codes "one\ntwo\ntwo\n")
+abbrev pub row_186 : Row
+row_186 = row 186 settings_185 (codes "one\rtwo\r\u{1b}kkj\r") (codes "one\ntwo\ntwo\n")
 
 -- one Enter Esc C-p Ax Enter = one onex
-abbrev pub row_149 : Row
-row_149 = row 149 settings_147 (codes "one\r\u{1b}\u{10}Ax\r") (codes "one\nonex\n")
+abbrev pub row_187 : Row
+row_187 = row 187 settings_185 (codes "one\r\u{1b}\u{10}Ax\r") (codes "one\nonex\n")
 
 -- one Enter Esc - Enter = one one
-abbrev pub row_150 : Row
-row_150 = row 150 settings_147 (codes "one\r\u{1b}-\r") (codes "one\none\n")
+abbrev pub row_188 : Row
+row_188 = row 188 settings_185 (codes "one\r\u{1b}-\r") (codes "one\none\n")
 
 -- one Enter Up Enter = one one
-abbrev pub row_151 : Row
-row_151 = row 151 settings_147 (codes "one\r\u{1b}[A\r") (codes "one\none\n")
+abbrev pub row_189 : Row
+row_189 = row 189 settings_185 (codes "one\r\u{1b}[A\r") (codes "one\none\n")
 
 abbrev pub vi_rows : List Row
 vi_rows = row_5 ∷ row_6 ∷ row_7 ∷ row_8 ∷ row_9 ∷ row_10 ∷ row_11 ∷ row_12 ∷ row_13 ∷ row_14 ∷
@@ -560,4 +720,8 @@ vi_rows = row_5 ∷ row_6 ∷ row_7 ∷ row_8 ∷ row_9 ∷ row_10 ∷ row_11 �
     row_107 ∷ row_108 ∷ row_109 ∷ row_110 ∷ row_111 ∷ row_112 ∷ row_113 ∷ row_114 ∷ row_115 ∷
     row_118 ∷ row_119 ∷ row_120 ∷ row_121 ∷ row_122 ∷ row_123 ∷ row_124 ∷ row_127 ∷ row_128 ∷
     row_129 ∷ row_130 ∷ row_131 ∷ row_134 ∷ row_135 ∷ row_136 ∷ row_137 ∷ row_138 ∷ row_139 ∷
-    row_142 ∷ row_143 ∷ row_147 ∷ row_148 ∷ row_149 ∷ row_150 ∷ row_151 ∷ []
+    row_142 ∷ row_143 ∷ row_146 ∷ row_147 ∷ row_148 ∷ row_149 ∷ row_150 ∷ row_151 ∷ row_152 ∷
+    row_153 ∷ row_154 ∷ row_155 ∷ row_156 ∷ row_159 ∷ row_160 ∷ row_161 ∷ row_162 ∷ row_163 ∷
+    row_164 ∷ row_165 ∷ row_166 ∷ row_167 ∷ row_168 ∷ row_169 ∷ row_172 ∷ row_173 ∷ row_174 ∷
+    row_177 ∷ row_178 ∷ row_179 ∷ row_180 ∷ row_181 ∷ row_185 ∷ row_186 ∷ row_187 ∷ row_188 ∷
+    row_189 ∷ []

@@ -1,8 +1,6 @@
 //! The arguments of a call in a table, each known by its form.
 
-use line_buffer::{
-    At, CharSearch, GraphemeClusterMode, RepeatCount, TabStops, Unit, Word, WordAction,
-};
+use line_buffer::{At, CharSearch, GraphemeClusterMode, RepeatCount, TabStops, Unit, Word};
 use stand_ins::tables::{named, word_and_rest};
 
 /// A call by its name, with what it was given, and what it is given by default.
@@ -10,20 +8,15 @@ use stand_ins::tables::{named, word_and_rest};
 /// - A number is the count, and a second one the column after the prompt.
 /// - `fx`, `tx`, `Fx` and `Tx` are searches for the character `x`, as Vi has them.
 /// - `tabs:8/80` draws tabs as blanks, with stops 8 columns apart on a display of 80.
-/// - `'ab'` is a text.
-/// - Words, their ends, cases and modes go by their names.
+/// - Words, their ends and modes go by their names.
 #[derive(Clone, Copy)]
 pub(crate) struct Arguments<'a> {
     pub name: &'a str,
-    /// The text after the name.
-    pub words: &'a str,
     pub count: Option<RepeatCount>,
     pub column: RepeatCount,
     pub search: CharSearch,
-    pub text: &'a str,
     pub word: Word,
     pub at: At,
-    pub action: WordAction,
     pub mode: GraphemeClusterMode,
     pub stops: Option<TabStops>,
 }
@@ -34,12 +27,6 @@ const PLACES: [(&str, At); 3] = [
     ("Start", At::Start),
     ("BeforeEnd", At::BeforeEnd),
     ("AfterEnd", At::AfterEnd),
-];
-
-const ACTIONS: [(&str, WordAction); 3] = [
-    ("Capitalize", WordAction::Capitalize),
-    ("Lowercase", WordAction::Lowercase),
-    ("Uppercase", WordAction::Uppercase),
 ];
 
 const MODES: [(&str, GraphemeClusterMode); 3] = [
@@ -53,14 +40,11 @@ impl<'a> Arguments<'a> {
         let (name, words) = word_and_rest(call);
         let mut arguments = Arguments {
             name,
-            words,
             count: None,
             column: 0,
             search: CharSearch::Forward(' '),
-            text: "",
             word: Word::Emacs,
             at: At::Start,
-            action: WordAction::Capitalize,
             mode: GraphemeClusterMode::Unicode,
             stops: None,
         };
@@ -70,15 +54,13 @@ impl<'a> Arguments<'a> {
         arguments
     }
 
-    fn take(&mut self, word: &'a str) {
+    fn take(&mut self, word: &str) {
         if let Ok(number) = word.parse::<RepeatCount>() {
             self.take_number(number);
         } else if let Some(search) = search_of(word) {
             self.search = search;
         } else if let Some(stops) = stops_of(word) {
             self.stops = Some(stops);
-        } else if word.starts_with('\'') {
-            self.text = word.trim_matches('\'');
         } else {
             self.take_word(word);
         }
@@ -95,7 +77,6 @@ impl<'a> Arguments<'a> {
     fn take_word(&mut self, word: &str) {
         self.word = named(&WORDS, word).unwrap_or(self.word);
         self.at = named(&PLACES, word).unwrap_or(self.at);
-        self.action = named(&ACTIONS, word).unwrap_or(self.action);
         self.mode = named(&MODES, word).unwrap_or(self.mode);
     }
 
@@ -123,16 +104,6 @@ fn search_of(word: &str) -> Option<CharSearch> {
         'T' => Some(CharSearch::BackwardAfter(wanted)),
         _ => None,
     }
-}
-
-/// Whether rows are to be dedented, and by how much: `>2` indents by two columns, and `<2` takes
-/// two away.
-pub(crate) fn indentation_of(word: &str) -> Option<(bool, u8)> {
-    let (dedent, amount) = match word.strip_prefix('<') {
-        Some(amount) => (true, amount),
-        None => (false, word.strip_prefix('>')?),
-    };
-    Some((dedent, amount.parse::<u8>().ok()?))
 }
 
 /// Where tabs end, if they are drawn as blanks.

@@ -1,11 +1,5 @@
 //! Motions of a line: by clusters, to the ends of rows, by words and by character searches.
 
-use line_buffer::{LineBuffer, OutOfMemory};
-use stand_ins::lines::line_of;
-use stand_ins::rows::{raised, same};
-use std::alloc::{AllocError, Global};
-use std::test::Fail;
-
 const PREVIOUS_WORD_STARTS: &str = "
     'alpha ,beta/rho; mu|' move_to_prev_word Vi 1 = true 'alpha ,beta/rho; |mu'
                            move_to_prev_word Vi 1 = true 'alpha ,beta/rho|; mu'
@@ -170,29 +164,6 @@ const ENDS_OF_INPUT: &str = "
     'a ␊|'      is_end_of_input = true 'a ␊|'
     'a|\u{A0}b' is_end_of_input = false 'a|\u{A0}b'
     ";
-
-/// A copy of a line: in the notation of tables, as its text, and as a string.
-fn copy_told(alloc: Global, line: &LineBuffer) -> Result<String, OutOfMemory> {
-    let copy = line.try_clone(alloc)?;
-    let shown = value_told(alloc, &copy)?;
-    let text = copy.into_string();
-    raised(format!(in alloc; "{shown}, {text}"))
-}
-
-fn value_told(alloc: Global, line: &LineBuffer) -> Result<String, AllocError> {
-    let (text, len, empty) = (line.as_str(), line.len(), line.is_empty());
-    format!(in alloc; "{line:?}: {text}, {len}, {empty}")
-}
-
-#[test]
-fn lines_as_values(rt: HostRuntime) -> Result<(), Fail> {
-    let line = line_of(rt.alloc(), "a|b")?;
-    let said = copy_told(rt.alloc(), &line)?;
-    same(
-        said.as_str(),
-        "LineBuffer { buf: \"ab\", pos: 1, can_growth: true, limit: 8 }: ab, 2, false, ab",
-    )
-}
 
 pub(crate) const TABLES: [&str; 11] = [
     PREVIOUS_WORD_STARTS,

@@ -1,9 +1,7 @@
-//! Tables whose rows need nothing but their own text: two players for all of them.
+//! Players of help's tables, whose calls need only their rows.
 
-use crate::help::brackets::{Judge, bracket_at_the_cursor, match_told, validated};
+use crate::help::brackets::{bracket_at_the_cursor, match_told, validated};
 use crate::help::completion::{common_prefix, completed_by, made_of_row};
-use crate::help::failing::{Way, cut_text_told, room_told};
-use crate::help::helpers::prompt_told;
 use crate::help::history::{loaded_anew, loaded_under};
 use crate::help::resuming::ends_told;
 use crate::help::style_split::split_told;
@@ -17,10 +15,9 @@ use std::test::Fail;
 pub(crate) enum Ask {
     Match,
     AtTheCursor,
-    Verdict(Judge),
+    Verdict,
     CompletedBy,
     CommonPrefixes,
-    Prompts,
     Settings,
     Ends,
     Split,
@@ -32,10 +29,9 @@ impl Ask {
         match self {
             Ask::Match => match_told(alloc, call),
             Ask::AtTheCursor => bracket_at_the_cursor(alloc, call),
-            Ask::Verdict(judge) => validated(alloc, judge, call),
+            Ask::Verdict => validated(alloc, call),
             Ask::CompletedBy => completed_by(alloc, call),
             Ask::CommonPrefixes => common_prefix(alloc, call),
-            Ask::Prompts => prompt_told(alloc, call),
             Ask::Settings => loaded_under(alloc, call),
             Ask::Ends => ends_told(alloc, call),
             Ask::Split => split_told(alloc, call),
@@ -56,8 +52,6 @@ impl Player for Ask {
 pub(crate) enum Try {
     Words,
     Loaded,
-    CutTexts,
-    Room(Way),
 }
 
 impl Player for Try {
@@ -65,8 +59,6 @@ impl Player for Try {
         let said: Result<String, Fail> = match self {
             Try::Words => raised(made_of_row(alloc, call)),
             Try::Loaded => raised(loaded_anew(alloc, call)),
-            Try::CutTexts => raised(cut_text_told(alloc, call)),
-            Try::Room(way) => room_told(alloc, way, call),
         };
         trimmed(alloc, said?.as_str())
     }

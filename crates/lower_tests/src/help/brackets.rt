@@ -2,15 +2,14 @@
 //! marks a place in a line.
 
 use crate::help::asks::Ask;
-use crate::help::helpers::shown_told;
 use line_config::{CompletionType, HookFault};
 use line_help::{
-    Highlighter, MatchingBracketHighlighter, MatchingBracketValidator, ValidationContext,
-    ValidationResult, Validator, check_bracket, find_matching_bracket, validate_brackets,
+    HelperParts, Highlighter, MatchingBracketHighlighter, MatchingBracketValidator,
+    ValidationContext, ValidationResult, Validator, check_bracket, find_matching_bracket,
 };
 use line_keys::CmdKind;
 use stand_ins::rows::{Player, raised, rows_hold};
-use stand_ins::tables::{line_and_place, marked, meant, named, word_and_rest};
+use stand_ins::tables::{line_and_place, marked, meant, named, pictured, word_and_rest};
 use std::alloc::{AllocError, Global};
 use std::borrow::CowStr;
 use std::test::Fail;
@@ -112,8 +111,8 @@ const NOTHING_HIGHLIGHTED: &str = r#"
     listed     (>) = "(>)"
 "#;
 
-/// How a highlighter shows a text; nothing if it only gets a line.
-pub(crate) fn shown<'t, H: Highlighter>(
+// How a highlighter shows a text; nothing if it only gets a line.
+fn shown<'t, H: Highlighter>(
     alloc: Global,
     highlighter: &H,
     call: &str,
@@ -137,6 +136,21 @@ const KINDS: [(&str, CmdKind); 5] = [
     ("forced", CmdKind::ForcedRefresh),
     ("denied", CmdKind::ForcedRefresh),
 ];
+
+// What a highlighter says and shows, with pictures and in quotes, or its fault.
+fn shown_told(
+    alloc: Global,
+    said: &str,
+    answer: Result<CowStr<'_>, HookFault>,
+) -> Result<String, AllocError> {
+    match answer {
+        Ok(shown) => {
+            let shown = pictured(alloc, shown.as_str())?;
+            format!(in alloc; "{said}\"{shown}\"")
+        }
+        Err(fault) => format!(in alloc; "{fault:?}"),
+    }
+}
 
 /// A highlighter on which each row's calls are made.
 #[derive(Drop)]
@@ -175,7 +189,12 @@ impl<H: Highlighter> Player for Asked<H> {
 
 #[test]
 fn texts_highlighted(rt: HostRuntime) -> Result<(), Fail> {
-    let highlighter = MatchingBracketHighlighter::default();
+    let highlighter = HelperParts {
+        completer: (),
+        hinter: (),
+        highlighter: MatchingBracketHighlighter::default(),
+        validator: (),
+    };
     rows_hold(rt.alloc(), &mut Asked { highlighter }, HIGHLIGHTED)?;
     let highlighter = Box::new(rt.alloc(), ())?;
     rows_hold(rt.alloc(), &mut Asked { highlighter }, NOTHING_HIGHLIGHTED)
@@ -238,42 +257,17 @@ fn verdict_told(
     format!(in alloc; "{word}{mark}{message}")
 }
 
-/// Judges the brackets of a text: a validator, none, or only the function.
-#[derive(Clone, Copy, Drop)]
-pub(crate) enum Judge {
-    Function,
-    Validator,
-    NoValidator,
-}
-
-// The verdict on a text.
-fn found_of(alloc: Global, judge: &Judge, text: &str) -> Result<ValidationResult, HookFault> {
-    let context = ValidationContext::new(text);
-    match judge {
-        Judge::Validator => MatchingBracketValidator::new().validate(alloc, &context),
-        Judge::NoValidator => ().validate(alloc, &context),
-        Judge::Function => validate_brackets(alloc, text),
-    }
-}
-
 /// The verdict on a row's text, in words.
-pub(crate) fn validated(alloc: Global, judge: &Judge, text: &str) -> Result<String, AllocError> {
+pub(crate) fn validated(alloc: Global, text: &str) -> Result<String, AllocError> {
     let text = meant(alloc, text)?;
-    verdict_told(alloc, found_of(alloc, judge, text.as_str()))
+    let context = ValidationContext::new(text.as_str());
+    let verdict = MatchingBracketValidator::new().validate(alloc, &context);
+    verdict_told(alloc, verdict)
 }
 
 #[test]
 fn brackets_matched_and_texts_validated(rt: HostRuntime) -> Result<(), Fail> {
     rows_hold(rt.alloc(), &mut Ask::Match, MATCHES)?;
     rows_hold(rt.alloc(), &mut Ask::AtTheCursor, AT_THE_CURSOR)?;
-    rows_hold(rt.alloc(), &mut Ask::Verdict(Judge::Function), VERDICTS)?;
-    rows_hold(rt.alloc(), &mut Ask::Verdict(Judge::Validator), VERDICTS)?;
-    let mut none = Ask::Verdict(Judge::NoValidator);
-    rows_hold(rt.alloc(), &mut none, "    ( = valid")
-}
-
-pub(crate) fn validators_ask_for_the_line_alone() -> bool {
-    !().validate_while_typing()
-        && !MatchingBracketValidator::new().validate_while_typing()
-        && ValidationContext::new("a b").input() == "a b"
+    rows_hold(rt.alloc(), &mut Ask::Verdict, VERDICTS)
 }

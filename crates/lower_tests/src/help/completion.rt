@@ -6,15 +6,16 @@ ghost use Rattle.line_keys.specs.Replies.{gives, gives_unless};
 
 use crate::help::asks::{Ask, Try};
 use crate::help::words::completer_of;
-use line_buffer::{LineBuffer, NoListener};
+use line_buffer::NoListener;
 use line_config::HookFault;
 use line_help::{
-    Candidate, Completer, Context, FilenameCompleter, HelperParts, Listed, Lister, MemHistory,
-    Pair, Quote, WordCompleter, escape, extract_word, longest_common_prefix, unescape,
+    Candidate, Completer, Context, FilenameCompleter, Hinter, Listed, Lister, MemHistory, Pair,
+    Quote, ValidationContext, Validator, WordCompleter, escape, extract_word,
+    longest_common_prefix, unescape,
 };
 use stand_ins::lines::{line_of, shown_of};
-use stand_ins::rows::{Player, raised, rows_hold, same};
-use stand_ins::tables::{line_and_place, marked, meant, parted, word_and_rest};
+use stand_ins::rows::{Player, raised, rows_hold, same, stands};
+use stand_ins::tables::{line_and_place, marked, meant, word_and_rest};
 use std::alloc::{AllocError, Global};
 use std::cell::Cell;
 use std::test::Fail;
@@ -210,30 +211,40 @@ fn paths(rt: HostRuntime) -> Result<(), Fail> {
     completes_paths(rt.alloc(), "~/", &[], "    sorted ~/ = |~/")
 }
 
-// How often a completer lists its folder, and others, for the call of this name.
-fn listings_told(alloc: Global, call: &str) -> Result<String, HookFault> {
-    let (here, elsewhere) = (Cell::new(0), Cell::new(0));
-    let folder = Folder {
-        path: "/usr/",
-        names: &USR,
-    };
-    let completer = FilenameCompleter::new(Listing {
-        folder,
-        here: &here,
-        elsewhere: &elsewhere,
-    });
-    let (call, line) = word_and_rest(call);
+// The number of candidates of a call of this name.
+fn count_found<L: Lister>(
+    alloc: Global,
+    completer: &FilenameCompleter<L>,
+    call: &str,
+    line: &str,
+) -> Result<usize, HookFault> {
     let found = match call {
-        "sorted" => completer.complete_path(alloc, line, line.len())?,
-        "unsorted" => completer.complete_path_unsorted(alloc, line, line.len())?,
+        "sorted" => completer.complete_path(alloc, line, line.len()),
+        "unsorted" => completer.complete_path_unsorted(alloc, line, line.len()),
         _ => completer.complete(
             alloc,
             line,
             line.len(),
             &Context::new(&MemHistory::new(alloc)),
-        )?,
+        ),
     };
-    raised(format!(in alloc; "{} {} {}", found.1.len(), here.get(), elsewhere.get()))
+    Ok(found?.1.len())
+}
+
+// How often a completer lists its folder, and others, for the call of this name.
+fn listings_told(alloc: Global, call: &str) -> Result<String, HookFault> {
+    let (here, elsewhere) = (Cell::new(0), Cell::new(0));
+    let completer = FilenameCompleter::new(Listing {
+        folder: Folder {
+            path: "/usr/",
+            names: &USR,
+        },
+        here: &here,
+        elsewhere: &elsewhere,
+    });
+    let (call, line) = word_and_rest(call);
+    let count = count_found(alloc, &completer, call, line)?;
+    raised(format!(in alloc; "{count} {} {}", here.get(), elsewhere.get()))
 }
 
 /// The listings for each row's line.
@@ -371,80 +382,36 @@ fn candidates_copied(rt: HostRuntime) -> Result<(), Fail> {
     same(said.as_str(), "|lo; local→local/; log→log")
 }
 
-// A line in which the text from `[` to the cursor is replaced by the text after the colon; the line
-// then.
-const UPDATES: &str = "
-    cat [lo| x : log  = cat log| x
-    cat [log| x :     = cat | x
-    cat [| x : été    = cat été| x
-";
-
-/// Updates lines with a completer.
-#[derive(Drop)]
-struct Updater<C> {
-    completer: C,
+// A line in which a completer replaced the word before the cursor.
+fn updated<C: Completer>(alloc: Global, completer: &C) -> Result<String, HookFault> {
+    let mut line = line_of(alloc, "cat lo| x")?;
+    if line.pos() < 4 || !line.as_str().is_char_boundary(4) {
+        return Err(HookFault::Failed);
+    }
+    completer.update(alloc, &mut line, 4, "log", &mut NoListener)?;
+    raised(shown_of(alloc, &line))
 }
 
-impl<C: Completer> Updater<C> {
-    // Replaces the text from a place to the cursor.
-    fn update(
-        &self,
-        alloc: Global,
-        line: &mut LineBuffer,
-        start: usize,
-        elected: &str,
-    ) -> Result<(), HookFault> {
-        if start > line.pos() || !line.as_str().is_char_boundary(start) {
-            return Err(HookFault::Failed);
-        }
-        self.completer
-            .update(alloc, line, start, elected, &mut NoListener)
-    }
-
-    // The line after an update, with its cursor.
-    fn updated(
-        &self,
-        alloc: Global,
-        line: &str,
-        start: usize,
-        elected: &str,
-    ) -> Result<String, HookFault> {
-        let mut line = line_of(alloc, line)?;
-        self.update(alloc, &mut line, start, elected)?;
-        raised(shown_of(alloc, &line))
-    }
+fn all_updated(alloc: Global) -> Result<String, HookFault> {
+    let boxed = updated(alloc, &Box::new(alloc, ())?)?;
+    let none = updated(alloc, &None::<WordCompleter>)?;
+    let words = updated(alloc, &Some(completer_of(alloc, "log")?))?;
+    raised(format!(in alloc; "{boxed}, {none}, {words}"))
 }
 
-impl<C: Completer> Player for Updater<C> {
-    fn play(&mut self, alloc: Global, call: &str) -> Result<String, Fail> {
-        let (line, elected) = parted(call, ":");
-        let start = line.find('[').unwrap_or(0);
-        let line = line.trim().replace(alloc, "[", "")?;
-        raised(self.updated(alloc, line.as_str(), start, elected.trim()))
-    }
+// Whether a helper without parts finds nothing.
+fn finds_nothing(alloc: Global) -> Result<bool, HookFault> {
+    let history = MemHistory::new(alloc);
+    let hint = ().hint(alloc, "he", 2, &Context::new(&history))?;
+    let verdict = ().validate(alloc, &ValidationContext::new("("))?;
+    Ok(hint.is_none() && verdict.is_valid())
 }
 
 #[test]
 fn updates(rt: HostRuntime) -> Result<(), Fail> {
-    updates_by(rt.alloc(), Box::new(rt.alloc(), ())?)?;
-    let words = completer_of(rt.alloc(), "log")?;
-    updates_in_parts(rt.alloc(), Some(words))?;
-    updates_in_parts(rt.alloc(), None)
-}
-
-fn updates_by<C: Completer + Drop>(alloc: Global, completer: C) -> Result<(), Fail> {
-    rows_hold(alloc, &mut Updater { completer }, UPDATES)
-}
-
-// The same with a helper that completes words, if there are any.
-fn updates_in_parts(alloc: Global, completer: Option<WordCompleter>) -> Result<(), Fail> {
-    let helper = HelperParts {
-        completer,
-        hinter: (),
-        highlighter: (),
-        validator: (),
-    };
-    updates_by(alloc, helper)
+    let said = all_updated(rt.alloc())?;
+    same(said.as_str(), "cat log| x, cat log| x, cat log| x")?;
+    stands(finds_nothing(rt.alloc())?, "a hint or a verdict of nothing")
 }
 
 // Where the last word of a line begins, and the word; a text escaped, without quotes or in quotes;

@@ -1,22 +1,18 @@
 //! Histories, call by call. An entry has a bar after it.
 
 use crate::help::asks::{Ask, Try};
-use line_config::{Config, Configurer, HookFault, ReadlineError, SliceSource, Source, VecSink};
-use line_help::{
-    Context, FileHistory, Hint, Hinter, History, HistoryHinter, MemHistory, SearchDirection,
-    SearchResult,
-};
-use stand_ins::rows::{Player, raised, rows_hold, same, trimmed};
-use stand_ins::tables::{
-    line_and_place, marked, meant, meant_bytes, pictured, pictured_bytes, word_and_rest,
-};
+use crate::help::words::source_of;
+use line_config::{ReadlineError, SliceSource, Source, VecSink};
+use line_help::{FileHistory, History, SearchDirection, SearchResult};
+use stand_ins::rows::{Player, raised, rows_hold, trimmed};
+use stand_ins::tables::{marked, meant, meant_bytes, pictured, pictured_bytes, word_and_rest};
 use std::alloc::{AllocError, Global};
 use std::test::Fail;
 
-/// An answer, and the entries of a history, a bar after each.
-pub(crate) fn told_with_entries<H: History>(
+// An answer, and the entries of a history, a bar after each.
+fn told_with_entries(
     alloc: Global,
-    history: &H,
+    history: &FileHistory,
     answer: &str,
 ) -> Result<String, AllocError> {
     let mut text = String::from_str(alloc, answer)?;
@@ -24,9 +20,9 @@ pub(crate) fn told_with_entries<H: History>(
     Ok(text)
 }
 
-fn write_entries<H: History>(
+fn write_entries(
     alloc: Global,
-    history: &H,
+    history: &FileHistory,
     text: &mut String,
 ) -> Result<(), AllocError> {
     for index in 0..history.len() {
@@ -43,21 +39,13 @@ pub(crate) fn write_entry(alloc: Global, text: &mut String, entry: &str) -> Resu
     write!(text, "{entry}|")
 }
 
-/// Adds a line.
-pub(crate) fn add_line<H: History>(
-    alloc: Global,
-    history: &mut H,
-    line: &str,
-) -> Result<bool, ReadlineError> {
+// Adds a line.
+fn add_line(alloc: Global, history: &mut FileHistory, line: &str) -> Result<bool, ReadlineError> {
     let line = meant(alloc, line)?;
     history.add(alloc, line.as_str())
 }
 
-fn add_owned<H: History>(
-    alloc: Global,
-    history: &mut H,
-    line: &str,
-) -> Result<bool, ReadlineError> {
+fn add_owned(alloc: Global, history: &mut FileHistory, line: &str) -> Result<bool, ReadlineError> {
     let line = meant(alloc, line)?;
     history.add_owned(alloc, line)
 }
@@ -74,8 +62,8 @@ pub(crate) fn add_lines(
     Ok(())
 }
 
-/// A history to which these lines were added, each of which ends in a bar.
-pub(crate) fn with_lines(alloc: Global, lines: &str) -> Result<FileHistory, ReadlineError> {
+// A history to which these lines were added, each of which ends in a bar.
+fn with_lines(alloc: Global, lines: &str) -> Result<FileHistory, ReadlineError> {
     let mut history = FileHistory::new(alloc);
     add_lines(alloc, &mut history, lines)?;
     Ok(history)
@@ -100,23 +88,37 @@ fn answer_told(answer: Result<bool, ReadlineError>) -> &'static str {
 }
 
 // A text that a new history loads; whether it was whole, the entries, and which of them are new
-// then.
+// then. After a text that is cut the source fails.
 const LOADED: &str = r"
-    #V2␊a\nb␊c\\d␊e\x␊         = whole a␊b|c\d|e\x|
-    a\nb␊                      = part a\nb|
-                               = part
-    #V2␊                       = whole
-    #V2                        = whole
-    #V2␍␊x␍␊␍␊y␍               = whole x|y␍|
-    ␊#V2␊a␊                    = part #V2|a|
-    #V2␊␊␊a␊                   = whole a|
-    #V2␊a␊a␊b␊                 = part a|b|
-    #V2␊a\                     = whole a\|
-    #V2␊\n\\n\q␊\\\n␊          = whole \n\\n\q|\␊|
-    a␍␍␊b                      = part a␍|b|
-    ‹ff›␊a␊                    = HistoryText
-    #V2␊a␊‹c3›␊b␊              = HistoryText a|, new #V2␊a␊
-    #V2␊a␊b␊‹e2 82›           = HistoryText a|b|, new #V2␊a␊b␊
+    whole #V2␊a\nb␊c\\d␊e\x␊         = whole a␊b|c\d|e\x|
+    whole a\nb␊                      = part a\nb|
+    whole                            = part
+    whole #V2␊                       = whole
+    whole #V2                        = whole
+    whole #V2␍␊x␍␊␍␊y␍               = whole x|y␍|
+    whole ␊#V2␊a␊                    = part #V2|a|
+    whole #V2␊␊␊a␊                   = whole a|
+    whole #V2␊a␊a␊b␊                 = part a|b|
+    whole #V2␊a\                     = whole a\|
+    whole #V2␊\n\\n\q␊\\\n␊          = whole \n\\n\q|\␊|
+    whole a␍␍␊b                      = part a␍|b|
+    whole ‹ff›␊a␊                    = HistoryText
+    whole #V2␊a␊‹c3›␊b␊              = HistoryText a|, new #V2␊a␊
+    whole #V2␊a␊b␊‹e2 82›            = HistoryText a|b|, new #V2␊a␊b␊
+    cut                              = Reader
+    cut #                            = Reader
+    cut #V                           = Reader
+    cut #V2                          = Reader
+    cut #V2␊                         = Reader
+    cut #V2␊a                        = Reader
+    cut #V2␊a\                       = Reader
+    cut #V2␊a\n                      = Reader
+    cut #V2␊a\nb                     = Reader
+    cut #V2␊a\nb␊                    = Reader a␊b|, new #V2␊a\nb␊
+    cut #V2␊a\nb␊c                   = Reader a␊b|, new #V2␊a\nb␊
+    cut #V2␊a\nb␊c␊                  = Reader a␊b|c|, new #V2␊a\nb␊c␊
+    cut #V2␊a\nb␊c␊d                 = Reader a␊b|c|, new #V2␊a\nb␊c␊
+    cut a␊‹ff›␊b                     = HistoryText a|, new #V2␊a␊
 ";
 
 /// The answer of a history to a source that it loads, and its entries then.
@@ -130,17 +132,23 @@ pub(crate) fn load_told<S: Source>(
 }
 
 // The same, and which of the entries are new.
-fn loaded(alloc: Global, history: &mut FileHistory, text: &[u8]) -> Result<String, ReadlineError> {
-    let said = load_told(alloc, history, &mut SliceSource::new(text))?;
+fn loaded(
+    alloc: Global,
+    history: &mut FileHistory,
+    source: &mut SliceSource<'_>,
+) -> Result<String, ReadlineError> {
+    let said = load_told(alloc, history, source)?;
     let new = saved(alloc, history)?;
     let mark = if new.is_empty() { "" } else { ", new " };
     raised(format!(in alloc; "{said}{mark}{new}"))
 }
 
 /// The answer of a new history to a row's text.
-pub(crate) fn loaded_anew(alloc: Global, text: &str) -> Result<String, ReadlineError> {
+pub(crate) fn loaded_anew(alloc: Global, call: &str) -> Result<String, ReadlineError> {
+    let (end, text) = word_and_rest(call);
     let text = meant_bytes(alloc, text)?;
-    loaded(alloc, &mut FileHistory::new(alloc), &text)
+    let mut source = source_of(end, &text);
+    loaded(alloc, &mut FileHistory::new(alloc), &mut source)
 }
 
 // A text that is loaded by histories with these settings: the most entries, and what is ignored.
@@ -174,29 +182,6 @@ fn texts_that_are_loaded(rt: HostRuntime) -> Result<(), Fail> {
     rows_hold(rt.alloc(), &mut Ask::Settings, SETTINGS)
 }
 
-// Other settings for histories than those of the default.
-fn unlike_the_default() -> Config {
-    let mut config = Config::default();
-    let _ = config.set_max_history_size(2);
-    let _ = config.set_history_ignore_dups(false);
-    config.set_history_ignore_space(true);
-    config
-}
-
-// The entries of a configuration's history after these lines.
-fn kept_of(alloc: Global, config: &Config, lines: &str) -> Result<String, ReadlineError> {
-    let mut history = FileHistory::with_config(alloc, config);
-    add_lines(alloc, &mut history, lines)?;
-    raised(told_with_entries(alloc, &history, ""))
-}
-
-/// The settings of a configuration are those of a history made with it.
-#[test]
-fn histories_of_a_configuration(rt: HostRuntime) -> Result<(), Fail> {
-    let kept = kept_of(rt.alloc(), &unlike_the_default(), "a|b|b| c|")?;
-    same(kept.as_str(), "b|b|")
-}
-
 // Where a search found an entry: the index of the entry, and the entry with a bar at the place in
 // it.
 fn hit_told(alloc: Global, found: Option<SearchResult<'_>>) -> Result<String, AllocError> {
@@ -210,9 +195,9 @@ fn hit_told(alloc: Global, found: Option<SearchResult<'_>>) -> Result<String, Al
 }
 
 // Adds a line, and returns whether it did, in a word.
-fn added<H: History>(
+fn added(
     alloc: Global,
-    history: &mut H,
+    history: &mut FileHistory,
     call: &str,
     text: &str,
 ) -> Result<&'static str, ReadlineError> {
@@ -224,7 +209,7 @@ fn added<H: History>(
 }
 
 // Sets what is kept and what is ignored, which has no answer.
-fn set<H: History>(history: &mut H, call: &str, text: &str) -> &'static str {
+fn set(history: &mut FileHistory, call: &str, text: &str) -> &'static str {
     let (size, yes) = (text.parse().unwrap_or(0), text == "yes");
     match call {
         "max_len" => history.set_max_len(size),
@@ -237,9 +222,9 @@ fn set<H: History>(history: &mut H, call: &str, text: &str) -> &'static str {
 }
 
 // Looks an entry up; or changes the history, and returns its answer and the entries then.
-fn answered<H: History>(
+fn answered(
     alloc: Global,
-    history: &mut H,
+    history: &mut FileHistory,
     call: &str,
     text: &str,
 ) -> Result<String, ReadlineError> {
@@ -252,9 +237,9 @@ fn answered<H: History>(
 }
 
 // Looks an entry up, like `search forward 3 line` does from the index 3 on.
-fn looked_up<H: History>(
+fn looked_up(
     alloc: Global,
-    history: &H,
+    history: &FileHistory,
     call: &str,
     text: &str,
 ) -> Result<String, AllocError> {
@@ -316,7 +301,11 @@ impl Desk {
     fn reload(&mut self, alloc: Global) -> Result<String, ReadlineError> {
         self.history = FileHistory::new(alloc);
         self.history.set_max_len(2);
-        loaded(alloc, &mut self.history, self.file.bytes())
+        loaded(
+            alloc,
+            &mut self.history,
+            &mut SliceSource::new(self.file.bytes()),
+        )
     }
 }
 
@@ -333,37 +322,6 @@ fn plays_with(alloc: Global, lines: &str, table: &str) -> Result<(), Fail> {
     let history = with_lines(alloc, lines)?;
     let file = VecSink::new(alloc);
     rows_hold(alloc, &mut Desk { history, file }, table)
-}
-
-/// A history in memory.
-#[derive(Drop)]
-struct Memory {
-    history: MemHistory,
-}
-
-impl Memory {
-    // The number of its lines, also counted one by one, whether there are none, and the line at an
-    // index.
-    fn told(&self, alloc: Global, place: usize) -> Result<String, AllocError> {
-        let (count, counted) = (self.history.len(), self.history.iter().count());
-        let empty = self.history.is_empty();
-        if place >= count {
-            return format!(in alloc; "{count}, {counted}, {empty}");
-        }
-        let line = self.history[place].as_str();
-        format!(in alloc; "{count}, {counted}, {empty}, {line:?}")
-    }
-}
-
-impl Player for Memory {
-    fn play(&mut self, alloc: Global, call: &str) -> Result<String, Fail> {
-        let (call, text) = word_and_rest(call);
-        let said = match call {
-            "lines" => self.told(alloc, text.parse().unwrap_or(0))?,
-            _ => answered(alloc, &mut self.history, call, text)?,
-        };
-        trimmed(alloc, said.as_str())
-    }
 }
 
 const SAVED: &str = r"
@@ -411,15 +369,6 @@ const SEARCHES: &str = "
     save                        = #V2␊line3␊
 ";
 
-#[test]
-fn histories_with_texts(rt: HostRuntime) -> Result<(), Fail> {
-    plays_with(rt.alloc(), r"x\y|", SAVED)?;
-    plays_with(rt.alloc(), "", APPENDED)?;
-    plays_with(rt.alloc(), "line1|line2|line3|", SEARCHES)
-}
-
-// `lines 1` is the number of the lines, also counted one by one, whether there are none, and the
-// line at 1.
 const ADDED: &str = "
     ignore_space yes    = nothing
     add line2           = added line2|
@@ -431,11 +380,9 @@ const ADDED: &str = "
     add line2           = added line2|line3|line2|
     ignore_dups no      = line2|line3|line2|
     add_owned line2     = added line2|line3|line2|line2|
-    lines 4             = 4, 4, false
     max_len 2           = line2|line2|
     ignore_space no     = line2|line2|
     add ␠a              = added line2| a|
-    lines 1             = 2, 2, false, \" a\"
     max_len 0           = nothing
     add b               = ignored
     max_len 1           = nothing
@@ -444,82 +391,12 @@ const ADDED: &str = "
     get forward 0       = 0 |c
     get forward 1       = none
     clear               = nothing
-    lines 0             = 0, 0, true
 ";
 
 #[test]
-fn lines_that_are_added(rt: HostRuntime) -> Result<(), Fail> {
-    let history = MemHistory::with_config(rt.alloc(), &Config::default());
-    rows_hold(rt.alloc(), &mut Memory { history }, ADDED)
-}
-
-// A line with the cursor; the hint of the only entry, as it is shown and as it is accepted.
-const HINTS: &str = r#"
-    hello|          = " world", takes " world"
-    hello world|    = none
-    hell|o          = none
-    |               = none
-    help|           = none
-"#;
-
-/// A hint, as it is shown and as it is accepted.
-pub(crate) fn hint_told<T: Hint>(
-    alloc: Global,
-    answer: Result<Option<T>, HookFault>,
-) -> Result<String, AllocError> {
-    match answer {
-        Ok(Some(hint)) => both_told(alloc, hint.display(), hint.completion()),
-        Ok(None) => String::from_str(alloc, "none"),
-        Err(fault) => format!(in alloc; "{fault:?}"),
-    }
-}
-
-fn both_told(alloc: Global, shown: &str, taken: Option<&str>) -> Result<String, AllocError> {
-    let taken = taken.unwrap_or("none");
-    format!(in alloc; "{shown:?}, takes {taken:?}")
-}
-
-/// A history with the hinted line.
-#[derive(Drop)]
-struct Hinted {
-    history: FileHistory,
-}
-
-impl Hinted {
-    // The hint from the history. If there is one without a hinter, then that one, which no row
-    // expects.
-    fn told(&self, alloc: Global, line: &str, pos: usize) -> Result<String, AllocError> {
-        if pos > line.len() {
-            return String::from_str(alloc, "a cursor beyond the line");
-        }
-        let context = Context::new(&self.history);
-        if !matches!(().hint(alloc, line, pos, &context), Ok(None)) {
-            return String::from_str(alloc, "a hint without a hinter");
-        }
-        hint_told(alloc, HistoryHinter::new().hint(alloc, line, pos, &context))
-    }
-}
-
-impl Player for Hinted {
-    fn play(&mut self, alloc: Global, line: &str) -> Result<String, Fail> {
-        let (line, pos) = line_and_place(alloc, line)?;
-        raised(self.told(alloc, line.as_str(), pos))
-    }
-}
-
-// Whether the place in a history of one entry is 1 at first, and 0 after it is set to 0.
-fn place_is_set<H: History>(history: &H) -> bool {
-    let mut context = Context::new(history);
-    let first = context.history_index();
-    context.set_history_index(0);
-    first == 1 && context.history_index() == 0
-}
-
-#[test]
-fn hints(rt: HostRuntime) -> Result<(), Fail> {
-    let history = with_lines(rt.alloc(), "hello world|")?;
-    if !place_is_set(&history) {
-        return Err(Fail::new("a place is not as it is set"));
-    }
-    rows_hold(rt.alloc(), &mut Hinted { history }, HINTS)
+fn histories_with_texts(rt: HostRuntime) -> Result<(), Fail> {
+    plays_with(rt.alloc(), r"x\y|", SAVED)?;
+    plays_with(rt.alloc(), "", APPENDED)?;
+    plays_with(rt.alloc(), "", ADDED)?;
+    plays_with(rt.alloc(), "line1|line2|line3|", SEARCHES)
 }

@@ -113,14 +113,19 @@ fn bars_behind(alloc: Global, words: &[String]) -> Result<String, AllocError> {
     Ok(said)
 }
 
+/// A source of these bytes that fails at their end, if they are `cut`.
+pub(crate) fn source_of<'a>(end: &str, bytes: &'a [u8]) -> SliceSource<'a> {
+    match end {
+        "cut" => SliceSource::failing_after(bytes),
+        _ => SliceSource::new(bytes),
+    }
+}
+
 /// The words of a row's text.
 pub(crate) fn words_of_text(alloc: Global, call: &str) -> Result<String, AllocError> {
     let (end, text) = word_and_rest(call);
     let bytes = meant_bytes(alloc, text)?;
-    let mut source = match end {
-        "cut" => SliceSource::failing_after(&bytes),
-        _ => SliceSource::new(&bytes),
-    };
+    let mut source = source_of(end, &bytes);
     let answer = load_words(alloc, &mut source);
     words_told(alloc, answer)
 }

@@ -83,17 +83,13 @@ impl<'t> Desk<'t> {
 }
 
 /// Takes the parts of a text.
-pub(crate) trait TakesParts<'t> {
+trait TakesParts<'t> {
     /// Takes a part, as it stands in the text.
     fn take(&mut self, part: &'t str) -> Result<(), Fail>;
 }
 
 /// Passes on each part of a text, separated by a mark.
-pub(crate) fn each_part<'t, T: TakesParts<'t>>(
-    taker: &mut T,
-    text: &'t str,
-    mark: char,
-) -> Result<(), Fail> {
+fn each_part<'t, T: TakesParts<'t>>(taker: &mut T, text: &'t str, mark: char) -> Result<(), Fail> {
     for part in text.split(mark) {
         taker.take(part)?;
     }
@@ -101,7 +97,7 @@ pub(crate) fn each_part<'t, T: TakesParts<'t>>(
 }
 
 /// Fails if a line of a table that is no row isn't blank.
-pub(crate) fn is_blank(line: &str) -> Result<(), Fail> {
+fn is_blank(line: &str) -> Result<(), Fail> {
     if line.trim().is_empty() {
         Ok(())
     } else {
@@ -111,7 +107,7 @@ pub(crate) fn is_blank(line: &str) -> Result<(), Fail> {
 
 /// Types the keys, and compares their commands. How the first key of a phrase is requested makes no
 /// difference.
-pub(crate) fn leads_to(desk: &Desk<'_>, keys: &str, wanted: &str) -> Result<(), Fail> {
+fn leads_to(desk: &Desk<'_>, keys: &str, wanted: &str) -> Result<(), Fail> {
     leads_by(desk, false, keys, wanted)?;
     leads_by(desk, true, keys, wanted)
 }
@@ -148,7 +144,7 @@ fn plays_anew(alloc: Global, mode: EditMode, table: &str) -> Result<(), Fail> {
 }
 
 /// The three columns of a row.
-pub(crate) fn three_columns(row: &str) -> Option<(&str, &str, &str)> {
+fn three_columns(row: &str) -> Option<(&str, &str, &str)> {
     let (first, rest) = row.split_once('|')?;
     let (second, third) = rest.split_once('|')?;
     Some((first.trim(), second.trim(), third.trim()))

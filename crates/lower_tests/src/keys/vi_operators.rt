@@ -1,234 +1,223 @@
-//! Vi: operators and their ranges.
+//! Vi: operators and their ranges. In the tables `@` stands for the operator's key, `{` and `}` for
+//! what its command has around the range, `∘` for the place in a word to which `w` leads, and `§`
+//! for the command of the key `q` after it.
 
-use crate::keys::tables::{Desk, TakesParts, each_part, is_blank, leads_to, three_columns};
+use crate::keys::tables::each_count;
 use line_config::EditMode;
-use std::alloc::AllocError;
+use std::alloc::{AllocError, Global};
 use std::test::Fail;
 
-// Operators, the command for a range, and the command of the key `q` after it.
-const OPERATORS: &str = "
-    d | Kill(RANGE)          | Unknown
-    y | ViYankTo(RANGE)      | Unknown
-    < | Dedent(RANGE)        | Unknown
-    > | Indent(RANGE)        | Unknown
-    c | Replace(RANGE, None) | SelfInsert(1, 'q')
+// An operator without a count, or with one before it.
+const COUNTS_BEFORE: &str = "
+    Esc @                     | <done> Move(BackwardChar(1));            | 1
+    Esc 3 @                   | <done> Move(BackwardChar(1)); <3> <line> | 3
 ";
 
-// Counts around an operator, for which `@` stands, the requests to the display for them, and their
-// product.
-const COUNTS: &str = "
-    @                     |                                            | 1
-    3 @                   | <3> <line>                                 | 3
-    @ 2                   | <2> <line>                                 | 2
-    3 @ 2                 | <3> <line> <2> <line>                      | 6
-    1 2 @ 3 0             | <1> <12> <line> <3> <30> <line>            | 360
-    6 5 5 @ 1 0 0         | <6> <65> <655> <line> <1> <10> <100> <line> | 65500
-    6 5 6 @ 1 0 0         | <6> <65> <656> <line> <1> <10> <100> <line> | 65535
-    9 9 9 9 9 @ 9 9 9 9 9 | <9> <99> <999> <9999> <9999> <line> <9> <99> <999> <9999> <9999> <line> | 65535
+// With a count after it, and the product of both.
+const COUNTS_AFTER: &str = "
+    Esc @ 2                   | <done> Move(BackwardChar(1)); <2> <line>                                  | 2
+    Esc 3 @ 2                 | <done> Move(BackwardChar(1)); <3> <line> <2> <line>                       | 6
+    Esc 1 2 @ 3 0             | <done> Move(BackwardChar(1)); <1> <12> <line> <3> <30> <line>             | 360
+    Esc 6 5 5 @ 1 0 0         | <done> Move(BackwardChar(1)); <6> <65> <655> <line> <1> <10> <100> <line> | 65500
+    Esc 6 5 6 @ 1 0 0         | <done> Move(BackwardChar(1)); <6> <65> <656> <line> <1> <10> <100> <line> | 65535
+    Esc 9 9 9 9 9 @ 9 9 9 9 9 | <done> Move(BackwardChar(1)); <9> <99> <999> <9999> <9999> <line> <9> <99> <999> <9999> <9999> <line> | 65535
 ";
 
-// The keys after an operator, and the range; then the range for `c`, if that is another one.
+// What the keys after an operator name, and those that cancel it.
 const MOTIONS: &str = "
-    $         | EndOfLine
-    ^         | ViFirstPrint
-    b         | BackwardWord(n, Vi)
-    B         | BackwardWord(n, Big)
-    e         | ForwardWord(n, AfterEnd, Vi)
-    E         | ForwardWord(n, AfterEnd, Big)
-    f x       | ViCharSearch(n, Forward('x'))
-    t x       | ViCharSearch(n, ForwardBefore('x'))
-    F x       | ViCharSearch(n, Backward('x'))
-    T x       | ViCharSearch(n, BackwardAfter('x'))
-    f 5       | ViCharSearch(n, Forward('5'))
-    h         | BackwardChar(n)
-    C-H       | BackwardChar(n)
-    Backspace | BackwardChar(n)
-    l         | ForwardChar(n)
-    Space     | ForwardChar(n)
-    j         | LineDown(n)
-    +         | LineDown(n)
-    k         | LineUp(n)
-    -         | LineUp(n)
-    w         | ForwardWord(n, Start, Vi)  | ForwardWord(n, AfterEnd, Vi)
-    W         | ForwardWord(n, Start, Big) | ForwardWord(n, AfterEnd, Big)
+    then: §
+    $             | {EndOfLine}
+    ^             | {ViFirstPrint}
+    b             | {BackwardWord(n, Vi)}
+    B             | {BackwardWord(n, Big)}
+    e             | {ForwardWord(n, AfterEnd, Vi)}
+    E             | {ForwardWord(n, AfterEnd, Big)}
+    f x           | {ViCharSearch(n, Forward('x'))}
+    t x           | {ViCharSearch(n, ForwardBefore('x'))}
+    F x           | {ViCharSearch(n, Backward('x'))}
+    T x           | {ViCharSearch(n, BackwardAfter('x'))}
+    f 5           | {ViCharSearch(n, Forward('5'))}
+    h             | {BackwardChar(n)}
+    C-H           | {BackwardChar(n)}
+    Backspace     | {BackwardChar(n)}
+    l             | {ForwardChar(n)}
+    Space         | {ForwardChar(n)}
+    j             | {LineDown(n)}
+    +             | {LineDown(n)}
+    k             | {LineUp(n)}
+    -             | {LineUp(n)}
+    w             | {ForwardWord(n, ∘, Vi)}
+    W             | {ForwardWord(n, ∘, Big)}
+    ;             | Unknown
+    ,             | Unknown
+    q             | Unknown
+    x             | Unknown
+    i             | Unknown
+    a             | Unknown
+    p             | Unknown
+    u             | Unknown
+    .             | Unknown
+    r             | Unknown
+    G             | Unknown
+    D             | Unknown
+    s             | Unknown
+    é             | Unknown
+    f Esc         | Unknown
+    T C-G         | Unknown
+    t A-x         | Unknown
+    F Enter       | Unknown
+    Esc           | Unknown
+    Enter         | Unknown
+    C-C           | Unknown
+    C-D           | Unknown
+    C-W           | Unknown
+    C-G           | Unknown
+    C-U           | Unknown
+    A-w           | Unknown
+    A-5           | Unknown
+    S-w           | Unknown
+    Left          | Unknown
+    Right         | Unknown
+    Home          | Unknown
+    End           | Unknown
+    Tab           | Unknown
+    F1            | Unknown
+    UnknownEscSeq | Unknown
 ";
 
-// The keys that cancel an operator.
-const NO_MOTIONS: &str = "
-    ; | , | q | x | i | a | p | u | . | r | G | D | s | é |
-    f Esc | T C-G | t A-x | F Enter | Esc | Enter | C-C | C-D | C-W | C-G | C-U |
-    A-w | A-5 | S-w | Left | Right | Home | End | Tab | F1 | UnknownEscSeq
+// The operator's own key names the whole line, and `0` the line's beginning. After a second count
+// the key cancels.
+const WHOLE: &str = "
+    then: §
+    @             | {WholeLine}
+    0             | {BeginningOfLine}
 ";
 
-const OPERATOR_KEYS: &str = "d y < > c";
+const NOT_WHOLE: &str = "
+    then: §
+    @             | Unknown
+";
 
+// One operator after another cancels it.
+const OTHER_OPERATORS: &str = "
+    Esc d y q           | <done> Move(BackwardChar(1)); Unknown; Unknown
+    Esc d < q           | <done> Move(BackwardChar(1)); Unknown; Unknown
+    Esc d > q           | <done> Move(BackwardChar(1)); Unknown; Unknown
+    Esc d c q           | <done> Move(BackwardChar(1)); Unknown; Unknown
+    Esc d 2 y q         | <done> Move(BackwardChar(1)); <2> <line> Unknown; Unknown
+    Esc y d q           | <done> Move(BackwardChar(1)); Unknown; Unknown
+    Esc y < q           | <done> Move(BackwardChar(1)); Unknown; Unknown
+    Esc y > q           | <done> Move(BackwardChar(1)); Unknown; Unknown
+    Esc y c q           | <done> Move(BackwardChar(1)); Unknown; Unknown
+    Esc y 2 d q         | <done> Move(BackwardChar(1)); <2> <line> Unknown; Unknown
+    Esc < d q           | <done> Move(BackwardChar(1)); Unknown; Unknown
+    Esc < y q           | <done> Move(BackwardChar(1)); Unknown; Unknown
+    Esc < > q           | <done> Move(BackwardChar(1)); Unknown; Unknown
+    Esc < c q           | <done> Move(BackwardChar(1)); Unknown; Unknown
+    Esc < 2 y q         | <done> Move(BackwardChar(1)); <2> <line> Unknown; Unknown
+    Esc > d q           | <done> Move(BackwardChar(1)); Unknown; Unknown
+    Esc > y q           | <done> Move(BackwardChar(1)); Unknown; Unknown
+    Esc > < q           | <done> Move(BackwardChar(1)); Unknown; Unknown
+    Esc > c q           | <done> Move(BackwardChar(1)); Unknown; Unknown
+    Esc > 2 y q         | <done> Move(BackwardChar(1)); <2> <line> Unknown; Unknown
+    Esc c d q           | <done> Move(BackwardChar(1)); Unknown; SelfInsert(1, 'q')
+    Esc c y q           | <done> Move(BackwardChar(1)); Unknown; SelfInsert(1, 'q')
+    Esc c < q           | <done> Move(BackwardChar(1)); Unknown; SelfInsert(1, 'q')
+    Esc c > q           | <done> Move(BackwardChar(1)); Unknown; SelfInsert(1, 'q')
+    Esc c 2 y q         | <done> Move(BackwardChar(1)); <2> <line> Unknown; SelfInsert(1, 'q')
+";
+
+pub(crate) const TABLES: [&str; 1] = [OTHER_OPERATORS];
+
+/// An operator, by what the signs in the tables stand for.
 #[derive(Clone, Copy, Drop)]
-struct Operator<'t> {
-    key: &'t str,
-    // The command, with `RANGE` for its range.
-    command: &'t str,
-    after: &'t str,
+struct Operator {
+    key: &'static str,
+    before: &'static str,
+    behind: &'static str,
+    place: &'static str,
+    then: &'static str,
 }
 
-/// An operator typed with counts around it.
-#[derive(Clone, Copy, Drop)]
-struct Operating<'t> {
-    desk: &'t Desk<'t>,
-    operator: Operator<'t>,
-    // The keys of the counts, the requests to the display for them, and their product.
-    counts: &'t str,
-    asked: &'t str,
-    product: &'t str,
+const OPERATORS: [Operator; 5] = [
+    Operator {
+        key: "d",
+        before: "Kill(",
+        behind: ")",
+        place: "Start",
+        then: "Unknown",
+    },
+    Operator {
+        key: "y",
+        before: "ViYankTo(",
+        behind: ")",
+        place: "Start",
+        then: "Unknown",
+    },
+    Operator {
+        key: "<",
+        before: "Dedent(",
+        behind: ")",
+        place: "Start",
+        then: "Unknown",
+    },
+    Operator {
+        key: ">",
+        before: "Indent(",
+        behind: ")",
+        place: "Start",
+        then: "Unknown",
+    },
+    Operator {
+        key: "c",
+        before: "Replace(",
+        behind: ", None)",
+        place: "AfterEnd",
+        then: "SelfInsert(1, 'q')",
+    },
+];
+
+// Writes a character, or what it stands for.
+fn put(text: &mut String, c: char, operator: &Operator) -> Result<(), AllocError> {
+    let meant = match c {
+        '@' => operator.key,
+        '{' => operator.before,
+        '}' => operator.behind,
+        '∘' => operator.place,
+        '§' => operator.then,
+        _ => return text.push(c),
+    };
+    text.push_str(meant)
 }
 
-impl Operating<'_> {
-    // The operator with its counts and the keys after it, then `q`.
-    fn typed(&self, keys: &str) -> Result<String, AllocError> {
-        let alloc = self.desk.alloc;
-        let operator = self.counts.replace(alloc, "@", self.operator.key)?;
-        format!(in alloc; "Esc {operator} {keys} q")
+// A table with what its signs stand for.
+fn written(alloc: Global, table: &str, operator: &Operator) -> Result<String, AllocError> {
+    let mut text = String::new(alloc);
+    for c in table.chars() {
+        put(&mut text, c, operator)?;
     }
-
-    // The expected commands.
-    fn wanted(&self, command: &str) -> Result<String, AllocError> {
-        let (asked, after) = (self.asked, self.operator.after);
-        let gap = if asked.is_empty() { "" } else { " " };
-        format!(in self.desk.alloc; "<done> Move(BackwardChar(1)); {asked}{gap}{command}; {after}")
-    }
-
-    // The operator's command for a range.
-    fn command(&self, range: &str) -> Result<String, AllocError> {
-        let alloc = self.desk.alloc;
-        let product = format!(in alloc; "({}", self.product)?;
-        let range = range.replace(alloc, "(n", product.as_str())?;
-        self.operator
-            .command
-            .replace(alloc, "RANGE", range.as_str())
-    }
-
-    fn leads_to(&self, keys: &str, command: &str) -> Result<(), Fail> {
-        let typed = self.typed(keys)?;
-        let wanted = self.wanted(command)?;
-        leads_to(self.desk, typed.as_str(), wanted.as_str())
-    }
-
-    fn takes(&self, keys: &str, range: &str) -> Result<(), Fail> {
-        let command = self.command(range)?;
-        self.leads_to(keys, command.as_str())
-    }
-
-    fn one_count(&self) -> bool {
-        self.counts.ends_with('@')
-    }
+    Ok(text)
 }
 
-/// The rows of motions.
-#[derive(Clone, Copy, Drop)]
-struct Motions<'t> {
-    operating: Operating<'t>,
+// Types the keys of a table after an operator with each count.
+fn operates(alloc: Global, operator: &Operator, counts: &str, table: &str) -> Result<(), Fail> {
+    let counts = written(alloc, counts, operator)?;
+    let table = written(alloc, table, operator)?;
+    each_count(alloc, EditMode::Vi, counts.as_str(), table.as_str())
 }
 
-impl<'t> TakesParts<'t> for Motions<'_> {
-    fn take(&mut self, row: &'t str) -> Result<(), Fail> {
-        let Some((keys, ranges)) = row.split_once('|') else {
-            return is_blank(row);
-        };
-        let (usual, for_c) = ranges.split_once('|').unwrap_or((ranges, ranges));
-        let range = if self.operating.operator.key == "c" {
-            for_c
-        } else {
-            usual
-        };
-        self.operating.takes(keys, range.trim())
-    }
-}
-
-/// The keys that cancel an operator.
-#[derive(Clone, Copy, Drop)]
-struct OtherKeys<'t> {
-    operating: Operating<'t>,
-}
-
-impl<'t> TakesParts<'t> for OtherKeys<'_> {
-    fn take(&mut self, keys: &'t str) -> Result<(), Fail> {
-        self.operating.leads_to(keys.trim(), "Unknown")
-    }
-}
-
-/// The operators' keys. The operator's own key names the whole line, except after a second count;
-/// the others name nothing.
-#[derive(Clone, Copy, Drop)]
-struct OperatorKeys<'t> {
-    operating: Operating<'t>,
-}
-
-impl<'t> TakesParts<'t> for OperatorKeys<'_> {
-    fn take(&mut self, keys: &'t str) -> Result<(), Fail> {
-        if keys == self.operating.operator.key && self.operating.one_count() {
-            self.operating.takes(keys, "WholeLine")
-        } else {
-            self.operating.leads_to(keys, "Unknown")
-        }
-    }
-}
-
-// Types all keys that may follow. `0` is the line's beginning, but a digit after a second count.
-fn each_key(operating: Operating<'_>) -> Result<(), Fail> {
-    each_part(&mut Motions { operating }, MOTIONS, '\n')?;
-    each_part(&mut OtherKeys { operating }, NO_MOTIONS, '|')?;
-    each_part(&mut OperatorKeys { operating }, OPERATOR_KEYS, ' ')?;
-    if operating.one_count() {
-        operating.takes("0", "BeginningOfLine")
-    } else {
-        Ok(())
-    }
-}
-
-/// The rows of counts around an operator.
-#[derive(Clone, Copy, Drop)]
-struct Counts<'d> {
-    desk: &'d Desk<'d>,
-    operator: Operator<'d>,
-}
-
-impl<'t> TakesParts<'t> for Counts<'_> {
-    fn take(&mut self, row: &'t str) -> Result<(), Fail> {
-        let Some((counts, asked, product)) = three_columns(row) else {
-            return is_blank(row);
-        };
-        each_key(Operating {
-            desk: self.desk,
-            operator: self.operator,
-            counts,
-            asked,
-            product,
-        })
-    }
-}
-
-/// The rows of operators.
-#[derive(Clone, Copy, Drop)]
-struct Operators<'d> {
-    desk: &'d Desk<'d>,
-}
-
-impl<'t> TakesParts<'t> for Operators<'_> {
-    fn take(&mut self, row: &'t str) -> Result<(), Fail> {
-        let Some((key, command, after)) = three_columns(row) else {
-            return is_blank(row);
-        };
-        let operator = Operator {
-            key,
-            command,
-            after,
-        };
-        let desk = self.desk;
-        each_part(&mut Counts { desk, operator }, COUNTS, '\n')
-    }
+// The same with all keys and counts.
+fn operates_on_all(alloc: Global, operator: &Operator) -> Result<(), Fail> {
+    operates(alloc, operator, COUNTS_BEFORE, MOTIONS)?;
+    operates(alloc, operator, COUNTS_BEFORE, WHOLE)?;
+    operates(alloc, operator, COUNTS_AFTER, MOTIONS)?;
+    operates(alloc, operator, COUNTS_AFTER, NOT_WHOLE)
 }
 
 #[test]
 fn each_operator_with_each_motion(rt: HostRuntime) -> Result<(), Fail> {
-    let desk = Desk::new(rt.alloc(), EditMode::Vi)?;
-    each_part(&mut Operators { desk: &desk }, OPERATORS, '\n')
+    for operator in &OPERATORS {
+        operates_on_all(rt.alloc(), operator)?;
+    }
+    Ok(())
 }
