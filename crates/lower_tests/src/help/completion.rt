@@ -382,28 +382,28 @@ fn candidates_copied(rt: HostRuntime) -> Result<(), Fail> {
     same(said.as_str(), "|lo; local→local/; log→log")
 }
 
-// A line in which a completer replaced the word before the cursor.
-fn updated<C: Completer>(alloc: Global, completer: &C) -> Result<String, HookFault> {
+// A line in which a completer replaced the text from a place to the cursor.
+fn updated<C: Completer>(alloc: Global, completer: &C, start: usize) -> Result<String, HookFault> {
     let mut line = line_of(alloc, "cat lo| x")?;
-    if line.pos() < 4 || !line.as_str().is_char_boundary(4) {
+    if start > line.pos() || !line.as_str().is_char_boundary(start) {
         return Err(HookFault::Failed);
     }
-    completer.update(alloc, &mut line, 4, "log", &mut NoListener)?;
+    completer.update(alloc, &mut line, start, "log", &mut NoListener)?;
     raised(shown_of(alloc, &line))
 }
 
 fn all_updated(alloc: Global) -> Result<String, HookFault> {
-    let boxed = updated(alloc, &Box::new(alloc, ())?)?;
-    let none = updated(alloc, &None::<WordCompleter>)?;
-    let words = updated(alloc, &Some(completer_of(alloc, "log")?))?;
+    let boxed = updated(alloc, &Box::new(alloc, ())?, 4)?;
+    let none = updated(alloc, &None::<WordCompleter>, 4)?;
+    let words = updated(alloc, &Some(completer_of(alloc, "log")?), 4)?;
     raised(format!(in alloc; "{boxed}, {none}, {words}"))
 }
 
 // Whether a helper without parts finds nothing.
-fn finds_nothing(alloc: Global) -> Result<bool, HookFault> {
+fn finds_nothing(alloc: Global, line: &str) -> Result<bool, HookFault> {
     let history = MemHistory::new(alloc);
-    let hint = ().hint(alloc, "he", 2, &Context::new(&history))?;
-    let verdict = ().validate(alloc, &ValidationContext::new("("))?;
+    let hint = ().hint(alloc, line, line.len(), &Context::new(&history))?;
+    let verdict = ().validate(alloc, &ValidationContext::new(line))?;
     Ok(hint.is_none() && verdict.is_valid())
 }
 
@@ -411,7 +411,10 @@ fn finds_nothing(alloc: Global) -> Result<bool, HookFault> {
 fn updates(rt: HostRuntime) -> Result<(), Fail> {
     let said = all_updated(rt.alloc())?;
     same(said.as_str(), "cat log| x, cat log| x, cat log| x")?;
-    stands(finds_nothing(rt.alloc())?, "a hint or a verdict of nothing")
+    stands(
+        finds_nothing(rt.alloc(), "(")?,
+        "a hint or a verdict of nothing",
+    )
 }
 
 // Where the last word of a line begins, and the word; a text escaped, without quotes or in quotes;

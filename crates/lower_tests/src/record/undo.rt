@@ -45,9 +45,8 @@ impl Desk {
         done(self.line.insert(self.alloc, c, 1, &mut self.changes))
     }
 
-    /// Sets the mark of a group, and returns whether something is before it.
-    fn begin(&mut self) -> Result<bool, OutOfMemory> {
-        Ok(self.changes.begin(self.alloc)? > 0)
+    fn begin(&mut self) -> Result<usize, OutOfMemory> {
+        self.changes.begin(self.alloc)
     }
 
     fn end(&mut self) -> Result<bool, OutOfMemory> {
@@ -63,11 +62,12 @@ impl Desk {
         self.changes.redo(self.alloc, &mut self.line)
     }
 
-    /// Makes a call, and returns its answer: of `put` and `line` it is always the same.
+    /// Makes a call, and returns its answer: of `begin` whether something is before the mark, of
+    /// `put` and `line` always the same.
     fn ask(&mut self, call: &str, text: &str) -> Result<bool, OutOfMemory> {
         match call {
             "put" => self.put(text),
-            "begin" => self.begin(),
+            "begin" => Ok(self.begin()? > 0),
             "end" => self.end(),
             "undo" => self.undo(text.parse().unwrap_or(1)),
             "redo" => self.redo(),
