@@ -3,8 +3,8 @@
 crates/keyline_c/c/console.c over c/line.c. It runs on pipes, compared with the program `keyline` for the same keys, on a
 terminal with signals, on tmux in windows of several widths, and under valgrind. So does the second example, c/complete.c.
 
-`rt ci` proves the crate and leaves its libraries. The archive is built from these here, since `rt lib` would prove them all
-again. `--archive` only builds it, and `--built` uses it as it is.
+`rt ci` proves the crate, but builds no static library. It is built here from the libraries that `rt ci` leaves, since `rt lib`
+would prove them all again. `--archive` only builds it, and `--built` uses it as it is.
 """
 import contextlib
 import glob

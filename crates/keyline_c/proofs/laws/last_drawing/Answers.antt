@@ -1,5 +1,0 @@
-use Rattle.keyline_c.proofs.LastLemmas.{last_drawings_show}
-use Rattle.keyline_c.proofs.laws.last_drawing.Goals as goal
-
-pub returns : goal.returns
-returns c = last_drawings_show _

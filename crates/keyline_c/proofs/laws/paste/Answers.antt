@@ -1,5 +1,0 @@
-use Rattle.keyline.proofs.PasteLemmas.{pastes_go_in}
-use Rattle.keyline_c.proofs.laws.paste.Goals as goal
-
-pub returns : goal.returns
-returns c = pastes_go_in
