@@ -1,8 +1,8 @@
 -- A text at the seam of its two parts: a text put in there, and a part taken out from there on.
-use Rattle.std.proofs.Common.{◌≡◌, ℕ, ◌+◌, ◌-◌, ◌<◌, ◌≤◌, Bool, List, [], ◌++◌, length, take, drop, min, refl, sym, ap, ap₂, ◌∙◌, subst, arith, add-zero, IsUtf8, IsCharBoundary, slice_range}
+use Rattle.std.proofs.Common.{◌≡◌, ℕ, ◌+◌, ◌-◌, ◌^◌, ◌<◌, ◌≤◌, Bool, List, [], ◌++◌, length, take, drop, get_or, min, refl, sym, ap, ap₂, ◌∙◌, subst, arith, add-zero, IsUtf8, IsCharBoundary, slice_range, Fits, w64}
 use Rattle.std.specs.List.{replace_range, insert_slice}
 use Rattle.std.proofs.lemmas.Bool.Decides.{nat_tests}
-use Rattle.std.proofs.lemmas.List.{append-nil, length-append}
+use Rattle.std.proofs.lemmas.List.{append-nil, length-append, get_or_append_left, get_or-append_right}
 use Rattle.std.proofs.lemmas.List.Edits.{length-between}
 use Rattle.std.proofs.Math.Seq.{take-append_seam, drop-append_seam, drop-append-add}
 use Rattle.line_buffer.specs.declared.types.Direction.TheVariants.{Forward}
@@ -80,3 +80,39 @@ gap_removed before after rest upto pos place limit growth le within left at =
 
     whole : before ++ rest ≡ replace_range (before ++ after) (length before) (length before + length (slice_range (before ++ after) (length before) upto)) []
     whole = ap (λ t. before ++ t) left ∙ remove_at_seam before after upto le ∙ ap (λ n. replace_range (before ++ after) (length before) n []) end
+
+-- ---- where the cursor stands then
+
+-- a place is a boundary if the byte behind it is that behind a boundary
+same_boundary : (xs ys : List ℕ) (i j : ℕ) → i ≤ length xs → (i < length xs → j < length ys) → get_or xs i 0 ≡ get_or ys j 0 → IsCharBoundary ys j → IsCharBoundary xs i
+same_boundary xs ys i j le lt same b = (le, λ within high. subst (λ x. 192 ≤ x) (sym same) (b.1 (lt within) (subst (λ x. 128 ≤ x) same high)))
+
+module _ (before after text : List ℕ) (pos : ℕ) where
+  long : length ((before ++ text) ++ after) ≡ length (before ++ after) + length text
+  long = omega (arith, length-append (before ++ text) after, length-append before text, length-append before after)
+
+  pub boundary_moved : length before ≤ pos → IsCharBoundary (before ++ after) pos → IsCharBoundary ((before ++ text) ++ after) (pos + length text)
+  boundary_moved le b = same_boundary _ _ (pos + length text) pos (omega (arith, long, b.0)) (λ lt. omega (arith, long, lt)) same b
+    where
+      same : get_or ((before ++ text) ++ after) (pos + length text) 0 ≡ get_or (before ++ after) pos 0
+      same =
+          get_or-append_right (before ++ text) after (length before + length text) (pos + length text) 0 (length-append before text) (omega arith)
+          ∙ ap (λ n. get_or after n 0) (let e : pos + length text - (length before + length text) ≡ pos - length before = omega arith in e)
+          ∙ sym (get_or-append_right before after (length before) pos 0 refl le)
+
+  pub boundary_kept : pos < length before → IsCharBoundary (before ++ after) pos → IsCharBoundary ((before ++ text) ++ after) pos
+  boundary_kept lt b = same_boundary _ _ pos pos (omega (arith, long, b.0)) (λ within. omega (arith, lt, length-append before after)) same b
+    where
+      same : get_or ((before ++ text) ++ after) pos 0 ≡ get_or (before ++ after) pos 0
+      same =
+          get_or_append_left (before ++ text) after 0 pos (omega (arith, length-append before text)) ∙ get_or_append_left before text 0 pos lt
+          ∙ sym (get_or_append_left before after 0 pos lt)
+
+-- the room that a text put in needs, and a number for the place
+pub room_left : (before after text mid new : List ℕ) (len more room cap : ℕ) → new ≡ before ++ text → mid ≡ before → len ≡ length mid → len + more ≤ room → more ≡ length text + length after → room ≤ cap
+    → length new + length after ≤ cap
+room_left before after text mid new len more room cap done same is fits size grown = omega (arith, ap length done, length-append before text, ap length same)
+
+pub place_fits : (before after text new : List ℕ) (pos cap len room : ℕ) → pos ≤ length (before ++ after) → length before + length after ≤ cap → cap < 2 ^ 63
+    → new ≡ before ++ text → len ≡ length new → len ≤ room → room < 2 ^ 63 → Fits w64 (pos + length text)
+place_fits before after text new pos cap len room within fits small done is le low = omega (arith, length-append before after, ap length done, length-append before text)
