@@ -1,7 +1,7 @@
-use Rattle.std.proofs.Common.{rules, ◌+◌, length, sym, ap, ◌∙◌, subst, arith, IsCharBoundary}
+use Rattle.std.proofs.Common.{rules, ◌+◌, length, sym, ap, ◌∙◌, subst, IsCharBoundary}
 use Rattle.std.specs.List.{replace_range}
 use Rattle.std.proofs.lemmas.Str.{IsUtf8-string_bytes}
-use Rattle.line_buffer.proofs.CutLemmas.{end_replaced}
+use Rattle.line_buffer.proofs.CutLemmas.{end_replaced, no_want}
 use Rattle.line_buffer.proofs.GapLemmas.{swaps_replacement}
 use Rattle.line_buffer.proofs.line_buffer.LineBuffer.replace.Goals as goal
 
@@ -23,10 +23,10 @@ invariant_of-self-in_err-replace g c = subst (λ t. IsCharBoundary t c.self.insi
 
 -- the reserved memory is enough
 pub invariant_of-self-in_err-replace_range : goal.invariant_of-self-in_err-replace_range
-invariant_of-self-in_err-replace_range g c = absurd (omega (arith, c.in_err-replace_range.ensures.full, c.in_ok-reserve.ensures.ok))
+invariant_of-self-in_err-replace_range g c = absurd (no_want c.in_err-replace_range.ensures.full c.in_ok-reserve.ensures.ok)
 
 pub returns-in_err-replace_range : goal.returns-in_err-replace_range
-returns-in_err-replace_range g c = absurd (omega (arith, c.in_err-replace_range.ensures.full, c.in_ok-reserve.ensures.ok))
+returns-in_err-replace_range g c = absurd (no_want c.in_err-replace_range.ensures.full c.in_ok-reserve.ensures.ok)
 
 pub invariant_of-self-2 : goal.invariant_of-self-2
 invariant_of-self-2 g c =
