@@ -29,8 +29,17 @@ exchange_event l m parts swapped holds is same made =
 -- the exchanged parts are as long as before
 pub length_exchanged : (text swapped new : List ℕ) (p : ℕ × ℕ × ℕ) → p.0 ≤ p.1 → p.1 ≤ p.2 → p.2 ≤ length text → swapped ≡ later_first p text → new ≡ replace_range text p.0 p.2 swapped → length new ≡ length text
 length_exchanged text swapped new p first second fits made done =
-    omega (arith, ap length done, length-replace_range text p.0 p.2 swapped (omega (arith, first, second)) fits, ap length made, length-append (slice_range text p.1 p.2) (slice_range text p.0 p.1),
-    length-between text p.1 p.2 fits, length-between text p.0 p.1 (omega (arith, second, fits)), first, second)
+    omega (
+      arith,
+      ap length done,
+      length-replace_range text p.0 p.2 swapped (omega (arith, first, second)) fits,
+      ap length made,
+      length-append (slice_range text p.1 p.2) (slice_range text p.0 p.1),
+      length-between text p.1 p.2 fits,
+      length-between text p.0 p.1 (omega (arith, second, fits)),
+      first,
+      second,
+    )
 
 -- after both parts there is still the same text
 pub behind_both : (text x y : List ℕ) (a b c d : ℕ) → IsUtf8 text → IsCharBoundary text d → a ≤ b → b ≤ c → c ≤ d → length x ≡ b - a → length y ≡ d - c

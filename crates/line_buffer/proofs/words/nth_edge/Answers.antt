@@ -25,14 +25,14 @@ pub loop-last-preserved : goal.loop-last-preserved
 loop-last-preserved c =
     let run = run_behind c.args.word c.args.text.now c.loop-last.place c.in-Some.last c.in-Some.end c.in-Some.kind _ c.range_from-in-loop-last.ensures.value c.loop-last.invariant.boundary.0 c.in-Some.ensures in
     elim c.match-edge_between.branch [
-      in-Some-edge_between+else-missing-eq0 w ↦
-        let more : 0 < c.loop-last.missing - 1 = omega (arith, w.if-missing-eq0.false) in
-        record {
-          some = rw w.missing-is more;
-          boundary = run.boundary;
-          found = rw w.missing-is (turn_passed _ _ _ _ (run.splits c.args.at c.loop-last.left) c.loop-last.missing c.loop-last.invariant.found _ (sym c.edge_between.ensures ∙ w.in-Some-edge_between.is) more);
-        }
-    | in_default-edge_between w ↦ record {
+      | in-Some-edge_between+else-missing-eq0 w ↦
+          let more : 0 < c.loop-last.missing - 1 = omega (arith, w.if-missing-eq0.false) in
+          record {
+            some = rw w.missing-is more;
+            boundary = run.boundary;
+            found = rw w.missing-is (turn_passed _ _ _ _ (run.splits c.args.at c.loop-last.left) c.loop-last.missing c.loop-last.invariant.found _ (sym c.edge_between.ensures ∙ w.in-Some-edge_between.is) more);
+          }
+      | in_default-edge_between w ↦ record {
         some = rw w.missing-is c.loop-last.invariant.some;
         boundary = run.boundary;
         found = rw w.missing-is (turn_missed _ _ _ _ (run.splits c.args.at c.loop-last.left) c.loop-last.missing c.loop-last.invariant.found (sym c.edge_between.ensures ∙ w.in_default-edge_between.is));

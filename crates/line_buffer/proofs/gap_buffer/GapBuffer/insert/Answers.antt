@@ -60,7 +60,7 @@ invariant_of-self-then-at-self g c =
     c.push_str.ensures.bytes ∙ if_true _ _ _ (ap is_ok c.unwrap.ensures) ∙ ap (λ t. t ++ text) c.in_ok-reserve.ensures.bytes in
     let at : c.gap-at.result ≡ length before = c.gap-at.ensures.value ∙ ap (λ v. v.1) (sym c.self.view_is) in (
       subst (λ t. IsCharBoundary (t ++ c.self.inside.after.now) (c.self.inside.pos + length text)) (sym done)
-      (boundary_moved before c.self.inside.after.now text c.self.inside.pos (subst (λ n. n ≤ c.self.inside.pos) at c.if-at-self.true) c.self.invariant.0),
+          (boundary_moved before c.self.inside.after.now text c.self.inside.pos (subst (λ n. n ≤ c.self.inside.pos) at c.if-at-self.true) c.self.invariant.0),
       room_left before c.self.inside.after.now text (string_bytes c.reserve.new.self) (string_bytes c.push_str.new.self) _ _ _ _ done c.in_ok-reserve.ensures.bytes c.reserve.new.self.bytes.ok.0 c.in_ok-reserve.ensures.ok c.in-Some.ensures.1 c.push_str.ensures.capacity,
     )
 
@@ -72,6 +72,6 @@ invariant_of-self-else-at-self g c =
     c.push_str.ensures.bytes ∙ if_true _ _ _ (ap is_ok c.unwrap.ensures) ∙ ap (λ t. t ++ text) c.in_ok-reserve.ensures.bytes in
     let at : c.gap-at.result ≡ length before = c.gap-at.ensures.value ∙ ap (λ v. v.1) (sym c.self.view_is) in (
       subst (λ t. IsCharBoundary (t ++ c.self.inside.after.now) c.self.inside.pos) (sym done)
-      (boundary_kept before c.self.inside.after.now text c.self.inside.pos (subst (λ n. c.self.inside.pos < n) at c.if-at-self.false) c.self.invariant.0),
+          (boundary_kept before c.self.inside.after.now text c.self.inside.pos (subst (λ n. c.self.inside.pos < n) at c.if-at-self.false) c.self.invariant.0),
       room_left before c.self.inside.after.now text (string_bytes c.reserve.new.self) (string_bytes c.push_str.new.self) _ _ _ _ done c.in_ok-reserve.ensures.bytes c.reserve.new.self.bytes.ok.0 c.in_ok-reserve.ensures.ok c.in-Some.ensures.1 c.push_str.ensures.capacity,
     )
