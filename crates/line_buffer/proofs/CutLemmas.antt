@@ -1,5 +1,5 @@
 -- Places between characters, before and after a part of a text was exchanged.
-use Rattle.std.proofs.Common.{◌≡◌, ℕ, ◌+◌, ◌-◌, ◌≤◌, List, ◌++◌, length, take, drop, sym, ap, ◌∙◌, subst, arith, append_assoc, length-append, IsUtf8, IsCharBoundary, slice_range}
+use Rattle.std.proofs.Common.{◌≡◌, ℕ, ◌+◌, ◌-◌, ◌<◌, ◌≤◌, List, ◌++◌, length, take, drop, refl, sym, ap, ◌∙◌, subst, arith, append_assoc, length-append, IsUtf8, IsCharBoundary, slice_range}
 use Rattle.std.specs.List.{replace_range}
 use Rattle.std.proofs.lemmas.List.{length-take-le, length-drop, take-append-drop, take-take, drop-drop}
 use Rattle.std.proofs.Math.Seq.{drop-append-add}
@@ -9,6 +9,10 @@ use Rattle.std.proofs.lemmas.Str.{IsCharBoundary-at_seam, IsUtf8-drop, IsUtf8-be
 -- a place is a boundary where what follows it is a text
 pub at_seam : (bs xs ys : List ℕ) (n : ℕ) → bs ≡ xs ++ ys → length xs ≡ n → IsUtf8 ys → IsCharBoundary bs n
 at_seam bs xs ys n e l u = subst (IsCharBoundary bs) l (IsCharBoundary-at_seam bs xs ys e u)
+
+-- reserved memory is enough
+pub no_want : {room size : ℕ} → room < size → size ≤ room → ⊥
+no_want lt le = omega arith
 
 module _ (text : List ℕ) (from upto : ℕ) (added : List ℕ) where
   pub length-replace_range : from ≤ upto → upto ≤ length text → length (replace_range text from upto added) + (upto - from) ≡ length text + length added
@@ -20,6 +24,12 @@ module _ (text : List ℕ) (from upto : ℕ) (added : List ℕ) where
   start_replaced u v b e =
       at_seam _ (take from text) (added ++ drop upto text) from (append_assoc (take from text) added (drop upto text)) (length-take-le from text b.0)
       (IsUtf8-append _ _ v (IsUtf8-drop text upto u e))
+
+  -- and the one where it ends
+  pub end_replaced : IsUtf8 text → IsCharBoundary text from → IsCharBoundary text upto → IsCharBoundary (replace_range text from upto added) (from + length added)
+  end_replaced u b e =
+      at_seam _ (take from text ++ added) (drop upto text) (from + length added) refl (length-append (take from text) added ∙ ap (λ n. n + length added) (length-take-le from text b.0))
+      (IsUtf8-drop text upto u e)
 
   -- what lies after it
   pub drop_replaced : (i j k : ℕ) → i ≡ (from + length added) + k → j ≡ upto + k → from ≤ length text → drop i (replace_range text from upto added) ≡ drop j text

@@ -152,3 +152,22 @@ begins_before_last word text count u l m h =
     (sym (list_all_more (is_word_byte word) text (count - 1) 0 (omega (arith, l, m))) ∙ ap (λ n. list_all (is_word_byte word) (take n text)) same ∙ h) in
     subst (λ n. BeginsInRun word text n (count - 1) InWord) one
     (begins_in_word word text (count - 1) u (omega (arith, l)) (omega (arith, l, m)) (word_printable word (get_or text (count - 1) 0) parts.1) parts.0)
+
+-- a run in what follows a place, as a run of the text
+pub record RunBehind (word : Word) (text : List ℕ) (place last end : ℕ) (kind : ClusterKind) : Type 0 where
+  pub boundary : IsCharBoundary text (place + end)
+  pub some : last < end
+  pub first : (at : At) → edges_of at (kinds word (clusters_at place (drop place text))) ≡ edges_of at ((place + last, kind) ∷ kinds word (clusters_at (place + end) (drop (place + end) text)))
+  pub splits : (at : At) (left : ℕ × ClusterKind) → edges_of at (left ∷ kinds word (clusters_at place (drop place text)))
+      ≡ option_to_list (edge_between at left (place, kind)) ++ edges_of at ((place + last, kind) ∷ kinds word (clusters_at (place + end) (drop (place + end) text)))
+
+pub run_behind : (word : Word) (text : List ℕ) (place last end : ℕ) (kind : ClusterKind) (rest : List ℕ) → rest ≡ drop place text → place ≤ length text → BeginsInRun word rest last end kind → RunBehind word text place last end kind
+run_behind word text place last end kind rest is fits b =
+    let run = subst (λ t. BeginsInRun word t last end kind) is b in
+    record {
+      boundary = IsCharBoundary-from_rest text place end fits run.boundary;
+      some = run.some;
+      first = λ at. run.first at place ∙ ap (λ bs. edges_of at ((place + last, kind) ∷ kinds word (clusters_at (place + end) bs))) (drop-drop end place text);
+      splits = λ at left. run.splits at place left
+          ∙ ap (λ bs. option_to_list (edge_between at left (place, kind)) ++ edges_of at ((place + last, kind) ∷ kinds word (clusters_at (place + end) bs))) (drop-drop end place text);
+    }

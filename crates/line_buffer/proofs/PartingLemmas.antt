@@ -26,7 +26,7 @@ use Rattle.ucd_bidi.proofs.JoiningGroupLemmas.{joining_group_stepped}
 use Rattle.unicode_width.specs.declared.state.After.{After}
 use Rattle.unicode_width.specs.declared.state.After.TheVariants as after
 use Rattle.unicode_width.specs.declared.state.Change.{Change}
-use Rattle.unicode_width.specs.declared.state.Change.TheVariants.{Same, Less, One}
+use Rattle.unicode_width.specs.declared.state.Change.TheVariants.{Same, Less, One, Three}
 use Rattle.unicode_width.specs.declared.state.State.{State}
 use Rattle.unicode_width.specs.declared.kind.Kind.{Kind}
 use Rattle.unicode_width.specs.declared.kind.Kind.TheVariants as kinds
@@ -282,13 +282,14 @@ own_unless : (n c : ℕ) (b : Bool) (j : Change × After) (rest : Option (Change
 own_unless n c true j rest h k = cc
 own_unless n c false j rest h k = k
 
-abbrev nothing_joined : Option (Change × After) → Bool
-nothing_joined None = true
-nothing_joined _ = false
+own_never : (n c : ℕ) (b : Bool) (j : Change × After) → b ≡ false → Own n c (first_of (cond b (Some j) None) (first_of None None))
+own_never n c true j h = cc
+own_never n c false j h = refl
 
-own_none : (n c : ℕ) (j : Option (Change × After)) → nothing_joined j ≡ true → Own n c j
-own_none n c None e = refl
-own_none n c (Some j) e = cc
+own_neither : (n c : ℕ) (b d : Bool) (j k : Change × After) → b ≡ false → d ≡ false → Own n c (first_of (cond b (Some j) (cond d (Some k) None)) None)
+own_neither n c true d j k h e = cc
+own_neither n c false true j k h e = cc
+own_neither n c false false j k h e = refl
 
 own_one : (n c : ℕ) (b : Bool) (change : Change) → (b ≡ true → (alone false c).1 ≡ plain) → Own n c (first_of (cond b (Some (change, after.Nothing)) None) (first_of None None))
 own_one n c true change h = sym (h refl)
@@ -418,7 +419,21 @@ module _ (c : ℕ) (f : Facts c (alone false c) (is_emoji (kind c))) (apart : lo
   joins_left n after.JoinerTifinagh = less n (is_tifinagh c) refl
   joins_left n after.LisuTone = inl (own_one n c (is_in_range 0xA4F8 0xA4FB c) Same closing_lisu)
   joins_left n after.ZwjOrkhonI = inl (own_one n c (c == 0x10C32) Same (closing_at 0x10C32 refl))
-  joins_left n a = inl (own_none n c (joins false a c) (grind (arith, nat_tests, no_indicator, no_joiner, no_letter, no_digit, no_tifinagh_joiner, none_of zeros c 0x17D2 zeros_apart refl, none_of zeros c 0x1A17 zeros_apart refl)))
+  joins_left n after.RegionalIndicator = inl (own_never n c (is_in_range 0x1F1E6 0x1F1FF c) (One, after.RegionalIndicators) no_indicator)
+  joins_left n after.RegionalIndicators = inl (own_neither n c (is_in_range 0x1F1E6 0x1F1FF c) (c == 0x200D) (One, after.RegionalIndicators) (Same, after.ZwjEmoji) no_indicator no_joiner)
+  joins_left n after.Emoji = inl (own_never n c (c == 0x200D) (Same, after.ZwjEmoji) no_joiner)
+  joins_left n after.IndicatorZwj = inl (own_never n c (is_in_range 0x1F1E6 0x1F1FF c) (Less, after.EvenIndicatorsZwj) no_indicator)
+  joins_left n after.EvenIndicatorsZwj = inl (own_neither n c (c == 0x200D) (is_in_range 0x1F1E6 0x1F1FF c) (Same, after.ZwjEmoji) (Three, after.OddIndicatorsZwj) no_joiner no_indicator)
+  joins_left n after.OddIndicatorsZwj = inl (own_neither n c (c == 0x200D) (is_in_range 0x1F1E6 0x1F1FF c) (Same, after.ZwjEmoji) (Less, after.EvenIndicatorsZwj) no_joiner no_indicator)
+  joins_left n after.TagEnd = inl (own_unless n c _ _ _ no_letter (own_unless n c _ _ None no_digit refl))
+  joins_left n after.TagLetter1 = inl (own_unless n c _ _ _ no_letter (own_unless n c _ _ None no_digit refl))
+  joins_left n after.TagLetter2 = inl (own_unless n c _ _ _ no_letter (own_unless n c _ _ None no_digit refl))
+  joins_left n after.TagDigit1 = inl (own_unless n c _ _ None no_digit refl)
+  joins_left n after.TagDigit2 = inl (own_unless n c _ _ None no_digit refl)
+  joins_left n after.ZwjYa = inl (own_never n c (c == 0x1A17) (Same, after.VowelZwjYa) (none_of zeros c 0x1A17 zeros_apart refl))
+  joins_left n after.KhmerLetter = inl (own_never n c (c == 0x17D2) (Less, after.Nothing) (none_of zeros c 0x17D2 zeros_apart refl))
+  joins_left n after.Tifinagh = inl (own_never n c (c == 0x2D7F) (One, after.JoinerTifinagh) no_tifinagh_joiner)
+  joins_left n _ = inl refl
 
   past_selectors_left : (n : ℕ) (a : After) → Left c (alone false c).1 (is_shaky_after a) (past_selectors false c n a).1
   unfolding past_selectors

@@ -2,7 +2,7 @@
 use Rattle.std.proofs.Common.{◌≡◌, ℕ, ◌+◌, ◌-◌, ◌<◌, ◌≤◌, Bool, true, false, ◌&&◌, List, length, take, drop, get_or, sym, ap, ◌∙◌, arith, slice_range}
 use Rattle.std.specs.List.{list_all}
 use Rattle.std.proofs.lemmas.Bool.{and_from}
-use Rattle.std.proofs.lemmas.List.{drop-take, drop_more}
+use Rattle.std.proofs.lemmas.List.{drop-take, drop_more, length-drop, take_all}
 use Rattle.std.proofs.lemmas.List.Folds.{drop_split, list_all-append, list_all_more}
 use Rattle.unicode_segmentation.proofs.TextLemmas.{take_split}
 
@@ -39,3 +39,7 @@ part_passed p xs i j le h = sym (part_of_rest p xs i j le ∙ ap (λ b. b && lis
 
 pub part_failed : (p : ℕ → Bool) (xs : List ℕ) (i j : ℕ) → i ≤ j → list_all p (slice_range xs i j) ≡ false → list_all p (drop i xs) ≡ false
 part_failed p xs i j le h = part_of_rest p xs i j le ∙ ap (λ b. b && list_all p (drop j xs)) h
+
+-- the bytes behind a place, as a part up to their end
+pub part_is_rest : (p : ℕ → Bool) (xs : List ℕ) (i : ℕ) → list_all p (slice_range xs i (length xs)) ≡ list_all p (drop i xs)
+part_is_rest p xs i = ap (list_all p) (take_all (length xs - i) (drop i xs) (omega (arith, length-drop i xs)))

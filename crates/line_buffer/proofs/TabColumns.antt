@@ -5,7 +5,7 @@ use Rattle.std.proofs.lemmas.Bool.{le-leb, lt-leb}
 use Rattle.std.proofs.lemmas.List.{append-nil, map-append, drop-drop, take-append-le}
 use Rattle.std.proofs.lemmas.List.Elements.{filter-append, All-from_get_or}
 use Rattle.std.proofs.lemmas.List.Splits.{slice_split_none, slice_split_at, length-slice_split}
-use Rattle.std.proofs.lemmas.Str.{chars-nil, IsUtf8-take, IsUtf8-drop, IsCharBoundary-start, IsCharBoundary-before_ascii, IsCharBoundary-after_ascii}
+use Rattle.std.proofs.lemmas.Str.{chars-nil, IsUtf8-take, IsUtf8-drop, IsCharBoundary-start, IsCharBoundary-before_ascii, IsCharBoundary-after_ascii, IsCharBoundary-from_rest}
 use Rattle.std.proofs.Math.Seq.{take-append-add}
 use Rattle.unicode_segmentation.specs.Grapheme.{graphemes, is_grapheme_break}
 use Rattle.unicode_segmentation.specs.Segments.{with_offsets}
@@ -19,6 +19,7 @@ use Rattle.line_buffer.specs.Columns.{boundary_columns, place_at_column}
 use Rattle.line_buffer.specs.Tabs.{tab_end, parts_end, column_after}
 use Rattle.line_buffer.specs.Width.{columns_of, width_of}
 use Rattle.line_buffer.proofs.ChainLemmas.{option_map-last_or, last_or-append}
+use Rattle.line_buffer.proofs.PartLemmas.{boundary_before}
 use Rattle.line_buffer.proofs.TabClusters.{clusters-tab}
 
 -- a text without tabs, and a text whose first tab is at a place
@@ -76,7 +77,7 @@ module _ (text : List ℕ) (start col : ℕ) (w : WalksTabs text start col) (u :
   pub rest_is_text : IsUtf8 rest
   rest_is_text = subst IsUtf8 (sym is) (IsUtf8-drop text start u w.boundary)
 
-  inside : start + k < length text
+  pub inside : start + k < length text
   inside = omega (arith, h.0, ap length is, length-drop start text)
 
   there : get_or text (start + k) 0 ≡ 9
@@ -84,6 +85,14 @@ module _ (text : List ℕ) (start col : ℕ) (w : WalksTabs text start col) (u :
 
   pub past_tab : IsCharBoundary text (start + (k + 1))
   past_tab = subst (IsCharBoundary text) (let e : (start + k) + 1 ≡ start + (k + 1) = omega arith in e) (IsCharBoundary-after_ascii text (start + k) u inside (omega (arith, there)))
+
+  -- the tab's place, and a place in the part before it
+  pub boundary_in_part : (part : List ℕ) (j : ℕ) → part ≡ take k rest → IsCharBoundary part j → IsCharBoundary text (start + j)
+  boundary_in_part part j e b =
+      IsCharBoundary-from_rest text start j w.boundary.0 (subst (λ t. IsCharBoundary t j) is (boundary_before rest k j (before_tab rest k h) (subst (λ t. IsCharBoundary t j) e b)))
+
+  pub at_tab : IsCharBoundary text (start + k)
+  at_tab = IsCharBoundary-from_rest text start k w.boundary.0 (subst (λ t. IsCharBoundary t k) is (before_tab rest k h))
 
   pub goes_on : (next : ℕ) → next ≤ col + 65535 + 255 → WalksTabs text (start + (k + 1)) next
   goes_on next near = record { boundary = past_tab; low = omega (arith, near, w.low) }

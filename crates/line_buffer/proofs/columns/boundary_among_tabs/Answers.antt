@@ -1,9 +1,10 @@
-use Rattle.std.proofs.Common.{◌≡◌, ◌+◌, ◌<◌, ◌≤◌, lit<, Some, None, sym, ap, ◌∙◌, subst, arith, zero-add, drop}
+use Rattle.std.proofs.Common.{◌≡◌, ◌+◌, ◌<◌, ◌≤◌, lit<, Some, None, sym, ap, ◌∙◌, subst, arith, zero-add, drop, IsCharBoundary}
+use Rattle.std.proofs.lemmas.Str.{IsCharBoundary-from_rest}
 use Rattle.std.proofs.lemmas.Str.Pattern.{find_char}
 use Rattle.line_buffer.specs.Columns.{place_at_column}
 use Rattle.line_buffer.specs.Tabs.{tab_end}
 use Rattle.line_buffer.specs.Width.{width_of}
-use Rattle.line_buffer.proofs.TabColumns.{past, begins, goes_on, part_is, place_before_tab, place_after_tab, place_plain}
+use Rattle.line_buffer.proofs.TabColumns.{past, begins, goes_on, part_is, inside, at_tab, boundary_in_part, place_before_tab, place_after_tab, place_plain}
 use Rattle.line_buffer.proofs.columns.boundary_among_tabs.Goals as goal
 
 pub loop-tab-init : goal.loop-tab-init
@@ -47,3 +48,25 @@ returns-clause-value c =
     (ap (place_at_column c.args.mode (Some c.args.stops) c.loop-tab.col c.args.column) (sym c.range_from.ensures.value)
     ∙ place_plain c.args.mode c.args.stops c.loop-tab.col c.args.column c.range_from.result.now c.range_from.utf8 none
     ∙ ap (place_at_column c.args.mode None c.loop-tab.col c.args.column) (sym rest) ∙ sym c.boundary_at_column-2.ensures.value))
+
+pub range-part-requires-clause-end_boundary : goal.range-part-requires-clause-end_boundary
+range-part-requires-clause-end_boundary c =
+    let first = find_char 9 _ (Some _) c.in-Some.ensures.cases (lit< tt) in
+    at_tab c.args.row.now _ _ c.loop-tab.invariant.0 c.utf8.row _ c.range_from.ensures.value _ first
+
+pub returns-then-column-next-clause-boundary : goal.returns-then-column-next-clause-boundary
+returns-then-column-next-clause-boundary c =
+    let first = find_char 9 _ (Some _) c.in-Some.ensures.cases (lit< tt) in
+    let walk = c.loop-tab.invariant.0 in
+    let part = part_is c.args.row.now _ _ walk c.utf8.row _ c.range_from.ensures.value _ first c.range-part.result.now c.range-part.ensures.value in
+    boundary_in_part c.args.row.now _ _ walk c.utf8.row _ c.range_from.ensures.value _ first _ c.boundary_at_column.result part c.boundary_at_column.ensures.boundary
+
+pub returns-clause-boundary : goal.returns-clause-boundary
+returns-clause-boundary c =
+    IsCharBoundary-from_rest c.args.row.now c.loop-tab.start c.boundary_at_column-2.result c.loop-tab.invariant.0.boundary.0
+    (subst (λ t. IsCharBoundary t c.boundary_at_column-2.result) c.range_from-2.ensures.value c.boundary_at_column-2.ensures.boundary)
+
+pub loop-tab-smaller : goal.loop-tab-smaller
+loop-tab-smaller c =
+    let first = find_char 9 _ (Some _) c.in-Some.ensures.cases (lit< tt) in
+    omega (arith, inside c.args.row.now _ _ c.loop-tab.invariant.0 c.utf8.row _ c.range_from.ensures.value _ first)
