@@ -4,7 +4,7 @@ use Rattle.line_keys.specs.declared.command.Cmd.TheVariants.{Unknown}
 use Rattle.line_keys.specs.PhraseScripts.{answer_part}
 use Rattle.line_keys.specs.Vi.{command_table, move_or}
 use Rattle.line_keys.proofs.Asking.{key_asked, none_asked}
-use Rattle.line_keys.proofs.Following.{as_follows, ask_stops, ask_follows, becomes_follows, ends_follow, granted_follows, then_stops, then_follows, silent_follows, whole_read}
+use Rattle.line_keys.proofs.Following.{ask_stops, ask_follows, becomes_follows, ends_follow, granted_follows, then_stops, then_follows, silent_follows, whole_read}
 use Rattle.line_keys.proofs.Raised.{raised}
 use Rattle.line_keys.proofs.keymap.InputState.vi_done.Goals as goal
 
