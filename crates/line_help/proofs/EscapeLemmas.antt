@@ -93,6 +93,19 @@ pub escaped_backslash_read : (row out more before left : List ℕ) (escape : Boo
 escaped_backslash_read row out more before left escape c so_far here some is put =
     so_far ∙ rw (here, some, is, put) (backslash_read out left)
 
+-- a character that no backslash may precede
+pub wrong_read : (row out before left : List ℕ) (escape : Bool) (c : ℕ) → unescaped_row row ≡ progress escape out before → before ≡ encode_utf8 c ++ left → escape ≡ true → c ≢ 110 → c ≢ 92
+    → None ≡ unescaped_row row
+wrong_read row out before left escape c so_far here some ne nf =
+    sym (so_far ∙ rw (here, some) (wrong_char c out left ne nf))
+
+-- the row's end
+pub ends_open : (row out left : List ℕ) (escape : Bool) → unescaped_row row ≡ progress escape out left → left ≡ [] → escape ≡ true → None ≡ unescaped_row row
+ends_open row out left escape so_far none some = sym (so_far ∙ rw (none, some) refl)
+
+pub ends_whole : (row out left : List ℕ) (escape : Bool) → unescaped_row row ≡ progress escape out left → left ≡ [] → escape ≡ false → Some out ≡ unescaped_row row
+ends_whole row out left escape so_far none closed = sym (so_far ∙ rw (none, closed) (ap (λ t. Some t) (append-nil out)))
+
 pub ruleset escape_steps = (plain_char, backslash_taken, newline_read, backslash_read, wrong_char, from_nothing)
 
 -- ---- a row without a backslash

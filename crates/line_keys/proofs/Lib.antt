@@ -7,6 +7,7 @@ pub mod Normal
 pub mod Places
 mod Played
 pub mod QuotedKeys
+pub mod Raised
 pub mod Remembering
 pub mod RowActions
 pub mod SameEventsLemmas

@@ -4,6 +4,7 @@ use Rattle.line_keys.specs.declared.command.Cmd.TheVariants.{Insert}
 use Rattle.line_keys.specs.PhraseScripts.{answer_part}
 use Rattle.line_keys.proofs.Asking.{text_asked}
 use Rattle.line_keys.proofs.Following.{as_follows, ends_follow, no_paste, paste_follows, silent_follows}
+use Rattle.line_keys.proofs.Raised.{raised}
 use Rattle.line_keys.proofs.keymap.InputState.common.Goals as goal
 
 pub returns-in-Some-Give-clause-phrase : goal.returns-in-Some-Give-clause-phrase
@@ -11,7 +12,7 @@ returns-in-Some-Give-clause-phrase g c = ends_follow _ _ _ _ _ _ _ (grind arith)
 
 pub returns-in_err-text-in-Some-Paste-clause-phrase : goal.returns-in_err-text-in-Some-Paste-clause-phrase
 returns-in_err-text-in-Some-Paste-clause-phrase g c =
-    let is : c.from_residual.result ≡ Err c.in_err-text-in-Some-Paste.field-0.0 = grind arith in
+    let is : c.from_residual.result ≡ Err c.in_err-text-in-Some-Paste.field-0.0 = raised _ _ c.from_residual.ensures.1 in
     rw is (as_follows _ _ _ _ _ _ _ _ _ _ _ (no_paste _ _ (λ text. answer_part (Insert 1 text)) _ _ _ _ _ c.in_err-text-in-Some-Paste.ensures.reads) (grind arith))
 
 pub returns-in_ok-text-in-Some-Paste-clause-phrase : goal.returns-in_ok-text-in-Some-Paste-clause-phrase

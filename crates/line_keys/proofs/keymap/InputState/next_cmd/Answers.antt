@@ -1,12 +1,13 @@
-use Rattle.std.proofs.Common.{◌≡◌, arith}
+use Rattle.std.proofs.Common.{◌≡◌}
 use Rattle.std.specs.Prelude.{Err}
 use Rattle.line_keys.proofs.Asking.{first_asked, first_then}
 use Rattle.line_keys.proofs.Following.{no_key, key_follows}
+use Rattle.line_keys.proofs.Raised.{raised}
 use Rattle.line_keys.proofs.keymap.InputState.next_cmd.Goals as goal
 
 pub returns-in_err-key-clause-phrase : goal.returns-in_err-key-clause-phrase
 returns-in_err-key-clause-phrase g c =
-    let is : c.from_residual.result ≡ Err c.in_err-key.field-0.0 = grind arith in
+    let is : c.from_residual.result ≡ Err c.in_err-key.field-0.0 = raised _ _ c.from_residual.ensures.1 in
     rw is (no_key _ _ _ _ _ _ _ _ c.in_err-key.ensures.reads)
 
 pub returns-clause-phrase : goal.returns-clause-phrase

@@ -6,6 +6,7 @@ use Rattle.line_keys.specs.PhraseScripts.{answer_part}
 use Rattle.line_keys.specs.Quoting.{is_paste_start, quotes, quote_of_key}
 use Rattle.line_keys.proofs.Asking.{key_asked, key_then, text_asked}
 use Rattle.line_keys.proofs.Following.{ends_follow, no_key, key_follows, no_paste, paste_follows}
+use Rattle.line_keys.proofs.Raised.{raised}
 use Rattle.line_keys.proofs.keymap.InputState.quoting.Goals as goal
 
 pub returns-then-not-self-clause-phrase : goal.returns-then-not-self-clause-phrase
@@ -16,14 +17,14 @@ returns-then-not-self-clause-phrase g c =
 pub returns-in_err-key-clause-phrase : goal.returns-in_err-key-clause-phrase
 returns-in_err-key-clause-phrase g c =
     let on : quotes (input_of c.args.self.now) ≡ true = grind arith in
-    let is : c.from_residual.result ≡ Err c.in_err-key.field-0.0 = grind arith in
+    let is : c.from_residual.result ≡ Err c.in_err-key.field-0.0 = raised _ _ c.from_residual.ensures.1 in
     rw (on, is) (no_key _ _ quote_of_key _ _ _ _ _ c.in_err-key.ensures.reads)
 
 pub returns-in_err-text-clause-phrase : goal.returns-in_err-text-clause-phrase
 returns-in_err-text-clause-phrase g c =
     let on : quotes (input_of c.args.self.now) ≡ true = grind arith in
     let start : is_paste_start c.in_ok-key.key ≡ true = grind arith in
-    let is : c.from_residual-in_err-text.result ≡ Err c.in_err-text.field-0.0 = grind arith in
+    let is : c.from_residual-in_err-text.result ≡ Err c.in_err-text.field-0.0 = raised _ _ c.from_residual-in_err-text.ensures.1 in
     rw (on, is) (key_follows _ _ quote_of_key _ _ _ _ _ _ _ _ _ c.in_ok-key.ensures.reads
     (rw start (no_paste _ _ (λ text. answer_part (Insert 1 text)) _ _ _ _ _ c.in_err-text.ensures.reads)))
 

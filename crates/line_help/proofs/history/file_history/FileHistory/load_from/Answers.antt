@@ -1,4 +1,4 @@
-use Rattle.std.proofs.Common.{◌∙◌, Ok, sym, ap, rules}
+use Rattle.std.proofs.Common.{◌∙◌, Ok, sym, ap, le_trans, rules}
 use Rattle.line_config.proofs.Taking.{on_err}
 use Rattle.line_help.proofs.LoadLemmas.{left_more_text, load_steps, loads_behind_first, loads_none, memory_row}
 use Rattle.line_help.proofs.RowLemmas.{none_read}
@@ -13,9 +13,9 @@ returns-in_err-read g c = record {
   memory = search rules;
   fault = search rules;
   failure = search rules;
-  told = search rules;
-  last = search rules;
-  keeps = search rules;
+  told = c.read.ensures.told;
+  last = c.read.ensures.last;
+  keeps = c.read.ensures.keeps;
 }
 
 pub returns-in_err-escapes : goal.returns-in_err-escapes
@@ -33,9 +33,9 @@ returns-in_err-escapes g c =
           c.in_ok-read.ensures.good told (ap (λ b. Ok b) c.if-not-branch.false) (rw c.deref.ensures.value at utf8) onward (none_read onward);
       fault = search rules;
       failure = search rules;
-      told = search rules;
-      last = search rules;
-      keeps = search rules;
+      told = c.read.ensures.told;
+      last = c.read.ensures.last;
+      keeps = c.read.ensures.keeps;
     }
 
 pub returns-in_err-whole : goal.returns-in_err-whole
@@ -65,7 +65,7 @@ returns-in_err-whole g c =
           c.in_ok-read.ensures.good before (ap (λ b. Ok b) c.if-not-branch.false) (rw c.deref.ensures.value at utf8) _ (c.in_err-whole.ensures.memory told (search rules));
       fault = search rules;
       failure = search rules;
-      told = search rules;
-      last = search rules;
-      keeps = search rules;
+      told = λ told. c.read.ensures.told (c.load_rows.ensures.told told);
+      last = c.load_rows.ensures.last ∙ c.read.ensures.last;
+      keeps = le_trans c.load_rows.ensures.keeps c.read.ensures.keeps;
     }

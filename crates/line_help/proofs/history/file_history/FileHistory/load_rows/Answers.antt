@@ -1,9 +1,13 @@
-use Rattle.std.proofs.Common.{◌≡◌, ◌∙◌, ◌&&◌, Ok, Err, ap, take, rules, IsTrue}
+use Rattle.std.proofs.Common.{◌≡◌, ◌∙◌, ◌≤◌, ◌&&◌, ℕ, List, Ok, Err, ap, arith, le_trans, take, rules, IsTrue}
+use Rattle.line_config.specs.Feed.{Feed, GivesBytes}
 use Rattle.line_config.proofs.Taking.{on_err}
 use Rattle.line_help.specs.HistoryText.{follows, row_fault}
 use Rattle.line_help.proofs.LoadLemmas.{EndsLoad, Underway, bad_row_ends, loads_some, memory_row, one_row_on}
 use Rattle.line_help.proofs.RowLemmas.{StandsWhole, none_read, stands_whole, still_met}
 use Rattle.line_help.proofs.history.file_history.FileHistory.load_rows.Goals as goal
+
+less_given : (old new : Feed) (bytes : List ℕ) → GivesBytes old new bytes → new.bound ≤ old.bound
+less_given old new bytes given = omega arith
 
 -- a row that stands whole in what the source has
 pub loop-ready-preserved-then-count-ready : goal.loop-ready-preserved-then-count-ready
@@ -23,11 +27,11 @@ loop-ready-preserved-then-count-ready g c =
     c.in_ok-taken.ensures.added c.in_ok-taken.ensures.answer
     (record { good = i.good before; part = i.part before; left = i.left before; history = i.history before; answer = i.answer before }) in
     record {
-      told = search rules;
-      last = search rules;
-      bound = search rules;
+      told = λ told. i.told (c.consume.ensures.gives told).0;
+      last = c.consume.ensures.last ∙ i.last;
+      bound = le_trans (less_given _ _ _ c.consume.ensures) i.bound;
       ended = still_met c.loop-ready.rows.ended _ _ _ i.ended c.consume.ensures;
-      works = search rules;
+      works = c.consume.ensures.failed ∙ i.works;
       good = λ told. (so told).good;
       part = λ told. (so told).part;
       left = λ told. (so told).left;
@@ -54,11 +58,11 @@ loop-ready-preserved g c =
     c.in_ok-added.ensures.added c.in_ok-added.ensures.answer
     (record { good = i.good before; part = i.part before; left = i.left before; history = i.history before; answer = i.answer before }) in
     record {
-      told = search rules;
-      last = search rules;
-      bound = search rules;
+      told = λ told. i.told (c.read.ensures.told told);
+      last = c.read.ensures.last ∙ i.last;
+      bound = le_trans c.read.ensures.keeps i.bound;
       ended = c.read.ensures.ended;
-      works = search rules;
+      works = c.in_ok-read.ensures.failure;
       good = λ told. (so told).good;
       part = λ told. (so told).part;
       left = λ told. (so told).left;
@@ -93,9 +97,9 @@ returns-in_err-taken g c =
       memory = λ told h. i.good (c.consume.ensures.gives told).0 onward ((whole told).good (memory_row row (search rules)) onward (none_read onward));
       fault = search rules;
       failure = search rules;
-      told = search rules;
-      last = search rules;
-      keeps = search rules;
+      told = λ told. i.told (c.consume.ensures.gives told).0;
+      last = c.consume.ensures.last ∙ i.last;
+      keeps = le_trans (less_given _ _ _ c.consume.ensures) i.bound;
     }
 
 pub returns-in_err-read : goal.returns-in_err-read
@@ -110,9 +114,9 @@ returns-in_err-read g c = record {
       c.loop-ready.invariant.good (c.read.ensures.told told) (g.S.Source.feed c.read.new.source).coming (c.in_err-read.ensures.memory told (search rules));
   fault = search rules;
   failure = search rules;
-  told = search rules;
-  last = search rules;
-  keeps = search rules;
+  told = λ told. c.loop-ready.invariant.told (c.read.ensures.told told);
+  last = c.read.ensures.last ∙ c.loop-ready.invariant.last;
+  keeps = le_trans c.read.ensures.keeps c.loop-ready.invariant.bound;
 }
 
 pub returns-in_err-added : goal.returns-in_err-added
@@ -131,7 +135,7 @@ returns-in_err-added g c = record {
       (c.in_ok-read.ensures.good told (ap (λ b. Ok b) c.if-not-branch.false) (rw c.deref.ensures.value at utf8) coming (none_read coming));
   fault = search rules;
   failure = search rules;
-  told = search rules;
-  last = search rules;
-  keeps = search rules;
+  told = λ told. c.loop-ready.invariant.told (c.read.ensures.told told);
+  last = c.read.ensures.last ∙ c.loop-ready.invariant.last;
+  keeps = le_trans c.read.ensures.keeps c.loop-ready.invariant.bound;
 }
