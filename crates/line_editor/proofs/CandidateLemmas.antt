@@ -1,9 +1,13 @@
 -- What the helper's candidates make of a state.
-use Rattle.std.specs.Prelude.{get_or, Some, Result, Ok, Err, IsErrAnd, IsFalse, IfOk, OnOk}
-use Rattle.std.proofs.Common.{◌≡◌, ℕ, ◌+◌, ◌<◌, List, [], ◌∷◌, ◌++◌, map, take, length, refl, sym, ap, ◌∙◌, subst}
+use Rattle.std.specs.Prelude.{get_or, Option, None, Some, option_map, slice_get, Result, Ok, Err, IsErrAnd, IsFalse, IfOk, OnOk}
+use Rattle.std.proofs.Common.{◌≡◌, ℕ, ◌+◌, ◌<◌, ◌≤◌, ◌==◌, arith, Bool, true, false, if◌then◌else◌, List, [], ◌∷◌, ◌++◌, map, take, length, refl, sym, ap, ◌∙◌, subst}
+use Rattle.std.proofs.lemmas.Bool.{cond-true, cond-false}
+use Rattle.std.proofs.lemmas.Bool.Decides.{nat_tests}
+use Rattle.std.proofs.lemmas.Option.{slice_get-map, slice_get_read, slice_get_past}
 use Rattle.std.proofs.lemmas.List.{append_assoc, map_more, flat_map_more}
 use Rattle.line_config.specs.declared.errors.ReadlineError.{ReadlineError}
-use Rattle.line_help.specs.Completion.{Offered, Completion}
+use Rattle.line_buffer.specs.Line.{Line}
+use Rattle.line_help.specs.Completion.{Offered, Completion, unless_empty}
 use Rattle.line_help.specs.declared.completion as completions
 use Rattle.line_help.specs.declared.helpers.hint as hints
 use Rattle.line_help.specs.declared.helpers.highlight as highlights
@@ -11,8 +15,8 @@ use Rattle.line_help.specs.declared.helpers.validate as verdicts
 use Rattle.line_help.specs.declared.history as histories
 use Rattle.line_keys.specs.declared.command.Cmd.{Cmd}
 use Rattle.line_keys.specs.declared.command.CmdKind.TheVariants.{Other}
-use Rattle.line_editor.specs.Candidates.{rows_of, list_text, list_shown}
-use Rattle.line_editor.specs.Completing.{candidates_given, candidates_asked}
+use Rattle.line_editor.specs.Candidates.{rows_of, list_text, list_shown, text_at, candidate_at}
+use Rattle.line_editor.specs.Completing.{begins_word, completion_from, candidates_given, candidates_asked}
 use Rattle.line_editor.specs.Drawing.{message_effect}
 use Rattle.line_editor.specs.ModalCommands.{then_meets}
 use Rattle.line_editor.specs.Modal.{Modal, Meeting, next_of}
@@ -34,6 +38,34 @@ row_more offers first before after all i c inside is so more =
     let one : after ≡ before ++ row (offers c) = more ∙ append_assoc before (10 ∷ []) (offers c).display in
     let whole : map offers (take (i + 1) all) ≡ map offers (take i all) ++ offers c ∷ [] = map_more offers all i c inside ∙ ap (λ x. map offers (take i all) ++ offers x ∷ []) (sym is) in
     one ∙ ap (λ t. t ++ row (offers c)) so ∙ flat_map_more row first (map offers (take i all)) (offers c) ∙ ap (λ xs. first ++ rows_of xs) (sym whole)
+
+-- ---- the candidate at an index
+
+pub offered_at : {C : Type 0} (offers : C → Offered) (all : List C) (i : ℕ) (c : C) → i < length all → c ≡ get_or all i c → slice_get (map offers all) i ≡ Some (offers c)
+offered_at offers all i c inside is = slice_get-map offers all i ∙ ap (option_map offers) (slice_get_read all (length all) i c refl inside is)
+
+pub none_offered : {C : Type 0} (offers : C → Offered) (all : List C) (i : ℕ) → length all ≤ i → slice_get (map offers all) i ≡ None
+none_offered offers all i past = slice_get-map offers all i ∙ ap (option_map offers) (slice_get_past all i past)
+
+-- there is no word for it
+pub put_nowhere : {C : Type 0} (offers : C → Offered) (all : List C) (i start : ℕ) (l : Line) (b : Bool) → b ≡ begins_word start l → b ≡ false → candidate_at i (completion_from offers start all) l ≡ None
+put_nowhere offers all i start l b is apart = cond-false (begins_word start l) (text_at (slice_get (map offers all) i)) None (sym is ∙ apart)
+
+-- there is one
+pub put_there : {C : Type 0} (offers : C → Offered) (all : List C) (i start : ℕ) (l : Line) (b : Bool) (o : Option Offered) → b ≡ begins_word start l → b ≡ true → slice_get (map offers all) i ≡ o
+    → candidate_at i (completion_from offers start all) l ≡ text_at o
+put_there offers all i start l b o is begins found = cond-true (begins_word start l) (text_at (slice_get (map offers all) i)) None (sym is ∙ begins) ∙ ap text_at found
+
+abbrev text_by : List ℕ → Bool → Option (List ℕ)
+text_by text b = if b then None else Some text
+
+some_byte : (byte : ℕ) (bytes : List ℕ) → (length (byte ∷ bytes) == 0) ≡ false
+some_byte byte bytes = grind (arith, nat_tests)
+
+-- an empty text isn't put
+pub text_put_if : (text : List ℕ) (b : Bool) → (length text == 0) ≡ b → unless_empty text ≡ text_by text b
+text_put_if [] b h = ap (text_by []) h
+text_put_if (byte ∷ bytes) b h = ap (text_by (byte ∷ bytes)) (sym (some_byte byte bytes) ∙ h)
 
 -- the helper is asked, and its candidates decide what is done
 abbrev pub asking : (Completion → Transition) → Transition
