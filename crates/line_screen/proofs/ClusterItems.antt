@@ -1,5 +1,5 @@
 -- The item of a cluster, by what the code asks of it: whether it is a letter, then whether it is a tab, then its columns.
-use Rattle.std.proofs.Common.{◌≡◌, ℕ, ◌≤◌, ◌==◌, nat_lt, nat_le, Bool, true, false, ◌&&◌, List, [], ◌∷◌, ◌++◌, map, length, slice_index, unwrap_or, Option, Some, None, Result, refl, sym, ap, subst, ◌∙◌, append-nil, eqb-true, leb-true, arith, if◌then◌else◌}
+use Rattle.std.proofs.Common.{◌≡◌, ℕ, ◌≤◌, ◌==◌, nat_lt, nat_le, Bool, true, false, ◌&&◌, List, [], ◌∷◌, map, length, slice_index, unwrap_or, Option, Some, None, Result, refl, sym, ap, subst, ◌∙◌, append-nil, eqb-true, leb-true, arith, if◌then◌else◌}
 use Rattle.std.proofs.lemmas.Bool.{and_parts}
 use Rattle.line_config.specs.declared.device.DeviceFailed.{DeviceFailed}
 use Rattle.line_buffer.specs.declared.layout.GraphemeClusterMode.{GraphemeClusterMode}
@@ -8,6 +8,7 @@ use Rattle.line_buffer.specs.Width.{width_of}
 use Rattle.line_screen.specs.Display.{is_printable, right}
 use Rattle.line_screen.specs.Drawing.{DrawnItem, Widths, drawn_cluster, is_letter, is_tab, item_of_cluster, drawn_item, fit, leave, place_after, bytes_of_item, col_after_one, SendsTo, SendsItems}
 use Rattle.line_screen.specs.Drawing.DrawnItem.{Letter, Tab}
+use Rattle.line_screen.specs.Colours.{letters_in_style, painted_item}
 use Rattle.line_screen.specs.Measure.{is_cluster, is_width, cluster_width}
 use Rattle.line_screen.proofs.Items.{drawn_by, other_by}
 
@@ -46,6 +47,16 @@ letter_sent held failed columns col wide bytes taken {a = a} {b = b} {r = r} h s
     let Item : DrawnItem → Type 0 = λ item. SendsTo (bytes_of_item columns item col) (col_after_one columns item col) columns held failed a b r in
     subst Item (sym (item_of_letter wide bytes h))
     (subst Bytes (append-nil (bytes_of_item columns (Letter letter) col)) (subst Run (same ∙ single bytes (one_byte bytes h)) sends))
+
+letter_in_style : (style : List ℕ) (letter : ℕ) → letters_in_style style (letter ∷ []) ≡ painted_item style (Letter letter)
+letter_in_style [] letter = refl
+letter_in_style (p ∷ style) letter = refl
+
+pub letter_painted : (style : List ℕ) (wide : Widths) (bytes taken : List ℕ) → true ≡ is_letter bytes → taken ≡ bytes
+    → letters_in_style style taken ≡ painted_item style (drawn_item wide bytes)
+letter_painted style wide bytes taken h same =
+    ap (letters_in_style style) (same ∙ single bytes (one_byte bytes h)) ∙ letter_in_style style (slice_index bytes 0)
+    ∙ ap (painted_item style) (sym (item_of_letter wide bytes h))
 
 -- ---- a cluster's columns, which are those of a question mark if it isn't drawn as it is
 

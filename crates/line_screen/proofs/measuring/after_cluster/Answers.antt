@@ -2,7 +2,7 @@
 use Rattle.std.proofs.Common.{ℕ, ◌≤◌, ◌∷◌, [], unwrap_or, sym, subst, ap, ◌∙◌, arith}
 use Rattle.line_buffer.specs.declared.layout.Position.{Position}
 use Rattle.line_screen.specs.Display.{right}
-use Rattle.line_screen.specs.Drawing.{DrawnItem, drawn_cluster, fit, leave, place_after}
+use Rattle.line_screen.specs.Drawing.{DrawnItem, fit, leave, place_after}
 use Rattle.line_screen.specs.Measure.{widths_by, MeasuresTo}
 use Rattle.line_screen.proofs.ClusterItems.{item_of_letter, item_of_tab, item_of_other, columns_narrow, place_after_cluster}
 use Rattle.line_screen.proofs.measuring.after_cluster.Goals as goal
