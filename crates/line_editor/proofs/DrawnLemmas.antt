@@ -15,11 +15,11 @@ use Rattle.line_help.specs.declared.helpers.highlight as highlights
 use Rattle.line_help.specs.declared.helpers.validate as verdicts
 use Rattle.line_help.specs.declared.history as histories
 use Rattle.line_help.specs.Hints.{Hinted}
-use Rattle.line_editor.specs.RenderCalls.{Call, Ruler, MadeIn, CutCalls}
-use Rattle.line_editor.specs.RenderCalls.Call.{Draw, Move}
+use Rattle.line_editor.specs.RenderCalls.{Ruler, MadeIn, CutCalls}
+use Rattle.line_editor.specs.RenderCalls.Call.{Move}
 use Rattle.line_editor.specs.Drawing.{draw_effect_with}
 use Rattle.line_editor.specs.Inserting.{is_bare, way_if_bare}
-use Rattle.line_editor.specs.Redraws.{Redraw, RedrawCalls, calls_of_redraw, layout_of, nothing_asked, move_calls, move_call, then_asked, full, rest_call, char_call, append_call, erase_call, put_in_short, taken_out_short, write_over_call, may_type, may_take, may_erase, may_put_in, may_take_out, may_write_over}
+use Rattle.line_editor.specs.Redraws.{Redraw, RedrawCalls, calls_of_redraw, nothing_asked, move_calls, move_call, then_asked, full, rest_call, char_call, append_call, erase_call, put_in_short, taken_out_short, write_over_call, may_type, may_take, may_erase, may_put_in, may_take_out, may_write_over}
 use Rattle.line_editor.specs.Redraws.Redraw.{Drawn, DrawnFrom, Typed, Appended, Taken, Erased, PutIn, TakenOut, Rewritten, Bared}
 use Rattle.line_editor.specs.States.{value_of, setting_of, surface_of, Stays, Does, Renders}
 use Rattle.line_editor.specs.EditSteps.{Surface}
@@ -235,34 +235,5 @@ module _ {Out H Hi K T : Type 0} {renderer : renderers.Renderer.Ghosts Out} {com
         does = does_refused edit s t Display stays why
             (stops_drawing renderer.canvas (renderer.canvas.ruler s.out) (value_of s) (setting_of s).marks (x (setting_of s) (value_of s)) [] (surface_of s) (surface_of t) Display (value_of t) refl
             (subst (λ (a : RedrawCalls). CutCalls renderer.canvas a.calls s.out t.out) asked (broken_refused renderer.canvas (Move s.layout.cursor p) [] s.out t.out refl refused)) layout value);
-        fault = refl;
-      })
-
-  -- ---- the whole line drawn
-
-  pub whole_drawn : {A : Type 0} (info : Option (List ℕ)) (new : Layout) (s t : State Out H Hi K T renderer completer candidate hinter hint highlighter validator history) (y : A)
-      → new ≡ layout_of (renderer.canvas.ruler s.out) ((renderer.canvas.ruler s.out).measure s.prompt.now origin) true s.recorded.line.text s.recorded.line.place info
-      → renderer.canvas.made s.out (Draw s.prompt.now s.recorded.line.text s.recorded.line.place info (Some s.layout)
-      (layout_of (renderer.canvas.ruler s.out) ((renderer.canvas.ruler s.out).measure s.prompt.now origin) true s.recorded.line.text s.recorded.line.place info) (shown_marks (value_of s) (setting_of s).marks)) t.out
-      → value_of t ≡ value_of s → t.layout ≡ new → Stays s t → Renders (draw_effect_with info) s t (Ok y)
-  whole_drawn info new s t y is made value layout stays = record {
-    does = record { value = value; calls = (t.out, made, refl); layout = layout ∙ is; stays = stays; reason = tt; stops = tt };
-    fault = tt;
-  }
-
-  -- the display refused it
-  pub whole_refused : {A : Type 0} (info : Option (List ℕ)) (s t : State Out H Hi K T renderer completer candidate hinter hint highlighter validator history) (e : ReadlineError) (result : Result A ReadlineError)
-      → IsErrAnd result (λ y. y ≡ e) → e ≡ Display
-      → renderer.canvas.refused s.out (Draw s.prompt.now s.recorded.line.text s.recorded.line.place info (Some s.layout)
-      (layout_of (renderer.canvas.ruler s.out) ((renderer.canvas.ruler s.out).measure s.prompt.now origin) true s.recorded.line.text s.recorded.line.place info) (shown_marks (value_of s) (setting_of s).marks)) t.out
-      → IsTrue (renderer.canvas.failed t.out) → value_of t ≡ value_of s → t.layout ≡ s.layout → Stays s t → Renders (draw_effect_with info) s t result
-  whole_refused {A} info s t e result failed fault refused why value layout stays =
-      let edit : Transition = draw_effect_with info in
-      let new : Layout = layout_of (renderer.canvas.ruler s.out) ((renderer.canvas.ruler s.out).measure s.prompt.now origin) true s.recorded.line.text s.recorded.line.place info in
-      let call : Call = Draw s.prompt.now s.recorded.line.text s.recorded.line.place info (Some s.layout) new (shown_marks (value_of s) (setting_of s).marks) in
-      subst (λ (r : Result A ReadlineError). Renders edit s t r) (sym (is_err e result failed ∙ ap Err fault)) (record {
-        does = does_refused edit s t Display stays why
-            (stops_drawing renderer.canvas (renderer.canvas.ruler s.out) (value_of s) (setting_of s).marks (Drawn s.prompt.now true s.recorded.line.text s.recorded.line.place info) [] (surface_of s) (surface_of t) Display (value_of t) refl
-            (broken_refused renderer.canvas call [] s.out t.out refl refused) layout value);
         fault = refl;
       })
