@@ -1,11 +1,10 @@
-use Rattle.std.proofs.Common.{rules, ◌≡◌, ◌≤◌, sym, ap, ◌∙◌, subst, arith, length, drop, ◌+◌, ◌-◌, slice_range}
+use Rattle.std.proofs.Common.{rules, ◌≡◌, sym, ap, ◌∙◌, arith, length, drop, ◌+◌, ◌-◌, slice_range}
 use Rattle.std.proofs.lemmas.List.Edits.{length-between}
 use Rattle.line_buffer.specs.declared.types.Direction.TheVariants.{Forward}
 use Rattle.line_buffer.specs.Event.ChangeEvent.{Delete}
 use Rattle.line_buffer.specs.Indent.{row_event}
 use Rattle.line_buffer.specs.Replay.{deletion, insertion, line_after_event}
 use Rattle.line_buffer.proofs.CutLemmas.{drop_replaced}
-use Rattle.line_buffer.proofs.GapLemmas.{bound_removed, bound_inserted}
 use Rattle.line_buffer.proofs.gap_buffer.GapBuffer.change_row.Goals as goal
 
 pub returns-then-dedent-clause-rest : goal.returns-then-dedent-clause-rest
@@ -47,27 +46,3 @@ returns-clause-edits g c =
       refused = tt;
       kept = tt;
     }
-
-pub overflow_add-gap : goal.overflow_add-gap
-overflow_add-gap g c = omega (arith, c.gap-gap.ensures.value, c.margin_len-taken.ensures.bound, c.ranges.end)
-
-pub overflow_sub-result : goal.overflow_sub-result
-overflow_sub-result g c = omega (arith, c.margin_len-taken.ensures.bound)
-
-pub returns-then-dedent-clause-bound : goal.returns-then-dedent-clause-bound
-returns-then-dedent-clause-bound g c =
-    let gap = c.args.self.now.1 in
-    let upto : c.gap-gap.result + c.margin_len-taken.result ≡ gap + c.margin_len-taken.result = ap (λ n. n + c.margin_len-taken.result) c.gap-gap.ensures.value in
-    bound_removed c.args.self.now.0 gap c.args.end c.margin_len-taken.result _ _ upto (subst (λ n. n ≤ c.args.end) (sym upto) c.margin_len-taken.ensures.bound) c.requires.end.0
-    (ap (λ v. v.0.text) c.in_ok-remove.ensures.value)
-
-pub returns-clause-bound : goal.returns-clause-bound
-returns-clause-bound g c = bound_inserted c.args.self.now.0 c.args.self.now.1 c.args.end c.args.margin.now _ c.gap-gap.ensures.boundary.0 c.requires.end.0 (ap (λ v. v.0.text) c.in_ok-insert.ensures.value)
-
-pub overflow_add-result : goal.overflow_add-result
-overflow_add-result g c =
-    let bound = bound_inserted c.args.self.now.0 c.args.self.now.1 c.args.end c.args.margin.now c.insert.new.self.0.text c.gap-gap.ensures.boundary.0 c.requires.end.0 (ap (λ v. v.0.text) c.in_ok-insert.ensures.value) in
-    omega (arith, bound, c.len-longer.ensures, c.len-longer.type_inv)
-
-pub returns-clause-gap : goal.returns-clause-gap
-returns-clause-gap g c = omega (arith, ap (λ v. v.1) c.in_ok-insert.ensures.value, c.requires.order)

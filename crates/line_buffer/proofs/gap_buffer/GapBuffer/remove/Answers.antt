@@ -1,8 +1,8 @@
-use Rattle.std.proofs.Common.{◌≡◌, ◌-◌, ◌≤◌, ◌++◌, [], length, drop, string_bytes, sym, ap, ◌∙◌, subst, arith, IsCharBoundary}
+use Rattle.std.proofs.Common.{◌≡◌, ◌-◌, ◌≤◌, ◌++◌, [], length, drop, string_bytes, ap, ◌∙◌, subst, arith}
 use Rattle.std.specs.List.{replace_range}
 use Rattle.line_buffer.specs.declared.types.Direction.TheVariants.{Forward}
 use Rattle.line_buffer.specs.Replay.{deletion, line_after_event}
-use Rattle.line_buffer.proofs.GapLemmas.{remove_at_seam, swaps_deletion, gapped, gap_removed, boundary_after, boundary_removed, room_removed}
+use Rattle.line_buffer.proofs.GapLemmas.{remove_at_seam, swaps_deletion, gapped, gap_removed}
 use Rattle.line_buffer.proofs.gap_buffer.GapBuffer.remove.Goals as goal
 
 pub returns-clause-replays : goal.returns-clause-replays
@@ -28,35 +28,3 @@ returns-clause-value g c =
     (λ is le within. gap_removed before after rest c.args.upto c.self.inside.pos _ c.self.inside.limit c.self.inside.can_growth le within
     (c.range_from-self-inside.ensures.value ∙ ap (λ n. drop (c.args.upto - n) after) is) (omega (arith, c.min.ensures, c.saturating_sub.ensures, is)))
     c.gap-at.ensures.value c.requires.order c.requires.end.0
-
-pub overflow_sub-removed : goal.overflow_sub-removed
-overflow_sub-removed g c = subst (λ n. n ≤ c.args.upto) (sym c.gap-at.ensures.value) c.requires.order
-
-pub range-requires-clause-end_boundary : goal.range-requires-clause-end_boundary
-range-requires-clause-end_boundary g c =
-    let before = string_bytes c.self.inside.before in
-    let at : c.gap-at.result ≡ length before = c.gap-at.ensures.value ∙ ap (λ v. v.1) (sym c.self.view_is) in
-    subst (λ n. IsCharBoundary c.self.inside.after.now (c.args.upto - n)) (sym at)
-    (boundary_after before c.self.inside.after.now c.args.upto (subst (λ v. v.1 ≤ c.args.upto) (sym c.self.view_is) c.requires.order)
-    (subst (λ v. IsCharBoundary v.0.text c.args.upto) (sym c.self.view_is) c.requires.end))
-
-pub range_from-self-inside-requires : goal.range_from-self-inside-requires
-range_from-self-inside-requires g c =
-    let before = string_bytes c.self.inside.before in
-    let at : c.gap-at.result ≡ length before = c.gap-at.ensures.value ∙ ap (λ v. v.1) (sym c.self.view_is) in
-    λ some. subst (λ n. IsCharBoundary c.self.inside.after.now (c.args.upto - n)) (sym at)
-    (boundary_after before c.self.inside.after.now c.args.upto (subst (λ v. v.1 ≤ c.args.upto) (sym c.self.view_is) c.requires.order)
-    (subst (λ v. IsCharBoundary v.0.text c.args.upto) (sym c.self.view_is) c.requires.end))
-
-pub invariant_of-self : goal.invariant_of-self
-invariant_of-self g c =
-    let before = string_bytes c.self.inside.before in
-    let after = c.self.inside.after.now in
-    let rest = c.range_from-self-inside.result.now in
-    let at : c.gap-at.result ≡ length before = c.gap-at.ensures.value ∙ ap (λ v. v.1) (sym c.self.view_is) in
-    let left : rest ≡ drop (c.args.upto - length before) after = c.range_from-self-inside.ensures.value ∙ ap (λ n. drop (c.args.upto - n) after) at in
-    let le : length before ≤ c.args.upto = subst (λ v. v.1 ≤ c.args.upto) (sym c.self.view_is) c.requires.order in
-    let end : IsCharBoundary (before ++ after) c.args.upto = subst (λ v. IsCharBoundary v.0.text c.args.upto) (sym c.self.view_is) c.requires.end in (
-      boundary_removed before after c.args.upto le end rest c.self.inside.pos _ left (omega (arith, c.min.ensures, c.saturating_sub.ensures, at)) c.self.invariant.0,
-      room_removed before after c.args.upto le end rest _ left c.self.invariant.1,
-    )
