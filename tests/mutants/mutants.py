@@ -24,6 +24,7 @@ tests/mutants/mutants-named.txt are always tried.
     tests/mutants/mutants.py --anew [CRATE..]   tries the noted and the kept ones again, too
     tests/mutants/mutants.py --note [CRATE..]   writes tests/mutants/mutants-rejected.txt again for these crates
     tests/mutants/mutants.py --fit [CRATE..]    says in a second which mutants no longer fit, and tries none
+    tests/mutants/mutants.py --over-contracts ..    reads each library that isn't built as source, and assumes its bodies and proofs
     tests/mutants/mutants.py --right ..         the control: tries the right bodies in place of the mutants, under the same
                                         assumptions, and each must be proved
     tests/mutants/mutants.py --all-goals ..     asks every goal, writes tests/mutants/mutants-unasked.txt again for these crates,
@@ -53,6 +54,7 @@ import time
 from concurrent.futures import FIRST_COMPLETED, ThreadPoolExecutor, wait
 from threading import Thread
 
+import libraries
 from judging import FALSE, FAULT, OPEN, Said, judged
 from kept import Kept, folder_beside
 from mutant_checks import LEMMAS, Crate, below, crates_of, joined, read, write
@@ -68,7 +70,7 @@ REJECTED = os.path.join(TOP, "tests", "mutants", "mutants-rejected.txt")
 # What a kept file says of a module, and the names of goals that may be dear.
 INTERFACE = re.compile(rb"(?m)^--@ interface (.*)$")
 DEAR = re.compile(r"(?!lives-|drop-|branch-|from_residual-)(?:returns|invariant_of|.*-requires)")
-OPTIONS = ("--all", "--anew", "--note", "--fit", "--all-goals", "--right", "--beside")
+OPTIONS = ("--all", "--anew", "--note", "--fit", "--all-goals", "--right", "--over-contracts", "--beside")
 
 
 class Checker:
@@ -77,6 +79,13 @@ class Checker:
     def __init__(self, top, uses, names_goals=False):
         self.top, self.uses, self.names_goals = top, uses, names_goals
         self.kit = os.path.dirname(os.path.dirname(os.path.realpath(shutil.which("rt"))))
+        self.assumed = None
+
+    def assume(self, crates):
+        """Reads the libraries below these crates as source if they aren't built, with their bodies and proofs assumed."""
+        self.assumed = tempfile.TemporaryDirectory(prefix="mutants-assumed-")
+        for name in {it for crate in crates for it in libraries.read_as_source(self, self.uses, crate.name)}:
+            libraries.write_assumed(self.top, name, os.path.join(self.assumed.name, name))
 
     def rlib(self, name):
         own = os.path.join(self.top, "crates", name, "out", "rlib", f"{name}.rlib")
@@ -84,6 +93,8 @@ class Checker:
 
     def lacking(self, crate, proofs):
         """The libraries below a crate that aren't built, or that `rt ci`, if its output is read, hasn't proved."""
+        if self.assumed:
+            return []
         return [it for it in below(self.uses, crate.name) if not (proofs.has(it) and os.path.isdir(self.rlib(it)))]
 
     def words(self, crate, kept, paths):
@@ -91,11 +102,8 @@ class Checker:
         are taken by their contracts."""
         root = "src/main.rt" if "src/main.rt" in crate.sources.texts else "src/lib.rt"
         words = [os.path.join(self.kit, "bin", "rattle"), "check", "--crate-name", crate.name, root]
-        for dep in ["std", *self.uses[crate.name]]:
-            words += ["--extern", f"{dep}={self.rlib(dep)}"]
-        folders = [os.path.dirname(self.rlib(it)) for it in below(self.uses, crate.name)]
-        for folder in [os.path.join(self.kit, "rlibs"), *folders]:
-            words += ["-L", f"dependency={folder}"]
+        assumed = libraries.read_as_source(self, self.uses, crate.name) if self.assumed else []
+        words += libraries.words(self, self.uses, crate.name, assumed, self.assumed and self.assumed.name)
         words += ["--antt-project", os.path.join(self.kit, "rattle", "logic", "antt-project.json")]
         words += ["--logic-built", os.path.join(self.kit, "logic_built"), "--links", f"{crate.name}="]
         words += ["--jobs", "1", "--allow-holes", *(["--incremental", kept] if kept else [])]
@@ -391,6 +399,8 @@ def main(words):
             print(f"FAILED {name}: it no longer fits: {why}")
         return finished(len(known) - len(unfit), failed + len(unfit))
     checker = Checker(TOP, uses, "--all-goals" in words)
+    if "--over-contracts" in words:
+        checker.assume(crates)
     anew = not {"--anew", "--all-goals"}.isdisjoint(words)
     kept = Kept(TOP, uses, checker.kit, folder_beside(checker.kit), anew)
     crates.sort(key=Crate.weight, reverse=True)

@@ -18,13 +18,12 @@ What the check finds is kept in crates/CRATE/out/over/, so a second check asks o
 """
 import argparse
 import os
-import shutil
 import subprocess
 import sys
 
-from functions import Sources
+import libraries
 from mutants import Checker
-from mutant_checks import Crate, below, crates_of, read
+from mutant_checks import crates_of, read
 
 TOP = os.path.dirname(os.path.dirname(os.path.dirname(os.path.realpath(__file__))))
 
@@ -41,54 +40,21 @@ def main(words):
     if told.crate not in uses:
         sys.exit(f"crates.txt has no crate {told.crate}")
     checker = Checker(TOP, uses)
-    assumed = read_as_source(checker, uses, told.crate, told.changed)
+    assumed = libraries.read_as_source(checker, uses, told.crate, told.changed)
     room = os.path.join(TOP, "crates", told.crate, "out", "over")
     for name in assumed:
-        write_assumed(name, os.path.join(room, name))
+        libraries.write_assumed(TOP, name, os.path.join(room, name))
     words = command(checker, uses, told.crate, assumed, room, told.test)
     words += ["--jobs", told.jobs] + [word for path in told.only for word in ("--only", path)]
     print(f"read as source: {' '.join(assumed) or 'none'}", flush=True)
     return ran(words, os.path.join(TOP, "crates", told.crate), assumed)
 
 
-def read_as_source(checker, uses, crate, changed):
-    """The libraries below a crate that aren't built, or are to be taken as changed, and those above such."""
-    assumed = []
-    for name in below(uses, crate):
-        if name in changed or not os.path.isdir(checker.rlib(name)) or {*uses[name]} & {*assumed}:
-            assumed.append(name)
-    return assumed
-
-
-def write_assumed(name, folder):
-    """Writes a library with every body and every proof assumed. A file that stays the same keeps its time."""
-    crate = Crate(TOP, name)
-    crate.sources = Sources(crate.folder, name)
-    fresh = f"{folder}.new"
-    shutil.rmtree(fresh, ignore_errors=True)
-    crate.edits = []
-    crate.furnish(fresh, [])
-    for at, _, files in os.walk(fresh):
-        for file in (os.path.join(at, it) for it in files):
-            old = os.path.join(folder, os.path.relpath(file, fresh))
-            if os.path.exists(old) and read(old) == read(file):
-                shutil.copystat(old, file)
-    shutil.rmtree(folder, ignore_errors=True)
-    os.rename(fresh, folder)
-
-
 def command(checker, uses, crate, assumed, room, with_tests):
     """The words of `rattle check` for a crate, with these libraries as source."""
     root = "src/main.rt" if os.path.exists(os.path.join(TOP, "crates", crate, "src", "main.rt")) else "src/lib.rt"
     words = [os.path.join(checker.kit, "bin", "rattle"), "check", "--crate-name", crate, root]
-    needed = {"std"}.union(uses[crate], *(uses[it] for it in assumed)).difference(assumed)
-    for name in sorted(needed):
-        words += ["--extern", f"{name}={checker.rlib(name)}"]
-    built = [it for it in below(uses, crate) if it not in assumed]
-    for folder in [os.path.join(checker.kit, "rlibs"), *(os.path.dirname(checker.rlib(it)) for it in built)]:
-        words += ["-L", f"dependency={folder}"]
-    for name in assumed:
-        words += ["--lib", f"{name}:{','.join(['std', *uses[name]])}={os.path.join(room, name, 'src', 'lib.rt')}"]
+    words += libraries.words(checker, uses, crate, assumed, room)
     words += ["--antt-project", os.path.join(checker.kit, "rattle", "logic", "antt-project.json")]
     words += ["--logic-built", os.path.join(checker.kit, "logic_built"), "--links", f"{crate}="]
     if with_tests:
