@@ -1,15 +1,14 @@
 -- Two parts of a text exchanged, the later one first.
-use Rattle.std.proofs.Common.{◌≡◌, ℕ, ◌+◌, ◌-◌, ◌≤◌, List, [], ◌∷◌, ◌++◌, length, take, drop, sym, ap, ◌∙◌, arith, append_assoc, length-append, true, not, nat_lt, ◌==◌, IsUtf8, IsCharBoundary, slice_range}
+use Rattle.std.proofs.Common.{◌≡◌, ℕ, ◌+◌, ◌-◌, ◌≤◌, List, [], ◌∷◌, ◌++◌, length, take, drop, sym, ap, ◌∙◌, arith, append_assoc, length-append, true, not, nat_lt, ◌==◌, IsUtf8, IsCharBoundary}
 use Rattle.std.specs.List.{replace_range}
 use Rattle.std.proofs.lemmas.List.{length-take-le, length-drop, drop-append-le}
-use Rattle.std.proofs.lemmas.List.Edits.{length-between}
 use Rattle.std.proofs.lemmas.Bool.{and_from}
 use Rattle.std.proofs.lemmas.Bool.Decides.{nat_tests}
 use Rattle.std.proofs.lemmas.Str.{IsUtf8-drop}
 use Rattle.line_buffer.specs.Replay.{replacement}
 use Rattle.line_buffer.specs.Line.{Line}
 use Rattle.line_buffer.specs.Transpositions.{clusters_around, between_clusters, clusters_at, later_first, transposes_chars, transpose_chars_events}
-use Rattle.line_buffer.proofs.CutLemmas.{at_seam, length-replace_range}
+use Rattle.line_buffer.proofs.CutLemmas.{at_seam}
 use Rattle.line_buffer.proofs.ReplayLemmas.{if_true}
 
 -- after the first cluster, with another at hand
@@ -25,21 +24,6 @@ exchange_event l m parts swapped holds is same made =
     ∙ ap (λ (p : ℕ × ℕ × ℕ). replacement p.0 p.2 (later_first p l.text) l.text ∷ []) (sym is)
     ∙ ap (λ (x : Line). replacement parts.0 parts.2 (later_first parts x.text) x.text ∷ []) (sym same)
     ∙ ap (λ x. replacement parts.0 parts.2 x m.text ∷ []) (sym made)
-
--- the exchanged parts are as long as before
-pub length_exchanged : (text swapped new : List ℕ) (p : ℕ × ℕ × ℕ) → p.0 ≤ p.1 → p.1 ≤ p.2 → p.2 ≤ length text → swapped ≡ later_first p text → new ≡ replace_range text p.0 p.2 swapped → length new ≡ length text
-length_exchanged text swapped new p first second fits made done =
-    omega (
-      arith,
-      ap length done,
-      length-replace_range text p.0 p.2 swapped (omega (arith, first, second)) fits,
-      ap length made,
-      length-append (slice_range text p.1 p.2) (slice_range text p.0 p.1),
-      length-between text p.1 p.2 fits,
-      length-between text p.0 p.1 (omega (arith, second, fits)),
-      first,
-      second,
-    )
 
 -- after both parts there is still the same text
 pub behind_both : (text x y : List ℕ) (a b c d : ℕ) → IsUtf8 text → IsCharBoundary text d → a ≤ b → b ≤ c → c ≤ d → length x ≡ b - a → length y ≡ d - c

@@ -1,12 +1,11 @@
 use Rattle.std.proofs.Common.{◌≡◌, arith, refl}
 use Rattle.std.specs.Prelude.{Err}
 use Rattle.line_keys.proofs.Following.{as_follows, becomes_follows, ends_follow, no_key, key_follows}
-use Rattle.line_keys.proofs.Raised.{raised}
 use Rattle.line_keys.proofs.keymap.InputState.vi_char_search.Goals as goal
 
 pub returns-in_err-key-clause-sought : goal.returns-in_err-key-clause-sought
 returns-in_err-key-clause-sought g c =
-    let is : c.from_residual.result ≡ Err c.in_err-key.field-0.0 = raised _ _ c.from_residual.ensures.1 in
+    let is : c.from_residual.result ≡ Err c.in_err-key.field-0.0 = grind arith in
     rw is (no_key _ _ _ _ _ _ _ _ c.in_err-key.ensures.reads)
 
 pub returns-in_default-clause-sought : goal.returns-in_default-clause-sought
@@ -16,21 +15,3 @@ returns-in_default-clause-sought g c =
 pub returns-clause-sought : goal.returns-clause-sought
 returns-clause-sought g c =
     key_follows _ _ _ _ _ _ _ _ _ _ _ _ c.in_ok-key.ensures.reads (as_follows _ _ _ _ _ _ _ _ _ _ _ (becomes_follows _ _ _ _ _ _ _ _ _ _ _ refl (ends_follow _ _ _ _ _ _ _ refl)) (grind arith))
-
-pub returns-in_err-key-clause-asks : goal.returns-in_err-key-clause-asks
-returns-in_err-key-clause-asks g c = c.in_err-key.ensures.asks
-
-pub returns-in_default-clause-asks : goal.returns-in_default-clause-asks
-returns-in_default-clause-asks g c = c.in_ok-key.ensures.asks
-
-pub returns-clause-asks : goal.returns-clause-asks
-returns-clause-asks g c = c.in_ok-key.ensures.asks
-
-pub returns-in_err-key-clause-bindings : goal.returns-in_err-key-clause-bindings
-returns-in_err-key-clause-bindings g c = refl
-
-pub returns-in_default-clause-bindings : goal.returns-in_default-clause-bindings
-returns-in_default-clause-bindings g c = refl
-
-pub returns-clause-bindings : goal.returns-clause-bindings
-returns-clause-bindings g c = refl
