@@ -1,7 +1,7 @@
 -- The lines of a session that ended at the end of its keys, which are known.
-use Rattle.std.proofs.Common.{◌≡◌, ℕ, ◌<◌, ◌^◌, Bool, true, false, IsTrue, List, [], ◌∷◌, ◌++◌, Option, None, Some, refl, sym, ap, subst, ◌∙◌, append-nil}
+use Rattle.std.proofs.Common.{◌≡◌, ℕ, ◌<◌, ◌^◌, Bool, true, false, IsTrue, not, List, [], ◌∷◌, ◌++◌, Option, None, Some, refl, sym, ap, subst, ◌∙◌, append-nil}
 use Rattle.std.specs.List.{flat_map}
-use Rattle.line_config.specs.Foretold.{is_failed, works}
+use Rattle.line_config.specs.Foretold.{is_failed}
 use Rattle.line_config.specs.declared.device.Last.{Last}
 use Rattle.line_config.specs.declared.device.Last.TheVariants.{End, Failed}
 use Rattle.line_config.specs.declared.errors.ReadlineError.{ReadlineError}
@@ -10,8 +10,7 @@ use Rattle.line_keys.specs.KeyFeeds.{Key, Paste}
 use Rattle.line_screen.specs.Reader.{coming_in}
 use Rattle.keyline.specs.Endings.{ending_of}
 use Rattle.keyline.specs.Events.{SessionEvent, Begins, Takes, Helped, Draws, Hears, Rests, Breaks, Keeps, Writes, lines_written, session}
-use Rattle.keyline.specs.KnownDevices.{KnownDevices}
-use Rattle.keyline.specs.SessionEffects.{AreDone, CutSessionEvent, Stands, Went, Work, ending_after, work}
+use Rattle.keyline.specs.SessionEffects.{KnownDevices, AreDone, CutSessionEvent, Stands, Went, Work, ending_after, work}
 use Rattle.keyline.specs.Program.{PlaysBytes, config_of, given_by, start_by}
 use Rattle.keyline.specs.Sessions.{each, lines_text}
 use Rattle.keyline.specs.declared.ending.Ending.{Ending}
@@ -36,10 +35,8 @@ eof_alone Helper saved is = absurd (cc)
 eof_alone Handler saved is = absurd (cc)
 eof_alone Memory saved is = absurd (cc)
 
-pub works_where : (met : Option Last) → is_failed met ≡ false → IsTrue (works met)
-works_where None is = refl
-works_where (Some End) is = refl
-works_where (Some Failed) is = absurd (cc)
+pub works_where : (met : Option Last) → is_failed met ≡ false → IsTrue (not (is_failed met))
+works_where met is = ap not is
 
 module _ {D L : Type 0} (shown : D → List ℕ) (written_in : L → List ℕ) (adds : Bool) where
   -- and it stops no event
@@ -79,6 +76,6 @@ lines_by known held failed options words old bytes last ended p is n low =
     let g = given_by (config_of options) options words in
     let start = start_by (config_of options) old bytes last in
     let lines = session n g (each g) start in
-    let then_left = work (known.shown ended.display) (known.written_in ended.lines) p.kept (coming_in known.feed p.reader) in
+    let then_left = work (known.shown ended.display) (known.written_in ended.lines) p.desk.history (coming_in known.feed p.desk.reader) in
     all_written (λ (d : List ℕ). d) (λ (l : List ℕ). l) g.config.auto_add_history lines.events (work [] [] start.history start.coming) then_left p.why
-    (p.why ≡ lines.answer) (eof_alone p.why p.saved (sym p.ending_is ∙ is)) refl (p.goes n low).went
+    (p.why ≡ lines.answer) (eof_alone p.why p.finishes.saved (sym p.finishes.ending_is ∙ is)) refl (p.goes n low).went

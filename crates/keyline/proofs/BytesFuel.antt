@@ -10,7 +10,7 @@ use Rattle.line_screen.specs.Input.{AtBad, AtFailure, Chars, Continuation, Next,
 use Rattle.line_screen.specs.KeyGrammar.{Cut, Key, Paste, Readings, Stops, announces, byte_is, coming_of, esc, in_escape, in_paste, in_sequence, keeps_byte, lone_escape, marker, paste_with_char, readings}
 use Rattle.line_screen.specs.Sequences.{awaits_more, sequence_key}
 use Rattle.keyline.specs.Sessions.{coming_from}
-use Rattle.keyline.specs.Fuel.{keys_and_pastes}
+use Rattle.keyline.specs.SessionLaws.{keys_and_pastes}
 
 abbrev size : Chars → ℕ
 size (Next c behind rest) = suc (size rest)

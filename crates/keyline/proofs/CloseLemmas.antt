@@ -7,9 +7,9 @@ use Rattle.line_config.specs.declared.errors.ReadlineError.TheVariants.{Display,
 use Rattle.line_config.specs.Sending.{Takes, TakesSome, Sends}
 use Rattle.script.proofs.ScriptLaws.{err_in}
 use Rattle.line_config.proofs.Taking.{takes_none}
-use Rattle.line_editor.specs.LineEndings.{breaks_after}
+use Rattle.line_editor.specs.LineRun.{breaks_after}
 use Rattle.line_help.specs.History.{Filed, takes}
-use Rattle.line_keys.specs.Coming.{Coming, answer_map}
+use Rattle.line_keys.specs.KeyFeeds.{Coming, answer_map}
 use Rattle.line_screen.specs.ScreenCalls.{NothingWaits, Sent, CutSending, sink_of}
 use Rattle.line_screen.specs.Drawing.{row_break, break_if}
 use Rattle.line_screen.specs.declared.renderer.ScreenRenderer.{ScreenRenderer}

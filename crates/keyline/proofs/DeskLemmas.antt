@@ -9,12 +9,10 @@ use Rattle.line_config.specs.declared.errors.ReadlineError.{ReadlineError}
 use Rattle.line_config.specs.declared.errors.ReadlineError.TheVariants.{Reader, Display, Lines, HistoryText, Helper, Handler, Memory}
 use Rattle.line_help.specs.History.{Filed}
 use Rattle.line_keys.specs.CustomBindings.{Custom}
-use Rattle.line_keys.specs.Coming.{Coming, answer_map}
-use Rattle.line_keys.specs.KeyFeeds.{KeyFeed}
+use Rattle.line_keys.specs.KeyFeeds.{KeyFeed, Coming, answer_map}
 use Rattle.line_record.specs.Ring.{Ring}
-use Rattle.line_editor.specs.LineEndings.{breaks_after}
 use Rattle.line_editor.specs.LineScripts.{LineState, LineStage, line_state, line_script, line_stage}
-use Rattle.line_editor.specs.LineRun.{Helping, Runs, outcome_of, setting_by, stage_first}
+use Rattle.line_editor.specs.LineRun.{Helping, Runs, outcome_of, setting_by, stage_first, breaks_after}
 use Rattle.line_editor.specs.States.{reason_of}
 use Rattle.line_editor.specs.EditSteps.{surface}
 use Rattle.line_editor.specs.Turn.{cause_of}
@@ -27,10 +25,9 @@ use Rattle.line_screen.specs.declared.renderer.ScreenRenderer.{ScreenRenderer}
 use Rattle.line_screen.proofs.CallLemmas.{goes_stay}
 use Rattle.line_screen.proofs.WaitingLemmas.{reads_find_nothing_waiting}
 use Rattle.keyline.specs.Desks.{TakesLine, DeskReason, desk_feed, session_state_of, work_of}
-use Rattle.keyline.specs.KnownDevices.{KnownDevices, HasPassedOn, HasPassedLines}
-use Rattle.keyline.specs.SessionEffects.{AreDone, Closes, CloseReason, SessionReason, Went, Work, work}
+use Rattle.keyline.specs.SessionEffects.{KnownDevices, HasPassedOn, HasPassedLines, AreDone, Closes, CloseReason, SessionReason, Went, Work, work}
 use Rattle.keyline.specs.Events.{SessionEvent, Course, Begins, Breaks, events_of, end_events, line_course, lines_kept, line_play_in}
-use Rattle.keyline.specs.Sessions.{Given, SessionState, given_of, history_after, history_with_if, state_after, state_at}
+use Rattle.keyline.specs.Sessions.{Given, SessionState, given_of, history_after, history_with_if, state_at}
 use Rattle.keyline.specs.Shows.{EachShown}
 use Rattle.keyline.specs.declared.desk.Desk.{Desk}
 use Rattle.keyline.proofs.EventLemmas.{done_both, line_went, none_done, remembered_none, went_before, went_behind, went_cases, went_not, went_not_whole, went_so, went_whole}
@@ -150,11 +147,11 @@ module _ {S H D L K T : Type 0} (k : KnownDevices S D L) (helps : Option H → H
         elim (line_went k.shown k.written_in adds old.lines old.history k.waits k.show_failed (screen_of old.out) setting (line_script n custom) first (last runs) o refl (runs.goes t n b)) [
           | inl whole ↦
               let first = begun whole.are_done in
-              let after : Result (List ℕ) ReadlineError → LineState → Result (List ℕ) ReadlineError × SessionState = λ o l. (o, state_after adds o l.ring l.modal.query l.coming state) in
+              let after : Result (List ℕ) ReadlineError → LineState → Result (List ℕ) ReadlineError × SessionState = λ o l. (o, state_at l.ring l.modal.query (history_after adds o state.history) l.coming) in
               subst (λ o. Comes (here ++ end_events o) (work_of k new)) (sym whole.answer_is)
               (went_cases (closes.goes left)
               (λ done same.
-              let state_is : session_state_of k new ≡ state_after adds o ring runs.modal.query left state =
+              let state_is : session_state_of k new ≡ state_at ring runs.modal.query (history_after adds o state.history) left =
               ap (λ query. state_at ring query history left) runs.last ∙ ap (λ (h : Filed). state_at ring runs.modal.query h left) (done.history_is ∙ kept_in_end o old.history) in
               went_whole (done_both first done)
               (ap (λ r. (r, session_state_of k new)) same ∙ ap (λ x. (o, x)) state_is ∙ ap (after o) (sym whole.rest_is) ∙ ap (λ o. after o p.rest) (sym whole.answer_is)))

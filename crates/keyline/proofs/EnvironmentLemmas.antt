@@ -5,7 +5,7 @@ use Rattle.line_config.specs.Feed.{Feed}
 use Rattle.line_config.specs.declared.config.Config.{Config}
 use Rattle.line_config.specs.declared.errors.ReadlineError.{ReadlineError}
 use Rattle.line_config.specs.declared.errors.ReadlineError.TheVariants.{HistoryText, Memory, Reader}
-use Rattle.keyline.specs.SessionRuns.{LoadRefused, RefusesText}
+use Rattle.keyline.specs.SessionCalls.{LoadRefused, RefusesText}
 use Rattle.keyline.specs.Program.{IsByEnvironment, config_without_colours}
 
 pub coloured_or_not : (asked : Bool) (config : Config) → IsByEnvironment config (if asked then config_without_colours config else config)

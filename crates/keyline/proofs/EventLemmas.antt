@@ -10,8 +10,7 @@ use Rattle.line_config.specs.declared.errors.ReadlineError.{ReadlineError}
 use Rattle.line_config.specs.declared.errors.ReadlineError.TheVariants.{Display, Helper, Memory}
 use Rattle.line_config.proofs.Taking.{takes_none, takes_then, some_of_more, some_then}
 use Rattle.line_help.specs.History.{Filed, history_with_line, history_with_lines}
-use Rattle.line_keys.specs.Coming.{Coming, coming_after_error}
-use Rattle.line_keys.specs.KeyFeeds.{InputItem, IsReadFault, Paste, behind}
+use Rattle.line_keys.specs.KeyFeeds.{InputItem, IsReadFault, Paste, behind, Coming, coming_after_error}
 use Rattle.line_keys.specs.PhraseScripts.{Reads}
 use Rattle.line_editor.specs.RenderCalls.{Call, Canvas, MadeIn, CutCall, CutCalls}
 use Rattle.line_editor.specs.RenderCalls.Call.{Help}

@@ -4,7 +4,7 @@ use Rattle.std.specs.Prelude.{if◌then◌else◌}
 use Rattle.line_config.specs.declared.errors.ReadlineError.{ReadlineError}
 use Rattle.line_config.specs.declared.errors.ReadlineError.TheVariants.{Memory}
 use Rattle.line_editor.specs.RenderCalls.{Marks}
-use Rattle.line_editor.specs.LineEndings.{breaks_after}
+use Rattle.line_editor.specs.LineRun.{breaks_after}
 use Rattle.line_editor.specs.Redraws.{Redraw}
 use Rattle.line_keys.specs.KeyFeeds.{Key}
 use Rattle.line_screen.specs.ScreenCalls.{Screen}

@@ -5,8 +5,8 @@ use Rattle.line_config.specs.declared.device.Last.{Last}
 use Rattle.line_config.specs.declared.device.Last.TheVariants.{Failed}
 use Rattle.line_config.specs.declared.settings.EditMode.{EditMode}
 use Rattle.line_config.specs.declared.settings.EditMode.TheVariants.{Emacs, Vi}
-use Rattle.line_keys.specs.Coming.{Coming, Pressed, Pasted, CutOff, Ends as NoMore, Refused}
-use Rattle.line_keys.specs.Coming.LastItem.{End as EndItem}
+use Rattle.line_keys.specs.KeyFeeds.{Coming, Pressed, Pasted, CutOff, Ends as NoMore, Refused}
+use Rattle.line_keys.specs.KeyFeeds.LastItem.{End as EndItem}
 use Rattle.line_keys.specs.Keys.{key_of, none, alt}
 use Rattle.line_keys.specs.declared.key.KeyEvent.{KeyEvent}
 use Rattle.line_screen.specs.Input.{Chars, Next, Over, Stop, AtEnd, AtBad, AtFailure, Torn, Inside, Continuation, chars_of, in_char, is_scalar, lead_in, lead_rows, value_with, after_byte}

@@ -4,13 +4,12 @@ use Rattle.std.specs.Prelude.{OnOk, IfErr, if◌then◌else◌}
 use Rattle.line_buffer.specs.declared.layout.Layout.{Layout}
 use Rattle.line_config.specs.declared.errors.ReadlineError.{ReadlineError}
 use Rattle.line_config.specs.declared.device.Last.TheVariants.{Failed as SourceFailed}
-use Rattle.line_keys.specs.Coming.{Coming, Pressed, Pasted, CutOff, Ends as NoMore, Refused}
-use Rattle.line_keys.specs.Coming.LastItem.{End as EndItem}
-use Rattle.line_keys.specs.KeyFeeds.{InputItem, InputOf, Key, Paste, behind, item_at}
+use Rattle.line_keys.specs.KeyFeeds.LastItem.{End as EndItem}
+use Rattle.line_keys.specs.KeyFeeds.{InputItem, InputOf, Key, Paste, behind, item_at, Coming, Pressed, Pasted, CutOff, Ends as NoMore, Refused}
 use Rattle.script.specs.Played.{Played, play_with_first_ask, play_after_answer}
 use Rattle.script.specs.Scripts.{Ends, Asks}
 use Rattle.line_keys.specs.PhraseScripts.{Reads}
-use Rattle.line_editor.specs.LineEndings.{breaks_after}
+use Rattle.line_editor.specs.LineRun.{breaks_after}
 use Rattle.line_editor.specs.LineScripts.{Keys, LineState, LineAsk, LineScript, answer_at, effect_at, left_at, line_script, played_from, steps_along}
 use Rattle.line_editor.specs.Redraws.{fresh}
 use Rattle.line_editor.specs.EditSteps.{calls_of_steps}

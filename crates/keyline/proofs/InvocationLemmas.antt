@@ -6,7 +6,7 @@ use Rattle.std.proofs.lemmas.Bool.Decides.{nat_tests}
 use Rattle.std.proofs.lemmas.List.{drop-map, take-map, take_rest}
 use Rattle.std.proofs.lemmas.List.Quantifiers.{position-Some}
 use Rattle.clap.specs.Words.{Text}
-use Rattle.keyline.specs.Invocations.{decides, place_of_extended}
+use Rattle.keyline.specs.Options.{decides, place_of_extended}
 
 passes : (a b : Bool) (x y z : Option ℕ) → (a || b) ≡ false → (if a then x else if b then y else z) ≡ z
 passes false false x y z doesnt = refl

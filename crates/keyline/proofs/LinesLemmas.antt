@@ -5,8 +5,7 @@ use Rattle.line_screen.specs.ScreenCalls.{sink_of}
 use Rattle.line_screen.specs.declared.renderer.ScreenRenderer.{ScreenRenderer}
 use Rattle.keyline.specs.Desks.{TakesLine, TakesLines, desk_feed, session_state_of}
 use Rattle.keyline.specs.Events.{session}
-use Rattle.keyline.specs.KnownDevices.{KnownDevices, HasPassedOn}
-use Rattle.keyline.specs.SessionEffects.{Went, Work, work}
+use Rattle.keyline.specs.SessionEffects.{KnownDevices, HasPassedOn, Went, Work, work}
 use Rattle.keyline.specs.Sessions.{Given, LineGiven, each, for_line}
 use Rattle.keyline.specs.declared.desk.Desk.{Desk}
 use Rattle.keyline.proofs.SessionSteps.{Onward, onward_nowhere, onward_ok, onward_err}

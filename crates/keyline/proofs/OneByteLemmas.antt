@@ -22,7 +22,7 @@ use Rattle.line_editor.specs.Asks.{shown_in}
 use Rattle.line_editor.specs.Inserting.{is_bare, may_be_typed, may_be_appended, may_be_put_in, insertion_way, put_redraw, show_inserted_effect, insert_char}
 use Rattle.line_editor.specs.declared.way.Way.{Way}
 use Rattle.line_editor.specs.declared.way.Way.TheVariants.{AtEnd, Alone, Inside, Whole}
-use Rattle.line_editor.specs.LineScripts.{Meets, LineState, turn_start, line_plan, made_from, meet_script, obey_script, phrase_script, played_from, steps_along, turn_script}
+use Rattle.line_editor.specs.LineScripts.{turn_start, Meets, LineState, line_plan, made_from, meet_script, obey_script, phrase_script, played_from, steps_along, turn_script}
 use Rattle.line_editor.specs.Modal.{Modal, is_at_rest}
 use Rattle.line_editor.specs.NextCommand.{line_phrase}
 use Rattle.line_editor.specs.Redraws.{RedrawCalls, full, rest_call, nothing_asked, move_call, char_call, append_call, erase_call, put_in_short, taken_out_short, fits_in_row, may_type, may_take, may_erase, may_put_in, may_take_out, write_over_call, may_write_over}
@@ -42,8 +42,7 @@ use Rattle.line_screen.specs.Laws.{widths}
 use Rattle.line_screen.specs.Measure.{in_row}
 use Rattle.line_screen.proofs.Items.{letter_items}
 use Rattle.keyline.proofs.ShowSteps.{if_none, small}
-use Rattle.keyline.specs.OneByte.{TellsSight, LayoutsTell, TypedAtEnd, OneByte, ReadAlone}
-use Rattle.keyline.specs.Shows.{calls_by_screen, bytes_for}
+use Rattle.keyline.specs.Shows.{TellsSight, LayoutsTell, TypedAtEnd, OneByte, ReadAlone, calls_by_screen, bytes_for}
 
 -- ---- the layout that is kept
 
@@ -68,32 +67,32 @@ one_told : (s : Screen) (own : List ℕ) (l : Layout) (x : Sight) (r : EditStep)
 one_told s own l x (Draws v m (Drawn prompt given text at info)) h fits = refl
 one_told s own l x (Draws v m (Moved text at)) h fits = let to = (ruler_of s).measure (take at text) l.prompt_size in moved_told l to (same_cell l.cursor to) ∙ h
 one_told s own l x (Draws v m (Typed prompt c text at)) h fits =
-    short_told l (char_call l c) (full (ruler_of s) (shown_marks v m) l prompt true text at None) (may_type (ruler_of s) l) refl refl (λ e. (and_parts (not l.has_info) _ e).0) (ap (λ t. t.1) h ∙ fits.0)
+    short_told l (char_call l c) (full (ruler_of s) (shown_marks v m) l prompt true text at None) (may_type (ruler_of s) l) refl refl (λ e. (and_parts (not l.has_info) _ e).0) (ap (λ t. t.1) h ∙ fits.0.given)
 one_told s own l x (Draws v m (Appended prompt c text at)) h fits =
     let drawn = full (ruler_of s) (shown_marks v m) l prompt true text at None in
     let short = append_call (ruler_of s) l c in
-    ap (λ (q : RedrawCalls). told q.layout) (if_none l.has_info drawn short) ∙ short_told l short drawn (not l.has_info) refl refl (λ e. e) (ap (λ t. t.1) h ∙ fits.0)
+    ap (λ (q : RedrawCalls). told q.layout) (if_none l.has_info drawn short) ∙ short_told l short drawn (not l.has_info) refl refl (λ e. e) (ap (λ t. t.1) h ∙ fits.0.given)
 one_told s own l x (Draws v m (Taken prompt count true text at)) h fits =
-    short_told l (erase_call l count) (rest_call (ruler_of s) (shown_marks v m) l at text at None) (may_take l count) refl refl (λ e. (and_parts (not l.has_info) _ e).0) (ap (λ t. t.1) h ∙ fits.0)
+    short_told l (erase_call l count) (rest_call (ruler_of s) (shown_marks v m) l at text at None) (may_take l count) refl refl (λ e. (and_parts (not l.has_info) _ e).0) (ap (λ t. t.1) h ∙ fits.0.given)
 one_told s own l x (Draws v m (Taken prompt count false text at)) h fits =
-    short_told l (erase_call l count) (full (ruler_of s) (shown_marks v m) l prompt true text at None) (may_take l count) refl refl (λ e. (and_parts (not l.has_info) _ e).0) (ap (λ t. t.1) h ∙ fits.0)
+    short_told l (erase_call l count) (full (ruler_of s) (shown_marks v m) l prompt true text at None) (may_take l count) refl refl (λ e. (and_parts (not l.has_info) _ e).0) (ap (λ t. t.1) h ∙ fits.0.given)
 one_told s own l x (Draws v m (Erased prompt c text at)) h fits =
     let short = erase_call l ((ruler_of s).measure (encode_utf8 c) origin).col in
-    short_told l short (rest_call (ruler_of s) (shown_marks v m) l at text at None) (may_erase (ruler_of s) l c) refl refl (λ e. (and_parts (not l.has_info) _ e).0) (ap (λ t. t.1) h ∙ fits.0)
+    short_told l short (rest_call (ruler_of s) (shown_marks v m) l at text at None) (may_erase (ruler_of s) l c) refl refl (λ e. (and_parts (not l.has_info) _ e).0) (ap (λ t. t.1) h ∙ fits.0.given)
 one_told s own l x (Draws v m (PutIn prompt c text at)) h fits =
     let rest = drop at text in
-    short_told l (put_in_short (ruler_of s) l c rest) (full (ruler_of s) (shown_marks v m) l prompt true text at None) (may_put_in (ruler_of s) l rest) refl refl (λ e. (and_parts (not l.has_info) _ e).0) (ap (λ t. t.1) h ∙ fits.0)
+    short_told l (put_in_short (ruler_of s) l c rest) (full (ruler_of s) (shown_marks v m) l prompt true text at None) (may_put_in (ruler_of s) l rest) refl refl (λ e. (and_parts (not l.has_info) _ e).0) (ap (λ t. t.1) h ∙ fits.0.given)
 one_told s own l x (Draws v m (TakenOut prompt count text at)) h fits =
     let rest = drop at text in
     let cell = (ruler_of s).measure (take at text) l.prompt_size in
     short_told l (taken_out_short l cell count rest) (rest_call (ruler_of s) (shown_marks v m) l at text at None) (may_take_out (ruler_of s) l cell count rest) refl refl
-    (λ e. (and_parts (not l.has_info) _ e).0) (ap (λ t. t.1) h ∙ fits.0)
+    (λ e. (and_parts (not l.has_info) _ e).0) (ap (λ t. t.1) h ∙ fits.0.given)
 one_told s own l x (Draws v m (DrawnFrom prompt from text at info)) h fits = refl
 one_told s own l x (Draws v m (Rewritten prompt from upto text at)) h fits =
     let cell = (ruler_of s).measure (take from text) l.prompt_size in
     let letters = slice_range text from upto in
     short_told l (write_over_call l letters cell ((ruler_of s).measure (take at text) l.prompt_size)) (rest_call (ruler_of s) (shown_marks v m) l from text at None) (may_write_over (ruler_of s) l cell (length letters)) refl refl
-    (λ e. (and_parts (not l.has_info) _ e).0) (ap (λ t. t.1) h ∙ fits.0)
+    (λ e. (and_parts (not l.has_info) _ e).0) (ap (λ t. t.1) h ∙ fits.0.given)
 one_told s own l x (Draws v m (Bared prompt text at)) h fits =
     ap (λ b. told (if b then nothing_asked l else full (ruler_of s) (shown_marks v m) l prompt true text at None).layout) (ap (λ t. t.1) h ∙ fits) ∙ h
 one_told s own l x (Draws v m ToEnd) h fits = moved_told l l.end (same_cell l.cursor l.end) ∙ h

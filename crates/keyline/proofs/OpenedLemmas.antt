@@ -4,20 +4,19 @@ use Rattle.line_config.specs.Feed.{AlwaysTold, Feed, fresh_feed}
 use Rattle.line_config.specs.declared.config.Config.{Config}
 use Rattle.line_config.specs.declared.device.Last.{Last}
 use Rattle.line_config.specs.declared.device.Last.TheVariants.{End}
-use Rattle.line_keys.specs.CustomBindings.{Custom, custom_of}
+use Rattle.line_keys.specs.CustomBindings.{Custom, custom_of, Meaning}
 use Rattle.line_screen.specs.ScreenCalls.{Screen, screen_of}
 use Rattle.keyline.specs.Desks.{desk_feed, session_state_of}
-use Rattle.keyline.specs.KnownDevices.{KnownDevices}
+use Rattle.keyline.specs.SessionEffects.{KnownDevices}
 use Rattle.keyline.specs.Program.{EditHelper, edit_helping, start_by, EditsBy, given_to, helper_of, nothing_bound}
-use Rattle.keyline.specs.SessionRuns.{Opens, history_loaded_from, Runs}
+use Rattle.keyline.specs.SessionCalls.{Opens, history_loaded_from, RunsSession}
 use Rattle.keyline.specs.Sessions.{coming_from, given_of, Given}
 use Rattle.keyline.specs.declared.desk.Desk.{Desk}
 use Rattle.std.specs.Prelude.{string_bytes}
-use Rattle.line_keys.specs.Handling.{Meaning}
 use Rattle.line_keys.specs.declared.events.Event.{Event}
 use Rattle.keyline.specs.declared.options.Options.{Options}
 use Rattle.keyline.specs.declared.session.Ended.{Ended}
-use Rattle.line_keys.specs.Coming.{bytes_to_come}
+use Rattle.line_keys.specs.KeyFeeds.{bytes_to_come}
 use Rattle.line_screen.specs.Reader.{coming_in, byte_ahead_of, source_of}
 use Rattle.line_screen.specs.Reading.{with_kept}
 use Rattle.line_screen.specs.declared.reading.reader.KeyReader.{KeyReader}
@@ -51,18 +50,18 @@ module _ {F S D L T : Type 0} (loads : F → Feed) (k : KnownDevices S D L) (hel
   pub edited : (asked : Bool) (config : Config) (options : Options) (words : Option (List (List ℕ))) (history : F) (source : S) (display : D) (lines : L) (text text' : T) (ended : Ended S D L T)
       (desk : Desk S EditHelper D L) (config' : Config) (custom : Custom) (prompt : List ℕ) (helper : Option EditHelper)
       → Opens loads k.feed config history helper source options.columns display lines desk
-      → Runs k held failed asked (given_of config' custom prompt (screen_of desk.out) (edit_helping desk.helper)) desk text' ended
+      → RunsSession k held failed asked (given_of config' custom prompt (screen_of desk.out) (edit_helping desk.helper)) desk text' ended
       → config' ≡ config → prompt ≡ string_bytes options.prompt → helper ≡ helper_of config options words → text' ≡ text → custom ≡ nothing_bound
       → EditsBy loads k held failed asked config options words history source display lines text ended
   edited asked config options words history source display lines text text' ended desk config' custom prompt helper opens runs config_is prompt_is helper_is text_is custom_is =
       let given : given_of config' custom prompt (screen_of desk.out) (edit_helping desk.helper) ≡ given_to config options desk =
       given_as config config' nothing_bound custom (string_bytes options.prompt) prompt (screen_of desk.out) (screen_of desk.out) desk.helper desk.helper
       config_is custom_is prompt_is refl refl in
-      let runs' = subst (λ (x : Given). Runs k held failed asked x desk text' ended) given runs in
+      let runs' = subst (λ (x : Given). RunsSession k held failed asked x desk text' ended) given runs in
       record {
         desk = desk;
         opens = subst (λ (x : Option EditHelper). Opens loads k.feed config history x source options.columns display lines desk) helper_is opens;
-        runs = subst (λ (x : T). Runs k held failed asked (given_to config options desk) desk x ended) text_is runs';
+        runs = subst (λ (x : T). RunsSession k held failed asked (given_to config options desk) desk x ended) text_is runs';
       }
 
 -- ---- closed

@@ -4,7 +4,7 @@ use Rattle.std.specs.List.{flat_map}
 use Rattle.std.specs.Prelude.{if◌then◌else◌}
 use Rattle.std.proofs.lemmas.Grind.{flat_map-append}
 use Rattle.line_config.specs.declared.errors.ReadlineError.{ReadlineError}
-use Rattle.line_editor.specs.LineEndings.{breaks_after}
+use Rattle.line_editor.specs.LineRun.{breaks_after}
 use Rattle.line_editor.specs.Redraws.{fresh}
 use Rattle.keyline.specs.Events.{SessionEvent, Course, Breaks, Keeps, Writes, LinesInOrder, end_events, events_of, first_in, asks_events, own_events, step_events, course_after_line, line_course, lines_kept, lines_written, line_play_in, session}
 use Rattle.keyline.specs.Sessions.{Given, LineGiven, SessionState, for_line, setting_in}

@@ -13,26 +13,24 @@ use Rattle.line_keys.specs.CustomBindings.{Custom, answer_by}
 use Rattle.script.specs.Played.{Played, play_with_first_ask}
 use Rattle.script.specs.Scripts.{Ends, Asks}
 use Rattle.line_config.specs.declared.errors.ReadlineError.{ReadlineError}
-use Rattle.line_keys.specs.Coming.{Coming, Pressed, Pasted, Ends as NoMore, End as AtItsEnd}
 use Rattle.line_keys.specs.Common.{common_action, command_or, binding_or, decision_of, terminal_command}
 use Rattle.line_keys.specs.CustomKeys.{Situation, situation, handler_arguments_for, or_any, custom_answer}
 use Rattle.line_keys.specs.Emacs.{emacs_action, emacs_command}
 use Rattle.line_keys.specs.Events.{single}
-use Rattle.line_keys.specs.KeyFeeds.{Key, Paste}
+use Rattle.line_keys.specs.KeyFeeds.{Key, Paste, Coming, Pressed, Pasted, Ends as NoMore, End as AtItsEnd}
 use Rattle.line_keys.specs.Keys.{none, key_with}
-use Rattle.line_keys.specs.NextPhrase.{phrase_from}
 use Rattle.line_keys.specs.PhraseScripts.{Input, KeyScript, PhrasePart, steps, Needs, Reads, Becomes, after, answer_part, memory_then, with_read, from_key, show_then, keep_then, reply_then, and_then}
 use Rattle.line_keys.specs.Refreshing.{Shown}
 use Rattle.line_keys.specs.Replies.{gives_at_once, with_memory}
 use Rattle.line_keys.specs.Vi.{with_last, change_part, insert_part, command_table, vi_counted, vi_command, insert_table, vi_insert}
 use Rattle.line_keys.specs.ViTables.{insert_action, action_of}
 use Rattle.line_editor.specs.Asks.{shown_in}
-use Rattle.line_editor.specs.LineScripts.{Keys, LineState, LineAsk, turn_start, line_state, script_of_keys, phrase_script, played_from, Obeys, left_at, line_plan, line_script, meet_script, obey_script, turn_script, line_script_after, turns_script, line_begun}
+use Rattle.line_editor.specs.LineScripts.{turn_start, Keys, LineState, LineAsk, line_state, script_of_keys, phrase_script, played_from, Obeys, left_at, line_plan, line_script, meet_script, obey_script, turn_script, line_script_after, turns_script, line_begun}
 use Rattle.line_editor.specs.NextCommand.{with_group_begun, ring_after_reset}
 use Rattle.line_editor.specs.Values.{Setting, Value, empty_at, first_value, at_line}
 use Rattle.line_screen.specs.KeyGrammar.{coming_of, marker, paste_start, with_newlines}
 use Rattle.line_screen.proofs.Pasting.{pasted_text_is_before_its_mark}
-use Rattle.keyline.specs.Pasting.{paste_bytes, IsFree, IsPasteable, Accepts, IsEmptyLine, IsUnbound, PastedLinesAreAccepted, PastesAreAccepted, PastesGoIn, line_with_paste}
+use Rattle.keyline.specs.Pasting.{paste_bytes, IsFree, IsPasteable, Accepts, IsUnbound, PastedLinesAreAccepted, PastesAreAccepted, PastesGoIn, line_with_paste}
 use Rattle.keyline.specs.Sessions.{coming_from, setting_in}
 use Rattle.std.proofs.Math.Seq.{take-nil, drop-nil}
 use Rattle.std.proofs.lemmas.Bool.Decides.{nat_tests}
@@ -46,7 +44,7 @@ use Rattle.line_keys.specs.declared.command.CmdKind.{CmdKind}
 use Rattle.line_keys.specs.declared.command.CmdKind.TheVariants.{ForcedRefresh}
 use Rattle.line_keys.specs.declared.events.Event.TheVariants.{Any}
 use Rattle.line_keys.specs.declared.key.KeyCode.TheVariants.{Char, Enter}
-use Rattle.line_keys.specs.InputStates.{new_input}
+use Rattle.line_keys.specs.InputStates.{new_input, phrase_from}
 use Rattle.line_record.specs.Ring.{new_ring}
 use Rattle.line_editor.specs.Accepting.{accept_or_insert}
 use Rattle.line_editor.specs.Commands.{in_vi_command, means_of}
@@ -273,10 +271,10 @@ moved_text : (b : Bool) (kind : CmdKind) (l : Line) (s : Setting) (v : Value) �
 moved_text true kind l s v is = is
 moved_text false kind l s v is = refl
 
-accepted : (n : ℕ) (s : Setting) (custom : Custom) (k : LineState) (text more : List ℕ) (last : Last) → IsUnbound custom → IsEmptyLine k.value → is_at_rest k.modal.standing ≡ true → IsPasteable text
+accepted : (n : ℕ) (s : Setting) (custom : Custom) (k : LineState) (text more : List ℕ) (last : Last) → IsUnbound custom → k.value.line.text ≡ [] → k.value.line.growth ≡ true → is_at_rest k.modal.standing ≡ true → IsPasteable text
     → k.coming ≡ coming_from k.input.mode (paste_bytes text ++ 0x0D ∷ more) last
     → Accepts (played_from (record s { hooks = None }) (turns_script (suc (suc n)) custom) k) text (coming_from k.input.mode more last)
-accepted n s custom k text more last free empty rests paste comes =
+accepted n s custom k text more last free empty grows rests paste comes =
     let bare : Setting = record s { hooks = None } in
     let left = coming_from k.input.mode more last in
     let j = left_at bare (paste_kept k.input.mode text k (coming_from k.input.mode (0x0D ∷ more) last)) (Obeys (Insert 1 text)) in
@@ -286,14 +284,14 @@ accepted n s custom k text more last free empty rests paste comes =
     let is = turns_end bare custom (suc n) k j Proceed pastes ∙ turns_end bare custom n j (left_at bare (with_rest j left) (Obeys (AcceptOrInsertLine true))) Submit enters in
     record {
       outcome = ap (λ e. e.0) is ∙ ap Ok (moved_text (not (w.line.place == length w.line.text)) ForcedRefresh (record w.line { place = length w.line.text }) bare w refl
-          ∙ ap (λ l. l.text) (pasted_line _ text bare k.value empty.grows)
-          ∙ put_into_empty _ text k.value.line empty.empty);
+          ∙ ap (λ l. l.text) (pasted_line _ text bare k.value grows)
+          ∙ put_into_empty _ text k.value.line empty);
       rest_is = ap (λ e. e.1.coming) is;
     }
 
 pub pastes_are_accepted : PastesAreAccepted
-pastes_are_accepted n s custom k text more last none free empty rests paste comes =
-    subst (λ hooks. Accepts (played_from (record s { hooks = hooks }) (turns_script (suc (suc n)) custom) k) text (coming_from k.input.mode more last)) (sym none) (accepted n s custom k text more last free empty rests paste comes)
+pastes_are_accepted n s custom k text more last none free empty grows rests paste comes =
+    subst (λ hooks. Accepts (played_from (record s { hooks = hooks }) (turns_script (suc (suc n)) custom) k) text (coming_from k.input.mode more last)) (sym none) (accepted n s custom k text more last free empty grows rests paste comes)
 
 pub pasted_lines_are_accepted : PastedLinesAreAccepted
 unfolding line_script
@@ -301,7 +299,7 @@ pasted_lines_are_accepted n g x text more last none free paste is =
     let s : Setting = setting_in g x.history.kept.entries in
     let e = line_begun s (first_value s) in
     let k = line_state e.value (new_input g.config) x.ring (modal_first g.config x.query) x.coming in
-    let a = pastes_are_accepted n s g.custom k text more last none free (record { empty = refl; grows = refl }) (first_rests g.config.modal_commands) paste is in
+    let a = pastes_are_accepted n s g.custom k text more last none free refl refl (first_rests g.config.modal_commands) paste is in
     record { outcome = a.outcome; rest_is = a.rest_is }
 
 -- ---- worked rows

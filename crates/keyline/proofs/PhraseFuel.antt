@@ -4,25 +4,22 @@ use Rattle.std.proofs.Common.{◌≡◌, ℕ, zero, suc, ◌≤◌, Bool, true, 
 use Rattle.std.specs.Bool.{⊤}
 use Rattle.script.specs.Scripts.{Script, Ends, Asks, then}
 use Rattle.line_keys.specs.KeyFeeds.{InputItem, InputOf, Key, Paste}
-use Rattle.line_keys.specs.PhraseScripts.{Input, KeyAsk, Reads, KeyScript, PhrasePart, steps, answer_part, needs_if, memory_then, read_upto, with_read, from_key, show_then, keep_then, script_if_answered, reply_script, reply_then, after, input_after_ask, shown_after_ask, and_then, Shows}
+use Rattle.line_keys.specs.PhraseScripts.{Input, KeyAsk, Reads, KeyScript, PhrasePart, steps, answer_part, needs_if, memory_then, read_upto, with_read, from_key, show_then, keep_then, script_if_answered, reply_script, reply_then, after, input_after_ask, shown_after_ask, and_then, Shows, anew_or, takes_commands}
 use Rattle.line_keys.specs.Refreshing.{Shown, Ask, Prompted, DoingInsert, DoneInserting}
 use Rattle.line_keys.specs.Replies.{Reply}
 use Rattle.line_keys.specs.declared.key.KeyEvent.{KeyEvent}
-use Rattle.std.specs.Prelude.{ℤ}
+use Rattle.std.specs.Prelude.{ℤ, option_map}
 use Rattle.line_config.specs.declared.settings.EditMode.{EditMode}
 use Rattle.line_keys.specs.CustomBindings.{Custom}
-use Rattle.line_keys.specs.Commands.{holds_text, flags_of}
-use Rattle.line_keys.specs.Common.{bound_command, binding_or, command_or, common, common_action, common_done, decision_of, terminal_command}
+use Rattle.line_keys.specs.Commands.{holds_text, flags_of, anew}
+use Rattle.line_keys.specs.Common.{bound_command, binding_or, command_or, common, common_action, common_done, decision_of, terminal_command, is_paste_start, quote_of_paste, quoted_command, quotes}
 use Rattle.line_keys.specs.Counts.{count_from_key, count_and_key, count_with_key, rest_of_count, rest_of_count_by, count_or_key, rest_of_count_in, how_often, is_plus, prompt_for, prompting, Counted, count_times, typed_count}
 use Rattle.line_keys.specs.declared.keymap.custom.Followed.{Followed}
 use Rattle.line_keys.specs.declared.keymap.custom.Followed.TheVariants.{Bound, Unbound}
 use Rattle.line_keys.specs.CustomKeys.{Situation, sequence_or, custom_answer, key_sequence, rest_of_sequence, sequence_upto, in_vain, sequence_answer, situation}
 use Rattle.line_keys.specs.Emacs.{after_first_key, emacs_action, emacs_command, emacs_done, emacs_phrase, second_command, move_to_char}
-use Rattle.line_keys.specs.Quoting.{is_paste_start, quote_of_paste, quoted_command, quotes}
-use Rattle.line_keys.specs.Redone.{anew, anew_or}
 use Rattle.line_keys.specs.declared.command.Cmd.{Cmd}
-use Rattle.line_keys.specs.ViSearches.{search_of, search_part, opposite_of, search_movement, search_of_next_key}
-use Rattle.line_keys.specs.Keys.{char_with, none, key_with}
+use Rattle.line_keys.specs.Keys.{char_with, none, key_with, same_key}
 use Rattle.line_keys.specs.declared.command.Cmd.TheVariants.{Insert, QuotedInsert, Noop, Unknown}
 use Rattle.line_keys.specs.declared.keymap.common.CommonAction as common_actions
 use Rattle.line_keys.specs.declared.keymap.common.CommonAction.TheVariants as commons
@@ -30,11 +27,9 @@ use Rattle.line_keys.specs.declared.keymap.emacs.EmacsAction as emacs_actions
 use Rattle.line_keys.specs.declared.keymap.emacs.EmacsAction.TheVariants as emacses
 use Rattle.line_buffer.specs.declared.types.Movement.TheVariants.{ViCharSearch, WholeLine}
 use Rattle.line_config.specs.declared.settings.EditMode.TheVariants.{Emacs, Vi}
-use Rattle.line_keys.specs.SameKeys.{same_key}
-use Rattle.line_keys.specs.Modes.{takes_commands}
-use Rattle.line_keys.specs.NextPhrase.{phrase_from}
+use Rattle.line_keys.specs.InputStates.{phrase_from}
 use Rattle.line_keys.specs.Vi.{change_part, changes, command_done, command_of, command_table, insert_mode_if, in_mode, insert_done, insert_table, is_new, key_replacement, move_or, command_of_operator, remember_if, insert_part, char_command, vi_command, vi_counted, vi_insert, with_last}
-use Rattle.line_keys.specs.ViMotions.{change, motion_done, motion_of, vi_motion}
+use Rattle.line_keys.specs.ViMotions.{change, motion_done, motion_of, vi_motion, search_of, search_part, opposite, search_movement, search_of_next_key}
 use Rattle.line_keys.specs.ViTables.{action_of, insert_action}
 use Rattle.line_keys.specs.declared.command.InputMode.TheVariants.{Command, Insert}
 use Rattle.line_keys.specs.declared.key.KeyCode.TheVariants.{Char}
@@ -282,7 +277,7 @@ s_motion_done : (n : ℕ) (input : Input) (m : Option Motion) → Steady (motion
 s_motion_done n input (Some (Go movement)) = s_answered (Some movement)
 s_motion_done n input (Some (Seek search)) = s_sought search n input
 s_motion_done n input (Some Again) = s_answered (search_movement n input.search)
-s_motion_done n input (Some Back) = s_answered (search_movement n (opposite_of input.search))
+s_motion_done n input (Some Back) = s_answered (search_movement n (option_map opposite input.search))
 s_motion_done n input None = s_answered None
 
 s_vi_motion : (operator : KeyEvent) (n : ℕ) (input : Input) (shown : Shown) → Steady (vi_motion operator n input shown)
@@ -302,7 +297,7 @@ s_command_done new s k (Some (action.Operate o)) =
     s_becoming input (s_and_then input s.shown (s_vi_motion k s.n input s.shown) (λ m i seen. s_answered (command_of_operator (command_of o) m)))
 s_command_done new s k (Some (action.Search way)) = s_and_then s.input s.shown (s_sought way s.n s.input) (λ m i seen. s_answered (move_or Unknown m))
 s_command_done new s k (Some action.Again) = s_answered (move_or Noop (search_movement s.n s.input.search))
-s_command_done new s k (Some action.Back) = s_answered (move_or Noop (search_movement s.n (opposite_of s.input.search)))
+s_command_done new s k (Some action.Back) = s_answered (move_or Noop (search_movement s.n (option_map opposite s.input.search)))
 s_command_done new s k (Some action.Repeat) = s_anew_or Noop new s.shown s.input.last
 s_command_done new s k (Some action.Replace) = s_from_key (key_replacement s.n)
 s_command_done new s k None = s_common s k

@@ -10,13 +10,12 @@ use Rattle.line_config.specs.declared.errors.ReadlineError.{ReadlineError}
 use Rattle.line_config.specs.declared.errors.ReadlineError.TheVariants.{Display, Helper, Lines, Memory}
 use Rattle.line_keys.specs.KeyFeeds.{Paste}
 use Rattle.line_screen.specs.Reader.{byte_ahead_of}
-use Rattle.line_screen.specs.Reading.{count_of_kept}
+use Rattle.std.specs.Option.{option_len}
 use Rattle.keyline.specs.Desks.{DeskReason, GoesShown, desk_feed, session_state_of, work_of}
 use Rattle.keyline.specs.Events.{SessionEvent, Takes, Helped, Draws, Hears, Breaks, Keeps, Writes, session}
-use Rattle.keyline.specs.KnownDevices.{KnownDevices}
+use Rattle.keyline.specs.SessionEffects.{KnownDevices, CutSessionEvent, SessionReason, Stands, Work, work}
 use Rattle.keyline.specs.Program.{EditsBy, given_by, given_to, helper_of, PlaysBytes, start_by}
-use Rattle.keyline.specs.SessionEffects.{CutSessionEvent, SessionReason, Stands, Work, work}
-use Rattle.keyline.specs.SessionRuns.{loads}
+use Rattle.keyline.specs.SessionCalls.{loads}
 use Rattle.keyline.specs.Sessions.{Given, SessionState, each}
 use Rattle.keyline.specs.declared.options.Options.{Options}
 use Rattle.keyline.specs.declared.session.Ended.{Ended}
@@ -115,17 +114,17 @@ module _ {F S D L T : Type 0} (text_of : F → Feed) (k : KnownDevices S D L) (h
       given_as _ _ _ _ _ _ _ _ _ _ refl refl refl opens.screen opens.helper_is in
       let start_is : session_state_of k desk ≡ start =
       state_first text_of k config history (helper_of config options words) source options.columns display lines desk old bytes last opens always text_is coming_is last_is in
-      let bound : (desk_feed k desk).bound ≡ 2 ^ 63 + count_of_kept (byte_ahead_of desk.reader) =
-      ap (λ (s : S). (k.feed s).bound + count_of_kept (byte_ahead_of desk.reader)) opens.source_is ∙ ap (λ b. b + count_of_kept (byte_ahead_of desk.reader)) bound_is in
+      let bound : (desk_feed k desk).bound ≡ 2 ^ 63 + option_len (byte_ahead_of desk.reader) =
+      ap (λ (s : S). (k.feed s).bound + option_len (byte_ahead_of desk.reader)) opens.source_is ∙ ap (λ b. b + option_len (byte_ahead_of desk.reader)) bound_is in
       let left = (desk_feed k left_desk).coming in
       record {
-        kept = left_desk.history;
-        reader = left_desk.reader;
+        desk = left_desk;
         why = why;
-        saved = end.saved;
+        display = ended.display;
+        lines = ended.lines;
         loaded = subst (λ (f : Feed). IsOk (loads config f)) text_is (opens.loaded.whole always);
         goes = λ n low.
-            let went = edits.runs.takes.goes (subst (λ (s : S). IsTrue (k.feed s).told) end.source_is agrees) n (below (2 ^ 63) (count_of_kept (byte_ahead_of desk.reader)) (desk_feed k desk).bound n (ap count_of_kept opens.kept) bound low) in
+            let went = edits.runs.takes.goes (subst (λ (s : S). IsTrue (k.feed s).told) end.source_is agrees) n (below (2 ^ 63) (option_len (byte_ahead_of desk.reader)) (desk_feed k desk).bound n (ap option_len opens.kept) bound low) in
             let G : Given → SessionState → Type 0 = λ g x.
             let lines = session n g (each g) x in
             GoesShown k.shown k.written_in g.config.auto_add_history lines.events (work_of k desk) (work_of k left_desk) (why ≡ lines.answer) (λ e. why ≡ e) in
@@ -140,11 +139,7 @@ module _ {F S D L T : Type 0} (text_of : F → Feed) (k : KnownDevices S D L) (h
             (ap k.shown opens.display_is ∙ had_drawn) (drawn_is ∙ ap k.shown end.display_is) (ap k.written_in opens.lines_are ∙ had_wrote) (wrote_is ∙ ap k.written_in end.lines_are) r);
         text = text;
         blank = blank;
-        saves = end.saves;
-        source_is = end.source_is;
-        ahead_is = end.ahead_is;
-        unread_is = end.unread_is;
-        ending_is = end.ending_is;
+        finishes = end;
         reason = reason_still g (k.feed ended.source).failed (k.show_failed ended.display) (k.show_failed display') (k.write_failed ended.lines) (k.write_failed lines')
             why shows writes
             (rw (end.source_is, end.display_is, end.lines_are) (subst (λ (g : Given). DeskReason k g left_desk why) given_is edits.runs.takes.reason));

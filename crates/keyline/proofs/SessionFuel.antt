@@ -1,13 +1,13 @@
 -- Lines and sessions by two amounts of fuel above the keys and pastes to come are one.
 use Rattle.std.proofs.Common.{ℕ, zero, suc, ◌<◌, Bool, true, false, List, refl, ap, arith, ◌≡◌, ◌≤◌, ◌∷◌, ◌++◌, sym, ◌∙◌, Result, Ok, Err}
 use Rattle.script.specs.Scripts.{Ends, Asks, then}
-use Rattle.line_editor.specs.LineScripts.{Keys, TurnStart, LineAsk, LineScript, script_of_keys, line_script, meet_script, turn_script, line_script_after, turns_script, Begins, Makes, LineAnswer, LineState, answer_at, turn_start, left_at, line_begun, played_from}
+use Rattle.line_editor.specs.LineScripts.{TurnStart, turn_start, Keys, LineAsk, LineScript, script_of_keys, line_script, meet_script, turn_script, line_script_after, turns_script, Begins, Makes, LineAnswer, LineState, answer_at, left_at, line_begun, played_from}
 use Rattle.line_editor.specs.NextCommand.{with_group_begun}
 use Rattle.line_editor.specs.declared.commands.Status.{Status}
 use Rattle.line_editor.specs.declared.commands.Status.TheVariants.{Proceed, Submit}
 use Rattle.line_keys.specs.CustomBindings.{Custom}
-use Rattle.line_keys.specs.KeyFeeds.{Key, InputItem, InputOf, Paste, behind, item_at}
-use Rattle.line_keys.specs.NextPhrase.{phrase_from}
+use Rattle.line_keys.specs.KeyFeeds.{Key, InputItem, InputOf, Paste, behind, item_at, Coming, Pressed, Pasted, CutOff, Ends as Ended, Refused, coming_after_error, refusal_of}
+use Rattle.line_keys.specs.InputStates.{phrase_from}
 use Rattle.line_keys.specs.PhraseScripts.{Reads, KeyScript, after, and_then, steps, with_read, Input}
 use Rattle.line_keys.specs.declared.command.Cmd.{Cmd}
 use Rattle.line_keys.specs.declared.key.KeyEvent.{KeyEvent}
@@ -16,10 +16,9 @@ use Rattle.line_config.specs.declared.errors.ReadlineError.{ReadlineError}
 use Rattle.line_config.specs.declared.errors.ReadlineError.TheVariants.{Eof}
 use Rattle.line_editor.specs.LineRun.{first_line_state}
 use Rattle.line_editor.specs.Values.{Setting}
-use Rattle.line_keys.specs.Coming.{Coming, Pressed, Pasted, CutOff, Ends as Ended, Refused, coming_after_error, refusal_of}
 use Rattle.keyline.specs.Events.{Begins as LineBegins, Course, end_events, events_first, events_of, course_after_line, line_course, line_play_in, session}
-use Rattle.keyline.specs.Sessions.{Given, LineGiven, SessionState, for_line, setting_in, state_after}
-use Rattle.keyline.specs.Fuel.{keys_and_pastes}
+use Rattle.keyline.specs.Sessions.{Given, LineGiven, SessionState, for_line, history_after, setting_in, state_at}
+use Rattle.keyline.specs.SessionLaws.{keys_and_pastes}
 use Rattle.line_editor.proofs.ToldLemmas.{PlayedOf, played_each}
 use Rattle.keyline.proofs.PhraseFuel.{Alike, Next, Plays, after_alike, alike_itself, is_key_read, next_map, next_read, s_phrase_from, s_with_group, then_alike}
 use Rattle.line_keys.specs.Refreshing.{Shown}
@@ -154,7 +153,7 @@ module _ (s : Setting) where
 abbrev course_by : Given → SessionState → Played LineAsk LineState ReadlineError (List ℕ) → Course (Result (List ℕ) ReadlineError × SessionState)
 course_by g x p = record {
   events = LineBegins g.screen ∷ (events_of g x p.asks ++ end_events p.answer);
-  answer = (p.answer, state_after g.config.auto_add_history p.answer p.rest.ring p.rest.modal.query p.rest.coming x);
+  answer = (p.answer, state_at p.rest.ring p.rest.modal.query (history_after g.config.auto_add_history p.answer x.history) p.rest.coming);
 }
 
 line_is : (n m : ℕ) (g : Given) (x : SessionState) → keys_and_pastes x.coming < n → keys_and_pastes x.coming < m → line_course n g x ≡ line_course m g x
@@ -177,8 +176,8 @@ session_is (suc n) (suc m) g at x low low' =
     let s = setting_in here x.history.kept.entries in
     let others = λ (line : ℕ). at (suc line) in
     ap (events_first line.events)
-    (going_same (session n g others) (session m g others) p.answer (state_after here.config.auto_add_history p.answer p.rest.ring p.rest.modal.query p.rest.coming x)
+    (going_same (session n g others) (session m g others) p.answer (state_at p.rest.ring p.rest.modal.query (history_after here.config.auto_add_history p.answer x.history) p.rest.coming)
     (λ text ok. let less = line_falls s n here.custom (first_line_state s x.ring x.query x.coming) text ok in
-    session_is n m g others (state_after here.config.auto_add_history p.answer p.rest.ring p.rest.modal.query p.rest.coming x) (omega arith) (omega arith)))
+    session_is n m g others (state_at p.rest.ring p.rest.modal.query (history_after here.config.auto_add_history p.answer x.history) p.rest.coming) (omega arith) (omega arith)))
     ∙ ap (λ (line : Course (Result (List ℕ) ReadlineError × SessionState)). events_first line.events (course_after_line (session m g others) line.answer)) (line_is (suc n) (suc m) here x low low')
 session_is _ _ g at x low low' = absurd (omega arith)

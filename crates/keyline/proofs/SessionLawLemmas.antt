@@ -16,7 +16,7 @@ use Rattle.line_help.proofs.NewestLemmas.{all_new, length-newest, newest_behind}
 use Rattle.line_screen.specs.ScreenCalls.{Screen, ruler_of}
 use Rattle.keyline.specs.Events.{Course, Begins, Takes, Helped, Draws, asks_events, end_events, events_first, course_after_line, line_course, lines_kept, own_events, session, step_events}
 use Rattle.keyline.specs.SessionLaws.{at_columns, prompt_column, event_without_columns, ColumnsAreFree, LineColumnsAreFree, lines_taken, LastAreKept}
-use Rattle.keyline.specs.Sessions.{Given, SessionState, each, setting_in, state_after}
+use Rattle.keyline.specs.Sessions.{Given, SessionState, each, history_after, setting_in, state_at}
 use Rattle.keyline.specs.Shows.{calls_by_screen}
 
 -- ---- columns
@@ -65,7 +65,7 @@ course_on n g x s a =
     let p = line_played n a g.custom x.ring x.query x.coming in
     record {
       events = Begins s ∷ (asks_events s a (fresh s.mode) k p.asks ++ end_events p.answer);
-      answer = (p.answer, state_after g.config.auto_add_history p.answer p.rest.ring p.rest.modal.query p.rest.coming x);
+      answer = (p.answer, state_at p.rest.ring p.rest.modal.query (history_after g.config.auto_add_history p.answer x.history) p.rest.coming);
     }
 
 record Alike {X : Type 0} (c d : Course X) : Type 0 where

@@ -7,8 +7,7 @@ use Rattle.line_keys.specs.CustomBindings.{HandlerFails}
 use Rattle.line_screen.specs.ScreenCalls.{sink_of}
 use Rattle.keyline.specs.Desks.{TakesLine, TakesLines, DeskReason, desk_feed, session_state_of, work_of}
 use Rattle.keyline.specs.Events.{Course, events_first, course_after_line, line_course, session}
-use Rattle.keyline.specs.KnownDevices.{KnownDevices, HasPassedOn, HasPassedLines}
-use Rattle.keyline.specs.SessionEffects.{AreDone, Went, Work}
+use Rattle.keyline.specs.SessionEffects.{KnownDevices, HasPassedOn, HasPassedLines, AreDone, Went, Work}
 use Rattle.keyline.specs.Sessions.{Given, LineGiven, SessionState, for_line}
 use Rattle.keyline.specs.Shows.{EachShown}
 use Rattle.keyline.specs.declared.desk.Desk.{Desk}

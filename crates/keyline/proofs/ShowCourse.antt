@@ -1,18 +1,17 @@
 -- The display over a session's events, and over a command and a turn.
 use Rattle.std.proofs.Common.{◌≡◌, ℕ, zero, suc, ◌≤◌, Bool, true, false, List, [], ◌∷◌, ◌++◌, map, Option, None, Some, Result, Ok, Err, refl, sym, ap, ◌∙◌, subst, append_assoc, append-nil, arith, if◌then◌else◌}
-use Rattle.std.specs.List.{filter, flat_map}
-use Rattle.std.specs.Prelude.{⊤}
+use Rattle.std.specs.List.{concat, filter, flat_map}
+use Rattle.std.specs.Prelude.{⊤, OnOk}
 use Rattle.std.proofs.lemmas.Grind.{flat_map-append}
 use Rattle.line_buffer.specs.declared.layout.Layout.{Layout}
 use Rattle.line_config.specs.declared.errors.ReadlineError.{ReadlineError}
 use Rattle.line_editor.specs.RenderCalls.{Marks}
-use Rattle.line_editor.specs.LineEndings.{breaks_after}
-use Rattle.line_editor.specs.Leads.{BeginShows, EndShows, LeadsAlong, CommandLeads, TurnLeads}
+use Rattle.line_editor.specs.Leads.{BeginShows, LeadsAlong, CommandLeads, TurnLeads}
 use Rattle.line_editor.specs.LineScripts.{Begins as TurnBegins, Keys, LineAsk, LineState, effect_at, left_at}
 use Rattle.line_editor.specs.ModalCommands.{modal_seen, sight_in_mode}
 use Rattle.line_editor.specs.Modal.{Modal}
 use Rattle.line_editor.specs.Redraws.{calls_of_redraw, fresh}
-use Rattle.line_editor.specs.LineRun.{first_line_state}
+use Rattle.line_editor.specs.LineRun.{first_line_state, breaks_after}
 use Rattle.line_editor.specs.Sights.{Sight, no_sight, sight, sight_all, sight_drawn, sight_with, FitsAll, Turns, sight_of, info_after}
 use Rattle.line_editor.specs.EditSteps.{one}
 use Rattle.line_editor.specs.Values.{EditStep, Setting, Value, shown_marks, Effect}
@@ -28,16 +27,16 @@ use Rattle.line_screen.specs.Display.{Display, Placed, at_cursor}
 use Rattle.line_screen.specs.Drawing.{row_break, next_row}
 use Rattle.line_screen.specs.Laws.{widths}
 use Rattle.line_screen.proofs.LawLemmas.{start_is_empty, shown_is_meant, line_ends_anywhere, ended_line_stays}
-use Rattle.keyline.specs.Events.{SessionEvent, Course, Begins, Draws, Rests, Breaks, all_of, asks_events, end_events, events_of, course_after_line, line_course, own_events, line_play_in, session, step_events}
+use Rattle.keyline.specs.Events.{SessionEvent, Course, Begins, Draws, Rests, Breaks, asks_events, end_events, events_of, course_after_line, line_course, own_events, line_play_in, session, step_events}
 use Rattle.keyline.specs.Sessions.{Given, LineGiven, SessionState, for_line, setting_in}
-use Rattle.keyline.specs.Shows.{picture, place_in, view_in, DisplayHolds, LowAll, top_by, top_drawn, top_after, next_top, above_by, above_drawn, above_after, calls_by_screen, bytes_for, Face, face, blank, face_with_drawing, face_on_new_row, below, IsAtRest, BlankIsAtRest, HasMeaning, MomentShown, EachShown, SessionsShow, Lead, sight_behind, CommandsShow, TurnsShow}
+use Rattle.keyline.specs.Shows.{picture, place_in, view_in, DisplayHolds, LowAll, kept_by, kept_drawn, kept_after, next_top, calls_by_screen, bytes_for, Face, face, blank, face_with_drawing, face_on_new_row, below, IsAtRest, BlankIsAtRest, HasMeaning, MomentShown, EachShown, SessionsShow, Lead, sight_behind, CommandsShow, TurnsShow}
 use Rattle.keyline.proofs.ShowSteps.{fresh_holds, step}
 use Rattle.line_editor.specs.Commands.{effect}
 use Rattle.line_editor.proofs.CommandsLead.{commands_lead}
 use Rattle.line_keys.specs.declared.command.Cmd.{Cmd}
 use Rattle.line_keys.specs.declared.command.Cmd.TheVariants.{Interrupt}
 
-pub all_of_map : {A : Type 0} (f : A → List ℕ) (xs : List A) → all_of (map f xs) ≡ flat_map f xs
+pub all_of_map : {A : Type 0} (f : A → List ℕ) (xs : List A) → concat (map f xs) ≡ flat_map f xs
 all_of_map f [] = refl
 all_of_map f (x ∷ xs) = ap (λ zs. f x ++ zs) (all_of_map f xs)
 
@@ -47,16 +46,16 @@ some_same e = cc
 module _ (s : Screen) (low : 2 ≤ s.columns) (high : s.columns ≤ 1000) (own : List ℕ) where
   -- steps one after the other
   pub steps : (bytes : List ℕ) (over : List Placed) (top : ℕ) (l : Layout) (x : Sight) (rs : List EditStep) → DisplayHolds s bytes over top l x → FitsAll own x rs → LowAll s x rs
-      → DisplayHolds s (bytes ++ bytes_for s l rs) (above_after rs over) (top_after rs top) (calls_by_screen s l rs).layout (sight_all x rs)
+      → DisplayHolds s (bytes ++ bytes_for s l rs) (kept_after rs over []) (kept_after rs top 0) (calls_by_screen s l rs).layout (sight_all x rs)
   steps bytes over top l x [] h fits rows = subst (λ b. DisplayHolds s b over top l x) (sym (append-nil bytes)) h
   steps bytes over top l x (r ∷ rs) h fits rows =
       let a = one (ruler_of s) l r in
       let new = flat_map (bytes_of s) a.calls in
       let first = step s low high own bytes over top l x r h fits.0 rows.0 in
-      let rest = steps (bytes ++ new) (above_by r over) (top_by r top) a.layout (sight x r) rs first fits.1 rows.1 in
+      let rest = steps (bytes ++ new) (kept_by r over []) (kept_by r top 0) a.layout (sight x r) rs first fits.1 rows.1 in
       let joined : (bytes ++ new) ++ bytes_for s a.layout rs ≡ bytes ++ bytes_for s l (r ∷ rs) =
       append_assoc bytes new (bytes_for s a.layout rs) ∙ ap (λ b. bytes ++ b) (sym (flat_map-append (bytes_of s) a.calls (calls_by_screen s a.layout rs).calls)) in
-      subst (λ b. DisplayHolds s b (above_after (r ∷ rs) over) (top_after (r ∷ rs) top) (calls_by_screen s l (r ∷ rs)).layout (sight_all x (r ∷ rs))) joined rest
+      subst (λ b. DisplayHolds s b (kept_after (r ∷ rs) over []) (kept_after (r ∷ rs) top 0) (calls_by_screen s l (r ∷ rs)).layout (sight_all x (r ∷ rs))) joined rest
 
   place_by : (x : Sight) (b : Bool) → x.ended ≡ b → place_in s x ≡ (if b then finish_of s.columns (widths s) (picture x) else cursor_of s.columns (widths s) (picture x))
   place_by x b e = ap (λ t. if t then finish_of s.columns (widths s) (picture x) else cursor_of s.columns (widths s) (picture x)) e
@@ -104,9 +103,9 @@ module _ (s : Screen) (low : 2 ≤ s.columns) (high : s.columns ≤ 1000) (own :
   steps_shown later [] bytes over top l x h fits next = next bytes over top h
   steps_shown later (DrawStep v m redraw ∷ rs) bytes over top l x h fits next = λ rows.
       let a = calls_of_redraw (ruler_of s) (shown_marks v m) l redraw in
-      let new = bytes ++ all_of (map (bytes_of s) a.calls) in
-      let over' = above_drawn redraw over in
-      let top' = top_drawn redraw top in
+      let new = bytes ++ concat (map (bytes_of s) a.calls) in
+      let over' = kept_drawn redraw over [] in
+      let top' = kept_drawn redraw top 0 in
       let y = sight_drawn x (shown_marks v m) redraw in
       let done : DisplayHolds s new over' top' a.layout y =
       subst (λ sent. DisplayHolds s (bytes ++ sent) over' top' a.layout y) (sym (all_of_map (bytes_of s) a.calls)) (step s low high own bytes over top l x (DrawStep v m redraw) h fits.0 rows) in
@@ -134,7 +133,7 @@ module _ (s : Screen) (low : 2 ≤ s.columns) (high : s.columns ≤ 1000) (a : S
 
   -- what follows on the asks
   abbrev Follows : Result (List ℕ) ReadlineError → List SessionEvent → Type 0
-  Follows o later = (bytes : List ℕ) (over : List Placed) (top : ℕ) (l : Layout) (x : Sight) → DisplayHolds s bytes over top l x → EndShows a o x → EachShown (face s bytes top over x) later
+  Follows o later = (bytes : List ℕ) (over : List Placed) (top : ℕ) (l : Layout) (x : Sight) → DisplayHolds s bytes over top l x → OnOk o (x.ended ≡ true) → EachShown (face s bytes top over x) later
 
   asks_shown : (o : Result (List ℕ) ReadlineError) (later : List SessionEvent) → Follows o later → (asks : List LineAsk) (k : LineState) (bytes : List ℕ) (over : List Placed) (top : ℕ) (l : Layout) (x : Sight)
       → DisplayHolds s bytes over top l x → LeadsAlong a o k x asks → EachShown (face s bytes top over x) (asks_events s a l k asks ++ later)
@@ -238,7 +237,7 @@ lines_show n g x f rest =
 -- steps that lead from one sight to the other
 shown_by : (s : Screen) → 2 ≤ s.columns → s.columns ≤ 1000 → (own : List ℕ) (x y : Sight) (xs : List EditStep) → Turns own x xs y → Lead s x xs y
 shown_by s low high own x y xs t bytes over top l h rows =
-    subst (DisplayHolds s (bytes ++ bytes_for s l xs) (above_after xs over) (top_after xs top) (calls_by_screen s l xs).layout) t.leads
+    subst (DisplayHolds s (bytes ++ bytes_for s l xs) (kept_after xs over []) (kept_after xs top 0) (calls_by_screen s l xs).layout) t.leads
     (steps s low high own bytes over top l x xs h t.fits rows)
 
 command_turns : (cmd : Cmd) (a : Setting) (v : Value) (info : Option (List ℕ)) (e : Effect) → CommandLeads cmd a v e

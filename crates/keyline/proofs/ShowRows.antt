@@ -54,7 +54,7 @@ unfolding row drawing own a
 row_stands = record {
   fits = (
     (λ e. refl),
-    ((refl, refl, refl, record { typed = refl; prompt_is = refl; text_is = refl; behind = refl }, record { unstyled = refl; still = refl; same_prompt = refl; same = λ none. refl }), (tt, ((λ e. refl), (refl, (refl, (tt, tt)))))),
+    ((record { given = refl; own_is = refl; prompt_is = refl; unstyled = refl; still = refl; same_prompt = refl; same = λ none. refl }, refl, record { typed = refl; text_is = refl; behind = refl }), (tt, ((λ e. refl), (refl, (refl, (tt, tt)))))),
   );
   leads = refl;
 }

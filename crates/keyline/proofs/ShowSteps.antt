@@ -10,7 +10,7 @@ use Rattle.line_buffer.specs.Printable.{is_printable, is_plain, is_plain_byte, a
 use Rattle.line_editor.specs.Characters.{is_apart, stands_apart, starts_apart, begins_apart}
 use Rattle.line_editor.specs.RenderCalls.{Marks, Call}
 use Rattle.line_editor.specs.SharedStyles.{styles_to}
-use Rattle.line_editor.specs.Sights.{Sight, SameStyles, TakenFits, ErasedFits, TakenOutFits, RewrittenFits, DrawnFromFits, PartSpans, drawn_spans, sight_with, sight_as, no_sight, sight, TypedFits, AppendedFits, PutInFits, Fits}
+use Rattle.line_editor.specs.Sights.{Sight, InPart, TakenFits, ErasedFits, TakenOutFits, RewrittenFits, DrawnFromFits, PartSpans, drawn_spans, sight_with, sight_as, no_sight, sight, TypedFits, AppendedFits, PutInFits, Fits}
 use Rattle.line_editor.proofs.CharacterRanges.{plain_apart}
 use Rattle.line_editor.proofs.KillLemmas.{plain_low}
 use Rattle.line_screen.proofs.ApartLemmas.{apart_scalar}
@@ -41,7 +41,7 @@ use Rattle.line_screen.proofs.Leading.{line_cursor, line_end, line_finish, plain
 use Rattle.line_screen.proofs.ListLemmas.{filter_none, list_all_true}
 use Rattle.line_screen.proofs.ShortLemmas.{typing_leads, appending_leads, killing_leads, erasing_leads, putting_in_leads, taking_out_leads, drawing_rest_leads, part_above, writing_over_leads}
 use Rattle.std.proofs.lemmas.List.{take_at, drop_at}
-use Rattle.keyline.specs.Shows.{picture, place_in, view_in, DisplayHolds, Low, LowStep, top_by, above_by}
+use Rattle.keyline.specs.Shows.{picture, place_in, view_in, DisplayHolds, Low, LowStep, kept_by}
 
 -- ---- where no cluster lies over a place
 
@@ -74,10 +74,10 @@ char_begins text c h =
 
 -- ---- each short way
 
-module _ (x : Sight) (m : Option Marks) (prompt text : List ℕ) (at : ℕ) (k : SameStyles x m prompt text at) where
-  rest_fits : (from : ℕ) (before gone rest : List ℕ) → prompt ≡ x.prompt → x.line ≡ before ++ gone → text ≡ before ++ rest → from ≡ length before
+module _ (x : Sight) (m : Option Marks) (prompt text : List ℕ) (at : ℕ) {own : List ℕ} (k : InPart own x m prompt text at) where
+  rest_fits : (from : ℕ) (before gone rest : List ℕ) → x.line ≡ before ++ gone → text ≡ before ++ rest → from ≡ length before
       → begins_apart before gone ≡ true → begins_apart before rest ≡ true → DrawnFromFits x m prompt from text at None
-  rest_fits from before gone rest prompt_is whole text_is from_is gone_apart rest_apart = record {
+  rest_fits from before gone rest whole text_is from_is gone_apart rest_apart = record {
     before = before;
     gone = gone;
     rest = rest;
@@ -86,38 +86,38 @@ module _ (x : Sight) (m : Option Marks) (prompt text : List ℕ) (at : ℕ) (k :
     from_is = from_is;
     gone_apart = gone_apart;
     rest_apart = rest_apart;
-    prompt_is = prompt_is;
+    prompt_is = k.prompt_is;
     same_styles = ap (styles_to from) (k.still ∙ sym k.unstyled);
     prompt_styles = k.same_prompt;
   }
 
-  plain_fits : (from : ℕ) (before gone rest : List ℕ) → prompt ≡ x.prompt → x.line ≡ before ++ gone → text ≡ before ++ rest → from ≡ length before
+  plain_fits : (from : ℕ) (before gone rest : List ℕ) → x.line ≡ before ++ gone → text ≡ before ++ rest → from ≡ length before
       → is_plain before ≡ true → is_plain gone ≡ true → is_plain rest ≡ true → DrawnFromFits x m prompt from text at None
-  plain_fits from before gone rest prompt_is whole text_is from_is first last new = rest_fits from before gone rest prompt_is whole text_is from_is (plain_begins before gone first last) (plain_begins before rest first new)
+  plain_fits from before gone rest whole text_is from_is first last new = rest_fits from before gone rest whole text_is from_is (plain_begins before gone first last) (plain_begins before rest first new)
 
   both_plain : (before gone : List ℕ) → x.line ≡ before ++ gone → is_plain x.line ≡ true → (is_plain before ≡ true) × (is_plain gone ≡ true)
   both_plain before gone whole plain = and_parts (is_plain before) (is_plain gone) (sym (list_all-append is_plain_byte before gone) ∙ ap is_plain (sym whole) ∙ plain)
 
-  taken_fits : (count : ℕ) → TakenFits x prompt count text at → DrawnFromFits x m prompt at text at None
+  taken_fits : (count : ℕ) → TakenFits x count text at → DrawnFromFits x m prompt at text at None
   taken_fits count t =
       let parts = and_parts (at == length text) (is_plain text) t.end in
-      plain_fits at text t.killed [] t.prompt_is t.whole (sym (append-nil text)) (eqb-true at (length text) parts.0) parts.1 (all_plain t.killed t.printable) refl
+      plain_fits at text t.killed [] t.whole (sym (append-nil text)) (eqb-true at (length text) parts.0) parts.1 (all_plain t.killed t.printable) refl
 
-  erased_fits : (c : ℕ) → ErasedFits x prompt c text at → DrawnFromFits x m prompt at text at None
+  erased_fits : (c : ℕ) → ErasedFits x c text at → DrawnFromFits x m prompt at text at None
   erased_fits c t =
-      rest_fits at text (encode_utf8 c) [] t.prompt_is t.whole (sym (append-nil text)) t.end (char_begins text c t.apart) (none_begins text (and_parts (is_utf8 text) _ t.apart).0)
+      rest_fits at text (encode_utf8 c) [] t.whole (sym (append-nil text)) t.end (char_begins text c t.apart) (none_begins text (and_parts (is_utf8 text) _ t.apart).0)
 
-  taken_out_fits : (count : ℕ) → TakenOutFits x prompt count text at → DrawnFromFits x m prompt at text at None
+  taken_out_fits : (count : ℕ) → TakenOutFits x count text at → DrawnFromFits x m prompt at text at None
   taken_out_fits count t =
       let parts = both_plain t.before (t.killed ++ t.rest) t.whole t.plain in
       let rest = (and_parts (is_plain t.killed) (is_plain t.rest) (sym (list_all-append is_plain_byte t.killed t.rest) ∙ parts.1)).1 in
-      plain_fits at t.before (t.killed ++ t.rest) t.rest t.prompt_is t.whole t.text_is t.at parts.0 parts.1 rest
+      plain_fits at t.before (t.killed ++ t.rest) t.rest t.whole t.text_is t.at parts.0 parts.1 rest
 
-  rewritten_fits : (from upto : ℕ) → RewrittenFits x prompt from upto text at → DrawnFromFits x m prompt from text at None
+  rewritten_fits : (from upto : ℕ) → RewrittenFits x from upto text → DrawnFromFits x m prompt from text at None
   rewritten_fits from upto t =
       let parts = both_plain t.before (t.gone ++ t.rest) t.whole t.plain in
       let rest = (and_parts (is_plain t.gone) (is_plain t.rest) (sym (list_all-append is_plain_byte t.gone t.rest) ∙ parts.1)).1 in
-      plain_fits from t.before (t.gone ++ t.rest) (t.letters ++ t.rest) t.prompt_is t.whole t.text_is t.from_is parts.0 parts.1
+      plain_fits from t.before (t.gone ++ t.rest) (t.letters ++ t.rest) t.whole t.text_is t.from_is parts.0 parts.1
       (list_all-append is_plain_byte t.letters t.rest ∙ and_from (is_plain t.letters) (is_plain t.rest) (all_plain t.letters t.printable) rest)
 
 same_if : (a b : Position) → same_cell a b ≡ true → a ≡ b
@@ -147,16 +147,16 @@ none_above_first : (xs : List Placed) → filter (above 0) xs ≡ []
 none_above_first xs = filter_none (above 0) xs (list_all_true (λ p. not (above 0 p)) not_above_first xs)
 
 -- the rest of a line behind what was put in, or taken out; and what replaced other characters
-put_in_rest : (x : Sight) (prompt : List ℕ) (c : ℕ) (text : List ℕ) (at : ℕ) → (t : PutInFits x prompt c text at) → drop at text ≡ t.rest
-put_in_rest x prompt c text at t =
+put_in_rest : (x : Sight) (c : ℕ) (text : List ℕ) (at : ℕ) → (t : PutInFits x c text at) → drop at text ≡ t.rest
+put_in_rest x c text at t =
     let count = length-append t.before (c ∷ []) in
     ap₂ drop t.behind (t.text_is ∙ sym (append_assoc t.before (c ∷ []) t.rest)) ∙ drop_at (t.before ++ c ∷ []) t.rest (length t.before + 1) (omega arith)
 
-taken_out_rest : (x : Sight) (prompt : List ℕ) (count : ℕ) (text : List ℕ) (at : ℕ) → (t : TakenOutFits x prompt count text at) → drop at text ≡ t.rest
-taken_out_rest x prompt count text at t = ap₂ drop t.at t.text_is ∙ drop_at t.before t.rest (length t.before) refl
+taken_out_rest : (x : Sight) (count : ℕ) (text : List ℕ) (at : ℕ) → (t : TakenOutFits x count text at) → drop at text ≡ t.rest
+taken_out_rest x count text at t = ap₂ drop t.at t.text_is ∙ drop_at t.before t.rest (length t.before) refl
 
-pub rewritten_letters : (x : Sight) (prompt : List ℕ) (from upto : ℕ) (text : List ℕ) (at : ℕ) → (t : RewrittenFits x prompt from upto text at) → slice_range text from upto ≡ t.letters
-rewritten_letters x prompt from upto text at t =
+pub rewritten_letters : (x : Sight) (from upto : ℕ) (text : List ℕ) → (t : RewrittenFits x from upto text) → slice_range text from upto ≡ t.letters
+rewritten_letters x from upto text t =
     let first = t.from_is in
     let last = t.upto_is in
     let count : upto - from ≡ length t.letters = omega arith in
@@ -392,21 +392,21 @@ module _ (s : Screen) (low : 2 ≤ s.columns) (high : s.columns ≤ 1000) where
     short_or_rest from short true t rows holds = holds refl
     short_or_rest from short false t rows holds = drawn_from_holds bytes over top m l x prompt from text at None h t rows
 
-    module _ (given : x.given ≡ true) (k : SameStyles x m prompt text at) where
+    module _ {own : List ℕ} (k : InPart own x m prompt text at) where
       no_styles : (picture x).styles.line ≡ []
       no_styles = ap (map span_of) k.unstyled
 
-      bare_is : (line : List ℕ) (place : ℕ) → not l.has_info ≡ true → prompt ≡ x.prompt → text ≡ line → at ≡ place → now ≡ bare_sight x.spans x.prompt line place
-      bare_is line place free prompt_is text_is place_is =
+      bare_is : (line : List ℕ) (place : ℕ) → not l.has_info ≡ true → text ≡ line → at ≡ place → now ≡ bare_sight x.spans x.prompt line place
+      bare_is line place free text_is place_is =
           ap (λ spans. bare_sight spans prompt text at) (k.same (no_info x.info (sym h.info_is ∙ not-true l.has_info free)))
-          ∙ ap (λ p. bare_sight x.spans p text at) prompt_is ∙ ap (λ t. bare_sight x.spans x.prompt t at) text_is ∙ ap (bare_sight x.spans x.prompt line) place_is
+          ∙ ap (λ p. bare_sight x.spans p text at) k.prompt_is ∙ ap (λ t. bare_sight x.spans x.prompt t at) text_is ∙ ap (bare_sight x.spans x.prompt line) place_is
 
       -- a call that leads to a bare line, and changes nothing of the layout but cursor and end
-      short_holds : (line : List ℕ) (place : ℕ) (call : Call) (cursor end : Position) → not l.has_info ≡ true → prompt ≡ x.prompt → text ≡ line → at ≡ place
+      short_holds : (line : List ℕ) (place : ℕ) (call : Call) (cursor end : Position) → not l.has_info ≡ true → text ≡ line → at ≡ place
           → (let y = bare_sight x.spans x.prompt line place in LeadsView s.columns (widths s) old call (record { shown = picture y; top = top; place = cursor }) → call ≢ ClearScreen
           → cursor ≡ cursor_of s.columns (widths s) (picture y) → end ≡ finish_of s.columns (widths s) (picture y)
           → DisplayHolds s (bytes ++ flat_map (bytes_of s) (call ∷ [])) over top (record l { cursor = cursor; end = end }) now)
-      short_holds line place call cursor end free prompt_is text_is place_is leads other cursor_is end_is =
+      short_holds line place call cursor end free text_is place_is leads other cursor_is end_is =
           let y = bare_sight x.spans x.prompt line place in
           let new = bytes ++ flat_map (bytes_of s) (call ∷ []) in
           let layout = record l { cursor = cursor; end = end } in
@@ -417,13 +417,13 @@ module _ (s : Screen) (low : 2 ≤ s.columns) (high : s.columns ≤ 1000) where
             finish = end_is;
             prompt_size = h.prompt_size;
             info_is = not-true l.has_info free;
-            given_is = h.given_is ∙ given;
+            given_is = h.given_is ∙ k.given;
           } in
-          subst (DisplayHolds s new over top layout) (sym (bare_is line place free prompt_is text_is place_is)) done
+          subst (DisplayHolds s new over top layout) (sym (bare_is line place free text_is place_is)) done
 
       -- ---- a character at the line's end
 
-      typed_holds : (c : ℕ) → x.ended ≡ false → TypedFits x prompt c text at → may_type (ruler_of s) l ≡ true → Shows (char_call l c)
+      typed_holds : (c : ℕ) → x.ended ≡ false → TypedFits x c text at → may_type (ruler_of s) l ≡ true → Shows (char_call l c)
       typed_holds c unended t e =
           let letter = and_parts (is_printable c) (at_simple_end true x.line x.place) t.typed in
           let last : x.place ≡ length x.line = eqb-true x.place (length x.line) (and_parts (x.place == length x.line) _ letter.1).0 in
@@ -434,21 +434,21 @@ module _ (s : Screen) (low : 2 ≤ s.columns) (high : s.columns ≤ 1000) where
           let cursor_is : to ≡ cursor_of s.columns (widths s) (picture y) = typed_place old (record { shown = picture y; top = top; place = to }) c leads in
           let end : y.place ≡ length line = let count = length-append x.line (c ∷ []) in omega arith in
           subst (λ xs. DisplayHolds s (bytes ++ flat_map (bytes_of s) (Write xs ∷ [])) over top (char_call l c).layout now) (sym (encode_ascii c (small c letter.0)))
-          (short_holds line (x.place + 1) (Write (c ∷ [])) to to (and_parts (not l.has_info) (fits_in_row s.columns l.cursor) e).0 t.prompt_is t.text_is t.behind leads (λ e. cc) cursor_is (cursor_is ∙ sym (end_is_cursor (picture y) refl end)))
+          (short_holds line (x.place + 1) (Write (c ∷ [])) to to (and_parts (not l.has_info) (fits_in_row s.columns l.cursor) e).0 t.text_is t.behind leads (λ e. cc) cursor_is (cursor_is ∙ sym (end_is_cursor (picture y) refl end)))
 
       -- apart from the line's end
-      appended_holds : (c : ℕ) → x.ended ≡ false → AppendedFits x prompt c text at → Low s now → not l.has_info ≡ true → Shows (append_call (ruler_of s) l c)
+      appended_holds : (c : ℕ) → x.ended ≡ false → AppendedFits x c text at → Low s now → not l.has_info ≡ true → Shows (append_call (ruler_of s) l c)
       appended_holds c unended t rows free =
           let tail = encode_utf8 c in
           let line = x.line ++ tail in
-          let low_y : Low s (bare_sight x.spans x.prompt line (length line)) = subst (Low s) (bare_is line (length line) free t.prompt_is t.text_is t.behind) rows in
+          let low_y : Low s (bare_sight x.spans x.prompt line (length line)) = subst (Low s) (bare_is line (length line) free t.text_is t.behind) rows in
           let to = measure_of s.mode s.tab s.columns tail l.cursor in
           let leads = appending_leads s low high l old c (tells bytes over top l x h) (place_if x unended) no_styles t.at t.apart (not-true l.has_info free) low_y.cursor in
-          short_holds line (length line) (Append tail l.cursor) to to free t.prompt_is t.text_is t.behind leads.0 (λ e. cc) leads.1 leads.2
+          short_holds line (length line) (Append tail l.cursor) to to free t.text_is t.behind leads.0 (λ e. cc) leads.1 leads.2
 
       -- ---- a kill at the line's end
 
-      taken_holds : (count : ℕ) → TakenFits x prompt count text at → may_take l count ≡ true → Shows (erase_call l count)
+      taken_holds : (count : ℕ) → TakenFits x count text at → may_take l count ≡ true → Shows (erase_call l count)
       taken_holds count t e =
           let y = bare_sight x.spans x.prompt text (length text) in
           let ends = and_parts (at == length text) (is_plain text) t.end in
@@ -457,43 +457,43 @@ module _ (s : Screen) (low : 2 ≤ s.columns) (high : s.columns ≤ 1000) where
           let leads = killing_leads s low high l old text t.killed (tells bytes over top l x h) h.good.inside no_styles t.whole ends.1 t.printable (subst (λ n. may_take l n ≡ true) t.count_is e) in
           let cursor_is : to ≡ cursor_of s.columns (widths s) (picture y) = killed_place old there old.place to leads in
           subst (λ n. Shows (erase_call l n)) (sym t.count_is)
-          (short_holds text (length text) (MoveAndClearToEol l.cursor to) to to (and_parts (not l.has_info) _ e).0 t.prompt_is refl (eqb-true at (length text) ends.0)
+          (short_holds text (length text) (MoveAndClearToEol l.cursor to) to to (and_parts (not l.has_info) _ e).0 refl (eqb-true at (length text) ends.0)
           (subst (λ p. LeadsView s.columns (widths s) old (MoveAndClearToEol p to) there) (sym h.cursor) leads) (λ e. cc) cursor_is (cursor_is ∙ sym (end_is_cursor (picture y) refl refl)))
 
       -- a character apart, deleted there
-      erased_holds : (c : ℕ) → ErasedFits x prompt c text at → Low s now → may_erase (ruler_of s) l c ≡ true → Shows (erase_call l (measure_of s.mode s.tab s.columns (encode_utf8 c) origin).col)
+      erased_holds : (c : ℕ) → ErasedFits x c text at → Low s now → may_erase (ruler_of s) l c ≡ true → Shows (erase_call l (measure_of s.mode s.tab s.columns (encode_utf8 c) origin).col)
       erased_holds c t rows e =
           let free = (and_parts (not l.has_info) _ e).0 in
           let to = column_back (measure_of s.mode s.tab s.columns (encode_utf8 c) origin).col l.end in
           let y = bare_sight x.spans x.prompt text (length text) in
           let there : View = record { shown = picture y; top = top; place = to } in
-          let leads = erasing_leads s low high l old text c (tells bytes over top l x h) no_styles t.whole t.apart e (inside_cursor y (subst (Low s) (bare_is text (length text) free t.prompt_is refl t.end) rows)).row in
+          let leads = erasing_leads s low high l old text c (tells bytes over top l x h) no_styles t.whole t.apart e (inside_cursor y (subst (Low s) (bare_is text (length text) free refl t.end) rows)).row in
           let cursor_is : to ≡ cursor_of s.columns (widths s) (picture y) = killed_place old there old.place to leads in
-          short_holds text (length text) (MoveAndClearToEol l.cursor to) to to free t.prompt_is refl t.end
+          short_holds text (length text) (MoveAndClearToEol l.cursor to) to to free refl t.end
           (subst (λ p. LeadsView s.columns (widths s) old (MoveAndClearToEol p to) there) (sym h.cursor) leads) (λ e. cc) cursor_is (cursor_is ∙ sym (end_is_cursor (picture y) refl refl))
 
       -- ---- a character put in
 
-      put_in_holds : (c : ℕ) → x.ended ≡ false → PutInFits x prompt c text at → may_put_in (ruler_of s) l (drop at text) ≡ true → Shows (put_in_short (ruler_of s) l c (drop at text))
+      put_in_holds : (c : ℕ) → x.ended ≡ false → PutInFits x c text at → may_put_in (ruler_of s) l (drop at text) ≡ true → Shows (put_in_short (ruler_of s) l c (drop at text))
       put_in_holds c unended t e =
-          let rest_is = put_in_rest x prompt c text at t in
+          let rest_is = put_in_rest x c text at t in
           let cursor = cell_on s.columns l.cursor in
           let end = cell_on s.columns l.end in
           let leads = putting_in_leads s low high l old t.before t.rest c (tells bytes over top l x h) (place_if x unended) no_styles t.plain t.printable t.whole t.at
           (subst (λ r. may_put_in (ruler_of s) l r ≡ true) rest_is e) in
           subst (λ r. Shows (put_in_short (ruler_of s) l c r)) (sym rest_is)
-          (short_holds (t.before ++ c ∷ t.rest) (length t.before + 1) (InsertChar c t.rest l.cursor cursor end) cursor end (and_parts (not l.has_info) _ e).0 t.prompt_is t.text_is t.behind leads.0 (λ e. cc) leads.1 leads.2)
+          (short_holds (t.before ++ c ∷ t.rest) (length t.before + 1) (InsertChar c t.rest l.cursor cursor end) cursor end (and_parts (not l.has_info) _ e).0 t.text_is t.behind leads.0 (λ e. cc) leads.1 leads.2)
 
       -- ---- characters taken out
 
-      taken_out_holds : (count : ℕ) → TakenOutFits x prompt count text at → Low s now
+      taken_out_holds : (count : ℕ) → TakenOutFits x count text at → Low s now
           → (let cell = measure_of s.mode s.tab s.columns (take at text) l.prompt_size in may_take_out (ruler_of s) l cell count (drop at text) ≡ true → Shows (taken_out_short l cell count (drop at text)))
       taken_out_holds count t rows e =
           let cell = measure_of s.mode s.tab s.columns (take at text) l.prompt_size in
           let free = (and_parts (not l.has_info) _ e).0 in
           let line = t.before ++ t.rest in
           let y = bare_sight x.spans x.prompt line (length t.before) in
-          let low_y : Low s y = subst (Low s) (bare_is line (length t.before) free t.prompt_is t.text_is t.at) rows in
+          let low_y : Low s y = subst (Low s) (bare_is line (length t.before) free t.text_is t.at) rows in
           let cell_is : cell ≡ cursor_of s.columns (widths s) (picture y) =
           ap₂ (measure_of s.mode s.tab s.columns) (ap₂ take t.at t.text_is) h.prompt_size ∙ (measures_go_on s some (picture y)).0 low_y.cursor in
           let cut : take (length t.before) line ≡ take (length t.before) t.before = take_at t.before t.rest (length t.before) refl ∙ sym (take_all (length t.before) t.before (omega arith)) in
@@ -502,17 +502,17 @@ module _ (s : Screen) (low : 2 ≤ s.columns) (high : s.columns ≤ 1000) where
           let gone = length t.killed in
           let end = column_back gone l.end in
           let there : View = record { shown = picture y; top = top; place = cell } in
-          let rest_is = taken_out_rest x prompt count text at t in
+          let rest_is = taken_out_rest x count text at t in
           let may : may_take_out (ruler_of s) l cell gone t.rest ≡ true =
           subst (λ n. may_take_out (ruler_of s) l cell n t.rest ≡ true) t.count_is (subst (λ r. may_take_out (ruler_of s) l cell count r ≡ true) rest_is e) in
           let leads = taking_out_leads s low high l old t.before t.killed t.rest cell (tells bytes over top l x h) h.good.inside no_styles t.plain t.whole t.printable at_is may (inside_finish y low_y).row in
           subst (λ r. Shows (taken_out_short l cell count r)) (sym rest_is) (subst (λ n. Shows (taken_out_short l cell n t.rest)) (sym t.count_is)
-          (short_holds line (length t.before) (MoveAndDelete l.cursor cell gone t.rest end) cell end free t.prompt_is t.text_is t.at
+          (short_holds line (length t.before) (MoveAndDelete l.cursor cell gone t.rest end) cell end free t.text_is t.at
           (subst (λ p. LeadsView s.columns (widths s) old (MoveAndDelete p cell gone t.rest end) there) (sym h.cursor) leads.0) (λ e. cc) leads.1 leads.2))
 
       -- ---- characters replaced by as many
 
-      rewritten_holds : (from upto : ℕ) → RewrittenFits x prompt from upto text at → Low s now
+      rewritten_holds : (from upto : ℕ) → RewrittenFits x from upto text → Low s now
           → (let cell = measure_of s.mode s.tab s.columns (take from text) l.prompt_size in let letters = slice_range text from upto in
           may_write_over (ruler_of s) l cell (length letters) ≡ true → Shows (write_over_call l letters cell (measure_of s.mode s.tab s.columns (take at text) l.prompt_size)))
       rewritten_holds from upto t rows e =
@@ -523,7 +523,7 @@ module _ (s : Screen) (low : 2 ≤ s.columns) (high : s.columns ≤ 1000) where
           let tail = t.letters ++ t.rest in
           let line = t.before ++ tail in
           let y = bare_sight x.spans x.prompt line at in
-          let low_y : Low s y = subst (Low s) (bare_is line at free t.prompt_is t.text_is refl) rows in
+          let low_y : Low s y = subst (Low s) (bare_is line at free t.text_is refl) rows in
           -- the cells of the letters and of the cursor
           let cursor_is : cursor ≡ cursor_of s.columns (widths s) (picture y) = ap₂ measure (ap (take at) t.text_is) h.prompt_size ∙ (measures_go_on s some (picture y)).0 low_y.cursor in
           let parts = plain_parts s.columns (widths s) (picture x) t.before (t.gone ++ t.rest) t.whole t.plain in
@@ -537,13 +537,13 @@ module _ (s : Screen) (low : 2 ≤ s.columns) (high : s.columns ≤ 1000) where
           let first : take from text ≡ take (length t.before) t.before =
           ap₂ take t.from_is t.text_is ∙ take_at t.before tail (length t.before) refl ∙ sym (take_all (length t.before) t.before (omega arith)) in
           let cell_is : cell ≡ cursor_of s.columns (widths s) start = ap₂ measure first h.prompt_size ∙ (measures_go_on s some start).0 (omega arith) in
-          let letters_are = rewritten_letters x prompt from upto text at t in
+          let letters_are = rewritten_letters x from upto text t in
           let inside : Inside s.columns cursor = subst (Inside s.columns) (sym cursor_is) (inside_cursor y low_y) in
           let there : View = record { shown = picture y; top = top; place = cursor } in
           let leads = writing_over_leads s low high l old t.before t.gone t.letters t.rest at cell cursor (tells bytes over top l x h) no_styles t.plain t.whole t.as_many t.gone_printable t.printable cell_is
           (subst (λ xs. may_write_over (ruler_of s) l cell (length xs) ≡ true) letters_are e) inside (inside_finish y low_y).row in
           subst (λ xs. Shows (write_over_call l xs cell cursor)) (sym letters_are)
-          (short_holds line at (WriteOver t.letters l.cursor cell cursor) cursor l.end free t.prompt_is t.text_is refl
+          (short_holds line at (WriteOver t.letters l.cursor cell cursor) cursor l.end free t.text_is refl
           (subst (λ p. LeadsView s.columns (widths s) old (WriteOver t.letters p cell cursor) there) (sym h.cursor) leads.0) (λ e. cc) cursor_is (h.finish ∙ sym leads.1))
 
   -- ---- no call, also if the session's own prompt stands
@@ -571,7 +571,7 @@ module _ (s : Screen) (low : 2 ≤ s.columns) (high : s.columns ≤ 1000) where
   -- ---- every step
 
   pub step : (own bytes : List ℕ) (over : List Placed) (top : ℕ) (l : Layout) (x : Sight) (r : EditStep) → DisplayHolds s bytes over top l x → Fits own x r → LowStep s x r
-      → DisplayHolds s (bytes ++ flat_map (bytes_of s) (one (ruler_of s) l r).calls) (above_by r over) (top_by r top) (one (ruler_of s) l r).layout (sight x r)
+      → DisplayHolds s (bytes ++ flat_map (bytes_of s) (one (ruler_of s) l r).calls) (kept_by r over []) (kept_by r top 0) (one (ruler_of s) l r).layout (sight x r)
   step own bytes over top l x (Draws v m (Drawn prompt given text at info)) h fits rows = drawn_holds bytes over top (shown_marks v m) l x prompt given text at info h.good h.cursor rows
   step own bytes over top l x (Draws v m (Moved text at)) h fits rows =
       let y = goes_to x at false in
@@ -582,39 +582,39 @@ module _ (s : Screen) (low : 2 ≤ s.columns) (high : s.columns ≤ 1000) where
       goes_if bytes over top l x at false cursor (same_cell l.cursor cursor) h is (inside_cursor y rows) refl
   step own bytes over top l x (Draws v m (Typed prompt c text at)) h fits rows =
       let marks = shown_marks v m in
-      short_or bytes over top marks l x h prompt text at (char_call l c) (may_type (ruler_of s) l) rows (typed_holds bytes over top marks l x h prompt text at fits.0 fits.4 c fits.2 fits.3)
+      short_or bytes over top marks l x h prompt text at (char_call l c) (may_type (ruler_of s) l) rows (typed_holds bytes over top marks l x h prompt text at fits.0 c fits.1 fits.2)
   step own bytes over top l x (Draws v m (Appended prompt c text at)) h fits rows =
       let marks = shown_marks v m in
       let short = append_call (ruler_of s) l c in
       subst (Shows bytes over top marks l x h prompt text at) (sym (if_none l.has_info (full (ruler_of s) marks l prompt true text at None) short))
-      (short_or bytes over top marks l x h prompt text at short (not l.has_info) rows (appended_holds bytes over top marks l x h prompt text at fits.0 fits.4 c fits.2 fits.3 rows))
+      (short_or bytes over top marks l x h prompt text at short (not l.has_info) rows (appended_holds bytes over top marks l x h prompt text at fits.0 c fits.1 fits.2 rows))
   step own bytes over top l x (Draws v m (Taken prompt count true text at)) h fits rows =
       let marks = shown_marks v m in
-      short_or_rest bytes over top marks l x h prompt text at at (erase_call l count) (may_take l count) (taken_fits x marks prompt text at fits.3 count fits.2) rows (taken_holds bytes over top marks l x h prompt text at fits.0 fits.3 count fits.2)
+      short_or_rest bytes over top marks l x h prompt text at at (erase_call l count) (may_take l count) (taken_fits x marks prompt text at fits.0 count fits.1) rows (taken_holds bytes over top marks l x h prompt text at fits.0 count fits.1)
   step own bytes over top l x (Draws v m (Taken prompt count false text at)) h fits rows =
       let marks = shown_marks v m in
-      short_or bytes over top marks l x h prompt text at (erase_call l count) (may_take l count) rows (taken_holds bytes over top marks l x h prompt text at fits.0 fits.3 count fits.2)
+      short_or bytes over top marks l x h prompt text at (erase_call l count) (may_take l count) rows (taken_holds bytes over top marks l x h prompt text at fits.0 count fits.1)
   step own bytes over top l x (Draws v m (Erased prompt c text at)) h fits rows =
       let marks = shown_marks v m in
       short_or_rest bytes over top marks l x h prompt text at at (erase_call l (measure_of s.mode s.tab s.columns (encode_utf8 c) origin).col) (may_erase (ruler_of s) l c)
-      (erased_fits x marks prompt text at fits.3 c fits.2) rows (erased_holds bytes over top marks l x h prompt text at fits.0 fits.3 c fits.2 rows)
+      (erased_fits x marks prompt text at fits.0 c fits.1) rows (erased_holds bytes over top marks l x h prompt text at fits.0 c fits.1 rows)
   step own bytes over top l x (Draws v m (PutIn prompt c text at)) h fits rows =
       let marks = shown_marks v m in
       let rest = drop at text in
-      short_or bytes over top marks l x h prompt text at (put_in_short (ruler_of s) l c rest) (may_put_in (ruler_of s) l rest) rows (put_in_holds bytes over top marks l x h prompt text at fits.0 fits.4 c fits.2 fits.3)
+      short_or bytes over top marks l x h prompt text at (put_in_short (ruler_of s) l c rest) (may_put_in (ruler_of s) l rest) rows (put_in_holds bytes over top marks l x h prompt text at fits.0 c fits.1 fits.2)
   step own bytes over top l x (Draws v m (TakenOut prompt count text at)) h fits rows =
       let marks = shown_marks v m in
       let rest = drop at text in
       let cell = measure_of s.mode s.tab s.columns (take at text) l.prompt_size in
       short_or_rest bytes over top marks l x h prompt text at at (taken_out_short l cell count rest) (may_take_out (ruler_of s) l cell count rest)
-      (taken_out_fits x marks prompt text at fits.3 count fits.2) rows (taken_out_holds bytes over top marks l x h prompt text at fits.0 fits.3 count fits.2 rows)
+      (taken_out_fits x marks prompt text at fits.0 count fits.1) rows (taken_out_holds bytes over top marks l x h prompt text at fits.0 count fits.1 rows)
   step own bytes over top l x (Draws v m (DrawnFrom prompt from text at info)) h fits rows = drawn_from_holds bytes over top (shown_marks v m) l x prompt from text at info h fits.2 rows
   step own bytes over top l x (Draws v m (Rewritten prompt from upto text at)) h fits rows =
       let marks = shown_marks v m in
       let cell = measure_of s.mode s.tab s.columns (take from text) l.prompt_size in
       let letters = slice_range text from upto in
       short_or_rest bytes over top marks l x h prompt text at from (write_over_call l letters cell (measure_of s.mode s.tab s.columns (take at text) l.prompt_size)) (may_write_over (ruler_of s) l cell (length letters))
-      (rewritten_fits x marks prompt text at fits.3 from upto fits.2) rows (rewritten_holds bytes over top marks l x h prompt text at fits.0 fits.3 from upto fits.2 rows)
+      (rewritten_fits x marks prompt text at fits.0 from upto fits.1) rows (rewritten_holds bytes over top marks l x h prompt text at fits.0 from upto fits.1 rows)
   step own bytes over top l x (Draws v m (Bared prompt text at)) h fits rows = bared_if bytes over top (shown_marks v m) l x prompt text at l.default_prompt h (h.given_is ∙ fits)
   step own bytes over top l x (Draws v m ToEnd) h fits rows = goes_if bytes over top l x x.place true l.end (same_cell l.cursor l.end) h h.finish (inside_finish x (record { finish = rows.finish; cursor = rows.cursor })) refl
   step own bytes over top l x (Draws v m Beeped) h fits rows = same_holds bytes over top l x Beep h refl (λ e. cc)

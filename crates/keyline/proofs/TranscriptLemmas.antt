@@ -8,17 +8,16 @@ use Rattle.line_config.specs.declared.errors.ReadlineError.{ReadlineError}
 use Rattle.line_config.specs.declared.errors.ReadlineError.TheVariants.{Eof, Display, Lines, Helper, Memory}
 use Rattle.line_help.specs.HistoryText.{text_to_save}
 use Rattle.line_keys.specs.CustomBindings.{Custom}
-use Rattle.line_keys.specs.Coming.{bytes_to_come}
-use Rattle.line_keys.specs.KeyFeeds.{Paste}
+use Rattle.line_keys.specs.KeyFeeds.{Paste, bytes_to_come}
 use Rattle.line_screen.specs.ScreenCalls.{screen_of}
 use Rattle.line_screen.specs.Reader.{byte_ahead_of, bytes_left_in, source_of}
-use Rattle.line_screen.specs.Reading.{count_of_kept, with_kept}
+use Rattle.std.specs.Option.{option_len}
+use Rattle.line_screen.specs.Reading.{with_kept}
 use Rattle.line_screen.proofs.Outcomes.{unread_in}
 use Rattle.keyline.specs.Desks.{GoesShown, desk_feed, session_state_of, work_of}
 use Rattle.keyline.specs.Endings.{ending_of}
-use Rattle.keyline.specs.KnownDevices.{KnownDevices}
-use Rattle.keyline.specs.SessionEffects.{AreDone, CutSessionEvent, Stands, Went, Work, ending_after}
-use Rattle.keyline.specs.SessionRuns.{Opens, RunsSession}
+use Rattle.keyline.specs.SessionEffects.{KnownDevices, AreDone, CutSessionEvent, Stands, Went, Work, ending_after}
+use Rattle.keyline.specs.SessionCalls.{Opens, RunsSession}
 use Rattle.keyline.specs.Program.{EditHelper, edit_helping, given_over, start_by}
 use Rattle.keyline.specs.Events.{SessionEvent, Takes, Helped, Draws, Hears, Breaks, Keeps, Writes, bytes_drawn, coming_after_events, lines_kept, lines_written, session}
 use Rattle.keyline.specs.Sessions.{Given, SessionState, each, given_of, lines_text, history_with_if}
@@ -83,7 +82,7 @@ module _ {F S D L T : Type 0} (text_of : F → Feed) (k : KnownDevices S D L) (h
   pub transcribed : (config config' : Config) (words : Option (List (List ℕ))) (helper : Option EditHelper) (custom custom' : Custom) (prompt prompt' : List ℕ) (columns : ℕ) (old keys : List ℕ) (history : F) (source : S)
       (display : D) (lines : L) (text text' : T) (desk : Desk S EditHelper D L) (ended : Ended S D L T) (t : Transcript)
       → Opens text_of k.feed config history helper source columns display lines desk
-      → RunsSession k held failed (given_of config' custom' prompt' (screen_of desk.out) (edit_helping desk.helper)) desk text' ended
+      → RunsSession k held failed true (given_of config' custom' prompt' (screen_of desk.out) (edit_helping desk.helper)) desk text' ended
       → helper ≡ word_helper words → config' ≡ config → custom' ≡ custom → prompt' ≡ prompt → text' ≡ text
       → AlwaysTold text_of → AlwaysTold k.feed → text_of history ≡ fresh_feed old End → k.feed source ≡ fresh_feed keys End
       → k.shown display ≡ [] → k.written_in lines ≡ [] → held text ≡ []
@@ -103,8 +102,8 @@ module _ {F S D L T : Type 0} (text_of : F → Feed) (k : KnownDevices S D L) (h
       let state_is : session_state_of k desk ≡ start =
       state_first text_of k config history helper source columns display lines desk old keys End opens always text_of_is (ap (λ (f : Feed). f.coming) source_is) (ap (λ (f : Feed). f.last) source_is) in
       let bound : (desk_feed k desk).bound ≡ length keys =
-      no_byte_kept (count_of_kept (byte_ahead_of desk.reader)) (desk_feed k desk).bound (length keys) (ap count_of_kept opens.kept)
-      (ap (λ (s : S). (k.feed s).bound + count_of_kept (byte_ahead_of desk.reader)) opens.source_is ∙ ap (λ (f : Feed). f.bound + count_of_kept (byte_ahead_of desk.reader)) source_is) in
+      no_byte_kept (option_len (byte_ahead_of desk.reader)) (desk_feed k desk).bound (length keys) (ap option_len opens.kept)
+      (ap (λ (s : S). (k.feed s).bound + option_len (byte_ahead_of desk.reader)) opens.source_is ∙ ap (λ (f : Feed). f.bound + option_len (byte_ahead_of desk.reader)) source_is) in
       let saved : end.saved ≡ true = was_saved end.saved (failed ended.text) (λ s. (end.saves.refused s).1) works in
       let ended_is : ended.ending ≡ ending_of why =
       end.ending_is ∙ (ap (λ s. ending_of (ending_after why s)) saved ∙ ap ending_of (when_saved why)) in

@@ -17,7 +17,7 @@ use Rattle.line_keys.specs.declared.command.Cmd.{Cmd}
 use Rattle.line_screen.specs.ScreenCalls.{Screen, ruler_of}
 use Rattle.keyline.specs.Events.{asks_events, first_in, own_events, SessionEvent, step_events}
 use Rattle.keyline.specs.Sessions.{setting_in}
-use Rattle.keyline.specs.Unmet.{OffMeetsNone, script_without_meeting}
+use Rattle.keyline.specs.SessionLaws.{OffMeetsNone, script_without_meeting}
 
 abbrev PlayedBy : Type 0 → Type 0
 PlayedBy X = Played LineAsk LineState ReadlineError X

@@ -13,9 +13,8 @@ use Rattle.line_keys.specs.PhraseScripts.{Input}
 use Rattle.line_screen.specs.ScreenCalls.{canvas_of, ruler_of, sink_of}
 use Rattle.line_screen.specs.Reader.{items_of, source_of}
 use Rattle.line_screen.specs.declared.renderer.ScreenRenderer.{ScreenRenderer}
-use Rattle.keyline.specs.KnownDevices.{KnownDevices, HasPassedOn, HasPassedLines}
 use Rattle.keyline.specs.Events.{SessionEvent, line_course, session}
-use Rattle.keyline.specs.SessionEffects.{Closes, Went, Work, SessionReason, work}
+use Rattle.keyline.specs.SessionEffects.{Closes, HasPassedOn, HasPassedLines, KnownDevices, Went, Work, SessionReason, work}
 use Rattle.keyline.specs.Sessions.{Given, LineGiven, SessionState, setting_in, state_at}
 use Rattle.keyline.specs.Shows.{EachShown, Face, IsAtRest}
 use Rattle.keyline.specs.declared.desk.Desk.{Desk}
@@ -24,8 +23,7 @@ use Rattle.keyline.specs.declared.desk.Desk.{Desk}
 -- display shows it, whatever it showed before the first of them
 pub record GoesShown {D L : Type 0} (shown : D → List ℕ) (written_in : L → List ℕ) (adds : Bool)
     (events : List SessionEvent) (old new : Work D L) (Whole : Type 0)
-    (Faulted : ReadlineError → Type 0)
-    : Type 0 where
+    (Faulted : ReadlineError → Type 0) : Type 0 where
   pub went : Went shown written_in adds events old new Whole Faulted
   pub shows : (f : Face) → IsAtRest f → EachShown f went.done
 
@@ -34,8 +32,7 @@ module _ {S H D L : Type 0} (k : KnownDevices S D L) where
   desk_feed d = items_of k.feed d.reader
 
   abbrev pub session_state_of : Desk S H D L → SessionState
-  session_state_of d =
-      state_at d.ring (string_bytes d.last_query) d.history (desk_feed d).coming
+  session_state_of d = state_at d.ring (string_bytes d.last_query) d.history (desk_feed d).coming
 
   abbrev pub work_of : Desk S H D L → Work D L
   work_of d = work (sink_of d.out) d.lines d.history (desk_feed d).coming
@@ -73,8 +70,7 @@ module _ {S H D L : Type 0} (k : KnownDevices S D L) where
     pub goes : IsTrue (desk_feed new).told → (n : ℕ) → (desk_feed old).bound < n
         → let line = line_course n g (session_state_of old) in
         GoesShown k.shown k.written_in g.config.auto_add_history line.events (work_of old)
-        (work_of new)
-        ((result, session_state_of new) ≡ line.answer) (λ e. result ≡ Err e)
+        (work_of new) ((result, session_state_of new) ≡ line.answer) (λ e. result ≡ Err e)
     pub given : IsTrue (desk_feed new).told → g' ≡ g
     pub custom : g'.custom ≡ g.custom
     pub told : IsTrue (desk_feed new).told → IsTrue (desk_feed old).told
@@ -91,8 +87,7 @@ module _ {S H D L : Type 0} (k : KnownDevices S D L) where
     pub goes : IsTrue (desk_feed new).told → (n : ℕ) → (desk_feed old).bound < n
         → let lines = session n g at (session_state_of old) in
         GoesShown k.shown k.written_in g.config.auto_add_history lines.events (work_of old)
-        (work_of new)
-        (why ≡ lines.answer) (λ e. why ≡ e)
+        (work_of new) (why ≡ lines.answer) (λ e. why ≡ e)
     pub passes : IsTrue (desk_feed new).told → HasPassedOn k (sink_of old.out)
         → HasPassedOn k (sink_of new.out)
     pub passes_lines : HasPassedLines k old.lines → HasPassedLines k new.lines

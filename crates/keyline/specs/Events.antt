@@ -1,26 +1,24 @@
 -- A session as its events in order, depending on the input, and its result. Lines, history, bytes,
 -- moments, ending and remaining input are computed from it.
 use Rattle.std.specs.Prelude.{◌≡◌, ⊤, ℕ, zero, suc, ◌≤◌, Bool, if◌then◌else◌, IsFalse, List, [], ◌∷◌, ◌++◌, length, map, Option, None, Result, Ok, Err}
-use Rattle.std.specs.List.{flat_map}
+use Rattle.std.specs.List.{concat, flat_map}
 use Rattle.line_buffer.specs.declared.layout.Layout.{Layout}
 use Rattle.script.specs.Played.{Played}
 use Rattle.line_config.specs.declared.errors.ReadlineError.{ReadlineError}
 use Rattle.line_config.specs.declared.errors.ReadlineError.TheVariants.{Memory}
 use Rattle.line_editor.specs.RenderCalls.{Marks}
-use Rattle.line_editor.specs.LineEndings.{breaks_after}
 use Rattle.line_editor.specs.LineScripts.{LineState, LineAsk, Begins as TurnBegins, Keys, effect_at, left_at}
 use Rattle.line_editor.specs.ModalCommands.{modal_seen}
 use Rattle.line_editor.specs.Redraws.{Redraw, calls_of_redraw, fresh}
-use Rattle.line_editor.specs.LineRun.{first_line_state, line_played}
+use Rattle.line_editor.specs.LineRun.{first_line_state, line_played, breaks_after}
 use Rattle.line_editor.specs.EditSteps.{calls_of_steps, one}
 use Rattle.line_editor.specs.Values.{EditStep, Setting, shown_marks}
 use Rattle.line_editor.specs.Values.EditStep.{Draws as DrawStep, Helped as HelpStep}
-use Rattle.line_keys.specs.Coming.{Coming}
-use Rattle.line_keys.specs.KeyFeeds.{InputItem, behind}
+use Rattle.line_keys.specs.KeyFeeds.{InputItem, behind, Coming}
 use Rattle.line_keys.specs.PhraseScripts.{Reads}
 use Rattle.line_screen.specs.ScreenCalls.{Screen, bytes_of, ruler_of}
 use Rattle.line_screen.specs.Drawing.{row_break}
-use Rattle.keyline.specs.Sessions.{Given, LineGiven, SessionState, for_line, setting_in, state_after}
+use Rattle.keyline.specs.Sessions.{Given, LineGiven, SessionState, for_line, history_after, setting_in, state_at}
 
 pub data SessionEvent : Type 0 where
   -- a line begins, on this screen; nothing is made
@@ -54,8 +52,7 @@ pub record Course (X : Type 0) : Type 0 where
 
 -- an edit's step, on a screen with this stored layout
 abbrev pub step_event : Screen → Layout → EditStep → SessionEvent
-step_event s l (DrawStep value marks redraw) =
-    let shown = shown_marks value marks in
+step_event s l (DrawStep value marks redraw) = let shown = shown_marks value marks in
     Draws shown redraw (map (bytes_of s) (calls_of_redraw (ruler_of s) shown l redraw).calls)
 step_event s l (HelpStep value fails takes) = Helped fails takes
 step_event s l step = Takes
@@ -67,8 +64,7 @@ step_events s l (step ∷ steps) =
 
 -- a read, and the moment at which a turn begins, are events of their own
 abbrev pub own_events : Setting → LineState → LineAsk → List SessionEvent
-own_events a k TurnBegins =
-    let x = modal_seen k.modal a k.value None in
+own_events a k TurnBegins = let x = modal_seen k.modal a k.value None in
     Rests (shown_marks k.value a.marks) x.given x.prompt x.line x.place ∷ []
 own_events a k (Keys (Reads item)) = Hears item ∷ []
 own_events a k ask = []
@@ -76,8 +72,7 @@ own_events a k ask = []
 -- a line's requests in order
 abbrev pub asks_events : Screen → Setting → Layout → LineState → List LineAsk → List SessionEvent
 asks_events s a l k [] = []
-asks_events s a l k (ask ∷ asks) =
-    let steps = (effect_at a k ask).steps in
+asks_events s a l k (ask ∷ asks) = let steps = (effect_at a k ask).steps in
     step_events s l steps ++ (own_events a k ask
     ++ asks_events s a (calls_of_steps (ruler_of s) l steps).layout (left_at a k ask) asks)
 
@@ -87,15 +82,13 @@ end_events (Ok text) = Breaks ∷ (Keeps text ∷ (Writes text ∷ []))
 end_events (Err e) = if breaks_after e then Breaks ∷ [] else []
 
 -- a line's script, without faults. More fuel than the source has keys and pastes is enough
-abbrev pub line_play_in : ℕ → Given → SessionState
-    → Played LineAsk LineState ReadlineError (List ℕ)
+abbrev pub line_play_in : ℕ → Given → SessionState → Played LineAsk LineState ReadlineError (List ℕ)
 line_play_in n g x =
     line_played n (setting_in g x.history.kept.entries) g.custom x.ring x.query x.coming
 
 -- its state before the first request, and the events of its requests
 abbrev pub first_in : Given → SessionState → LineState
-first_in g x =
-    first_line_state (setting_in g x.history.kept.entries) x.ring x.query x.coming
+first_in g x = first_line_state (setting_in g x.history.kept.entries) x.ring x.query x.coming
 
 abbrev pub events_of : Given → SessionState → List LineAsk → List SessionEvent
 events_of g x asks = asks_events g.screen (setting_in g x.history.kept.entries)
@@ -104,15 +97,10 @@ events_of g x asks = asks_events g.screen (setting_in g x.history.kept.entries)
 -- up to its outcome and the state after it
 abbrev pub line_course : ℕ → Given → SessionState
     → Course (Result (List ℕ) ReadlineError × SessionState)
-line_course n g x =
-    let p = line_play_in n g x in
-    record {
+line_course n g x = let p = line_play_in n g x in
+    let history = history_after g.config.auto_add_history p.answer x.history in record {
       events = Begins g.screen ∷ (events_of g x p.asks ++ end_events p.answer);
-      answer = (
-        p.answer,
-        state_after g.config.auto_add_history p.answer p.rest.ring
-            p.rest.modal.query p.rest.coming x,
-      );
+      answer = (p.answer, state_at p.rest.ring p.rest.modal.query history p.rest.coming);
     }
 
 -- ---- a session: line after line, up to what ends it, with what is passed in for each line by its
@@ -129,17 +117,13 @@ events_first events c = record { events = events ++ c.events; answer = c.answer 
 
 unfoldable pub session : ℕ → Given → (ℕ → LineGiven) → SessionState → Course ReadlineError
 session zero g at x = record { events = []; answer = Memory }
-session (suc n) g at x =
-    let line = line_course (suc n) (for_line g (at 0)) x in
+session (suc n) g at x = let line = line_course (suc n) (for_line g (at 0)) x in
     events_first line.events (course_after_line (session n g (λ line. at (suc line))) line.answer)
 
 -- ---- what is computed from events
 
-abbrev pub all_of : List (List ℕ) → List ℕ
-all_of parts = flat_map (λ part. part) parts
-
 abbrev pub bytes_drawn : SessionEvent → List ℕ
-bytes_drawn (Draws marks redraw sent) = all_of sent
+bytes_drawn (Draws marks redraw sent) = concat sent
 bytes_drawn Breaks = row_break
 bytes_drawn event = []
 
@@ -175,8 +159,7 @@ pub record AreFirst (done : List SessionEvent) (lines : List (List ℕ)) : Type 
 -- each line is written right after it was added to the history: the lines written by any first
 -- events of a session are the first of its lines
 abbrev pub LinesInOrder : Type 0
-LinesInOrder =
-    (n : ℕ) (g : Given) (at : ℕ → LineGiven) (x : SessionState) (done next : List SessionEvent)
-    → let events = (session n g at x).events in
+LinesInOrder = (n : ℕ) (g : Given) (at : ℕ → LineGiven) (x : SessionState)
+    (done next : List SessionEvent) → let events = (session n g at x).events in
     (flat_map lines_written events ≡ flat_map lines_kept events)
     × (events ≡ done ++ next → AreFirst done (flat_map lines_kept events))

@@ -1,6 +1,6 @@
--- The program's command line: its options, and how words choose them.
-use Rattle.std.specs.Prelude.{◌≡◌, ◌≢◌, ◌≤◌, ◌⊎◌, ◌↔◌, ◌∷◌, ⊤, ℕ, List, [], Option, Some, None, codes, IsTrue, MatchResult, Result, option_map, string_bytes}
-use Rattle.std.specs.Str.Parse.{without_leading_plus}
+-- The program's command line: its options, how words choose them, and what `--extended` adds.
+use Rattle.std.specs.Prelude.{◌≡◌, ◌≢◌, ◌≤◌, ◌⊎◌, ◌↔◌, ◌∷◌, ⊤, ℕ, List, [], Option, Some, codes, IsSomeAnd, IsTrue, MatchResult, Result, option_map, string_bytes, suc, Bool, true, false, if◌then◌else◌, ◌||◌, remove, bytes_eq, None, is_some}
+use Rattle.std.specs.Str.Parse.{IsNumeral, digits_value, without_leading_plus}
 use Rattle.clap.specs.Words.{App, IsAmong, Row, Rule, Text, fault_of, first_of, kind_of, matches_of, new_app, new_rule, with_rule}
 use Rattle.clap.specs.declared.builder.action.ArgAction.TheVariants.{SetTrue}
 use Rattle.clap.specs.declared.error.kind.ErrorKind.{ErrorKind}
@@ -8,10 +8,13 @@ use Rattle.clap.specs.declared.error.kind.ErrorKind.TheVariants.{DisplayHelp, In
 use Rattle.clap.specs.declared.error.Error.{Error}
 use Rattle.line_config.specs.declared.settings.EditMode.{EditMode}
 use Rattle.line_config.specs.declared.settings.EditMode.TheVariants.{Emacs, Vi}
-use Rattle.keyline.specs.Columns.{WritesColumns}
 use Rattle.keyline.specs.declared.options.Options.{Options}
 use Rattle.keyline.specs.declared.options.Parsed.{Parsed}
 use Rattle.keyline.specs.declared.options.Parsed.TheVariants.{Run, Help, Usage, Memory}
+use Rattle.std.specs.Option.{option_map_or}
+use Rattle.line_help.specs.SplitStyles.{Splits}
+use Rattle.keyline.specs.declared.invocation.Invoked.{Invoked}
+use Rattle.keyline.specs.declared.invocation.Invoked.TheVariants as of_line
 
 -- `--id TEXT`
 abbrev pub text_option : Text → Rule
@@ -42,10 +45,19 @@ mode_name Vi = codes "vi"
 abbrev pub IsMode : Option Text → EditMode → Type 0
 IsMode text mode = text ≡ Some (mode_name mode)
 
--- decimal digits, perhaps after a plus, that write a number of 2 to 1,000
+-- the text is decimal digits that write this number, from 2 to 1,000
+abbrev pub WritesColumns : Text → ℕ → Type 0
+WritesColumns text columns =
+    IsNumeral 10 text × (digits_value 10 text ≡ columns) × (2 ≤ columns) × (columns ≤ 1000)
+
+-- the number in the text, or 80 if it has none
+abbrev pub ColumnsBy : Text → ℕ → Type 0
+ColumnsBy text columns = WritesColumns text columns
+    ⊎ ((columns ≡ 80) × ((written : ℕ) → WritesColumns text written → ⊥))
+
+-- such digits, perhaps after a plus
 abbrev pub AreColumns : Option Text → ℕ → Type 0
-AreColumns None columns = ⊥
-AreColumns (Some text) columns = WritesColumns (without_leading_plus text) columns
+AreColumns text columns = IsSomeAnd text (λ t. WritesColumns (without_leading_plus t) columns)
 
 -- the options, by the text of each one
 pub record Chooses (rows : List Row) (options : Options) : Type 0 where
@@ -60,23 +72,10 @@ pub record Chooses (rows : List Row) (options : Options) : Type 0 where
 abbrev pub ChoosesNone : List Row → Type 0
 ChoosesNone rows = (options : Options) → Chooses rows options → ⊥
 
--- a mistake that `clap` finds, or texts that aren't a mode or a number of columns
-abbrev pub IsMistaken : List Text → Type 0
-IsMistaken words =
-    ((kind : ErrorKind) × IsAmong kind (fault_of command_line words) × (kind ≢ DisplayHelp))
-    ⊎ ChoosesNone (matches_of command_line words)
-
 -- the words lead to an error of this kind
 abbrev pub FailsBy : List Text → ErrorKind → Type 0
 FailsBy words kind = (kind ≡ OutOfMemory) ⊎ (IsAmong kind (fault_of command_line words)
     ⊎ ((kind ≡ InvalidValue) × ChoosesNone (matches_of command_line words)))
-
--- the words give the options that they choose, or fail
-abbrev pub TakesOptions : List Text → Result Options Error → Type 0
-TakesOptions words result = MatchResult result
-    (λ options. (fault_of command_line words ≡ [])
-    × Chooses (matches_of command_line words) options)
-    (λ error. FailsBy words (kind_of error))
 
 -- the answer to an error of a kind
 abbrev pub Says : ErrorKind → Parsed → Type 0
@@ -85,14 +84,69 @@ Says kind (Help text) = kind ≡ DisplayHelp
 Says kind (Usage text) = (kind ≢ DisplayHelp) × (kind ≢ OutOfMemory)
 Says kind Memory = ⊤
 
--- the answer to words, the first of which is the program's name
+-- the answer to words, the first of which is the program's name. What is wrong is a mistake that
+-- `clap` finds, or texts that aren't a mode or a number of columns
 abbrev pub ParsesTo : List Text → Parsed → Type 0
 ParsesTo words (Run options) =
     (fault_of command_line words ≡ []) × Chooses (matches_of command_line words) options
 ParsesTo words (Help text) = IsAmong DisplayHelp (fault_of command_line words)
-ParsesTo words (Usage text) = IsMistaken words
+ParsesTo words (Usage text) =
+    ((kind : ErrorKind) × IsAmong kind (fault_of command_line words) × (kind ≢ DisplayHelp))
+    ⊎ ChoosesNone (matches_of command_line words)
 ParsesTo words Memory = ⊤
+
+-- the words give the options that they choose, or fail
+abbrev pub TakesOptions : List Text → Result Options Error → Type 0
+TakesOptions words result = MatchResult result (λ options. ParsesTo words (Run options))
+    (λ error. FailsBy words (kind_of error))
 
 abbrev pub HasColumns : Parsed → Type 0
 HasColumns (Run options) = (2 ≤ options.columns) × (options.columns ≤ 1000)
 HasColumns answer = ⊤
+
+-- ---- `--extended`
+
+-- a word behind which `--extended` isn't looked for
+abbrev pub decides : Text → Bool
+decides word = bytes_eq word (codes "--extended") || bytes_eq word (codes "--")
+
+-- the place of `--extended` in these words, if it stands before any `--`
+abbrev pub place_of_extended : List Text → Option ℕ
+place_of_extended [] = None
+place_of_extended (word ∷ words) = if bytes_eq word (codes "--extended") then Some 0
+    else if bytes_eq word (codes "--") then None
+    else option_map suc (place_of_extended words)
+
+-- its place in a command line, the first word of which is the program's name
+abbrev pub place_of_extended_in : List Text → Option ℕ
+place_of_extended_in [] = None
+place_of_extended_in (name ∷ words) = option_map suc (place_of_extended words)
+
+-- the same answer, for the options alone
+abbrev pub for_options : Invoked → Parsed
+for_options (of_line.Run invocation) = Run invocation.options
+for_options (of_line.Help text) = Help text
+for_options (of_line.Usage text) = Usage text
+for_options of_line.Memory = Memory
+
+-- with `--extended` the prompt is what is left of its text without control sequences, and has their
+-- styles; without it nothing changes
+abbrev pub IsStyled : Bool → Options → Options → Type 0
+IsStyled false given options = options ≡ given
+IsStyled true given options =
+    (options ≡ record given { prompt = options.prompt; prompt_styles = options.prompt_styles })
+    × Splits (string_bytes given.prompt) (string_bytes options.prompt) options.prompt_styles.items
+
+-- the answer by what the other words are parsed to. Memory may run out while a prompt is split,
+-- which only `--extended` asks for
+abbrev pub IsAnswer : Bool → Parsed → Invoked → Type 0
+IsAnswer extended (Run options) (of_line.Run invocation) =
+    (invocation.extended ≡ extended) × IsStyled extended options invocation.options
+IsAnswer extended (Run options) of_line.Memory = extended ≡ true
+IsAnswer extended parsed answer = for_options answer ≡ parsed
+
+-- the answer to a command line: that to its other words, by whether `--extended` stands there
+pub record InvokesTo (words : List Text) (answer : Invoked) : Type 0 where
+  pub parsed : Parsed
+  pub answers : ParsesTo (option_map_or (remove words) (place_of_extended_in words) words) parsed
+  pub invoked : IsAnswer (is_some (place_of_extended_in words)) parsed answer

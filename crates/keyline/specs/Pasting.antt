@@ -10,12 +10,12 @@ use Rattle.line_keys.specs.declared.events.Event.{Event}
 use Rattle.line_keys.specs.declared.events.Event.TheVariants.{Any}
 use Rattle.line_keys.specs.declared.key.KeyEvent.{KeyEvent}
 use Rattle.line_keys.specs.CustomBindings.{Custom}
-use Rattle.line_keys.specs.Coming.{Coming}
+use Rattle.line_keys.specs.KeyFeeds.{Coming}
 use Rattle.line_keys.specs.Events.{single}
 use Rattle.line_editor.specs.Commands.{in_vi_command, means_of}
 use Rattle.line_editor.specs.LineScripts.{LineAsk, LineState, played_from, turn_script, turns_script}
 use Rattle.line_editor.specs.Modal.{is_at_rest}
-use Rattle.line_editor.specs.Values.{Setting, Value}
+use Rattle.line_editor.specs.Values.{Setting}
 use Rattle.line_editor.specs.Yanking.{behind_yank}
 use Rattle.line_editor.specs.declared.commands.Status.TheVariants.{Proceed}
 use Rattle.line_screen.specs.KeyGrammar.{marker, paste_start, start_marker, HaveNoMarker}
@@ -47,10 +47,8 @@ pub record IsFree (custom : Custom) (k : KeyEvent) : Type 0 where
 -- a text that is pasted between two phrases goes to the cursor of the line, if no binding is for it
 -- and no search stands. Everything that follows it remains
 abbrev pub PastesGoIn : Type 0
-PastesGoIn =
-    (n : ℕ) (s : Setting) (custom : Custom) (k : LineState) (text more : List ℕ)
-    (last : Last)
-    → IsFree custom paste_start → k.value.line.growth ≡ true
+PastesGoIn = (n : ℕ) (s : Setting) (custom : Custom) (k : LineState) (text more : List ℕ)
+    (last : Last) → IsFree custom paste_start → k.value.line.growth ≡ true
     → is_at_rest k.modal.standing ≡ true → IsPasteable text
     → k.coming ≡ coming_from k.input.mode (paste_bytes text ++ more) last
     → let p = played_from s (turn_script (suc (suc n)) custom) k in
@@ -63,25 +61,19 @@ PastesGoIn =
 abbrev pub IsUnbound : Custom → Type 0
 IsUnbound custom = (event : Event) → custom.answers event ≡ None
 
--- an empty line that may grow
-pub record IsEmptyLine (v : Value) : Type 0 where
-  pub empty : v.line.text ≡ []
-  pub grows : v.line.growth ≡ true
-
 -- the text is accepted, and this remains of the input
 pub record Accepts (p : Played LineAsk LineState ReadlineError (List ℕ)) (text : List ℕ)
     (rest : Coming) : Type 0 where
   pub outcome : p.answer ≡ Ok text
   pub rest_is : p.rest.coming ≡ rest
 
--- If nothing is bound and there is no helper, a text pasted at an empty line between two phrases
--- and then entered is accepted, if no search stands. This holds whatever else the state is: the
--- last change and search, any input mode, the ring, the record and the history.
+-- If nothing is bound and there is no helper, a text pasted at an empty line that may grow, between
+-- two phrases, and then entered is accepted, if no search stands. This holds whatever else the
+-- state is: the last change and search, any input mode, the ring, the record and the history.
 abbrev pub PastesAreAccepted : Type 0
-PastesAreAccepted =
-    (n : ℕ) (s : Setting) (custom : Custom) (k : LineState) (text more : List ℕ)
-    (last : Last)
-    → s.hooks ≡ None → IsUnbound custom → IsEmptyLine k.value
+PastesAreAccepted = (n : ℕ) (s : Setting) (custom : Custom) (k : LineState) (text more : List ℕ)
+    (last : Last) → s.hooks ≡ None → IsUnbound custom
+    → k.value.line.text ≡ [] → k.value.line.growth ≡ true
     → is_at_rest k.modal.standing ≡ true → IsPasteable text
     → k.coming ≡ coming_from k.input.mode (paste_bytes text ++ 0x0D ∷ more) last
     → Accepts (played_from s (turns_script (suc (suc n)) custom) k) text
@@ -89,8 +81,7 @@ PastesAreAccepted =
 
 -- and so is one with which a line of a session begins
 abbrev pub PastedLinesAreAccepted : Type 0
-PastedLinesAreAccepted =
-    (n : ℕ) (g : Given) (x : SessionState) (text more : List ℕ) (last : Last)
+PastedLinesAreAccepted = (n : ℕ) (g : Given) (x : SessionState) (text more : List ℕ) (last : Last)
     → g.helping.hooks ≡ None → IsUnbound g.custom → IsPasteable text
     → x.coming ≡ coming_from g.config.edit_mode (paste_bytes text ++ 0x0D ∷ more) last
     → Accepts (line_play_in (suc (suc n)) g x) text (coming_from g.config.edit_mode more last)

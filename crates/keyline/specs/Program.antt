@@ -18,16 +18,12 @@ use Rattle.line_help.specs.declared.helpers.style.Span.{Span}
 use Rattle.line_help.specs.declared.helpers.standard_highlighter.StandardHighlighter.{StandardHighlighter}
 use Rattle.line_help.specs.declared.helpers.validate.ValidationResult.TheVariants.{Valid}
 use Rattle.line_keys.specs.CustomBindings.{Custom}
-use Rattle.line_keys.specs.Coming.{bytes_to_come}
 use Rattle.line_editor.specs.LineRun.{Helping, helper_from_hooks}
 use Rattle.line_screen.specs.ScreenCalls.{screen_of}
-use Rattle.line_screen.specs.Reader.{coming_in, byte_ahead_of, source_of}
-use Rattle.line_screen.specs.Reading.{with_kept}
-use Rattle.line_screen.specs.declared.reading.reader.KeyReader.{KeyReader}
+use Rattle.line_screen.specs.Reader.{coming_in}
 use Rattle.keyline.specs.Desks.{GoesShown}
 use Rattle.keyline.specs.Events.{session}
-use Rattle.keyline.specs.KnownDevices.{KnownDevices}
-use Rattle.keyline.specs.SessionRuns.{LoadRefused, Opens, Runs, history_loaded_from, loads}
+use Rattle.keyline.specs.SessionCalls.{Finishes, LoadRefused, Opens, RunsSession, history_loaded_from, loads}
 use Rattle.keyline.specs.Sessions.{Given, SessionState, each, given_of, screen_by, state_over}
 use Rattle.keyline.specs.declared.desk.Desk.{Desk}
 use Rattle.keyline.specs.declared.invocation.Invocation.{Invocation}
@@ -41,10 +37,8 @@ use Rattle.line_config.specs.declared.adapters.WriteSink.{WriteSink}
 use Rattle.line_config.specs.declared.device.Last.{Last}
 use Rattle.line_config.specs.declared.device.Last.TheVariants.{End}
 use Rattle.line_config.specs.declared.errors.ReadlineError.{ReadlineError}
-use Rattle.line_help.specs.History.{Filed}
 use Rattle.line_record.specs.Ring.{new_ring}
-use Rattle.keyline.specs.Endings.{ending_of}
-use Rattle.keyline.specs.SessionEffects.{SavesIf, SessionReason, ending_after, work}
+use Rattle.keyline.specs.SessionEffects.{KnownDevices, SessionReason, work}
 
 -- the default: each accepted line is added to the history
 abbrev pub standard_config : Config
@@ -52,10 +46,8 @@ standard_config = record default_config { auto_add_history = true }
 
 -- the same in the mode that the options choose
 abbrev pub config_of : Options → Config
-config_of options = record standard_config {
-  edit_mode = options.mode;
-  keyseq_timeout = timeout_of options.mode;
-}
+config_of options =
+    record standard_config { edit_mode = options.mode; keyseq_timeout = timeout_of options.mode }
 
 -- the same, and with `extended` what is off by default
 abbrev pub profile_of : Bool → Config → Config
@@ -106,8 +98,7 @@ helper_with words spans brackets = record {
 -- there is none if nothing was requested and no colours are drawn
 abbrev pub helper_of : Config → Options → Option (List (List ℕ)) → Option EditHelper
 helper_of config options words = if options.brackets || is_some words || config.draw_colours
-    then Some (helper_with words options.prompt_styles.items options.brackets)
-    else None
+    then Some (helper_with words options.prompt_styles.items options.brackets) else None
 
 -- its replies and its styles; it helps with nothing else
 abbrev pub edit_helping : Option EditHelper → Helping
@@ -131,12 +122,12 @@ given_to config options desk = given_of config nothing_bound (string_bytes optio
 -- that was asked for
 pub record EditsBy {F S D L T : Type 0} (loads : F → Feed) (k : KnownDevices S D L)
     (held : T → List ℕ) (failed : T → Bool) (asked : Bool) (config : Config) (options : Options)
-    (words : Option (List (List ℕ))) (history : F) (source : S) (display : D) (lines : L) (text : T) (ended : Ended S D L T)
-    : Type 0 where
+    (words : Option (List (List ℕ))) (history : F) (source : S) (display : D) (lines : L)
+    (text : T) (ended : Ended S D L T) : Type 0 where
   pub desk : Desk S EditHelper D L
   pub opens : Opens loads k.feed config history (helper_of config options words) source
       options.columns display lines desk
-  pub runs : Runs k held failed asked (given_to config options desk) desk text ended
+  pub runs : RunsSession k held failed asked (given_to config options desk) desk text ended
 
 -- ---- by bytes alone: those of its keys, those that its devices took, and its ending
 
@@ -170,35 +161,31 @@ pub record PlaysBytes {S D L T : Type 0} (known : KnownDevices S D L) (held : T 
     (failed : T → Bool) (asked : Bool) (config : Config) (options : Options)
     (words : Option (List (List ℕ))) (shown wrote old bytes : List ℕ) (last : Last)
     (ended : Ended S D L T) : Type 0 where
-  -- the history and the reader of keys as the lines left them, why there was no further line, and
-  -- whether the history was saved
-  pub kept : Filed
-  pub reader : KeyReader S
+  -- the desk as the lines left it, why there was no further line, and the display and the sink of
+  -- lines before they were flushed
+  pub desk : Desk S EditHelper D L
   pub why : ReadlineError
-  pub saved : Bool
+  pub display : D
+  pub lines : L
   pub loaded : IsOk (loads config (fresh_feed old End))
   pub goes : (n : ℕ) → 2 ^ 63 < n → let g = given_by config options words in
-      let start = start_by config old bytes last in
-      let lines = session n g (each g) start in
+      let start = start_by config old bytes last in let lines = session n g (each g) start in
       GoesShown (λ drawn. drawn) (λ wrote. wrote) g.config.auto_add_history lines.events
       (work shown wrote start.history start.coming)
-      (work (known.shown ended.display) (known.written_in ended.lines) kept
-      (coming_in known.feed reader)) (why ≡ lines.answer) (λ e. why ≡ e)
+      (work (known.shown ended.display) (known.written_in ended.lines) desk.history
+      (coming_in known.feed desk.reader)) (why ≡ lines.answer) (λ e. why ≡ e)
   pub text : T
   pub blank : held text ≡ []
-  pub saves : SavesIf held failed asked kept ended.history text ended.text saved
-  pub source_is : ended.source ≡ source_of reader
-  pub ahead_is : ended.ahead ≡ byte_ahead_of reader
-  pub unread_is : bytes_to_come (coming_in known.feed reader)
-      ≡ (with_kept ended.ahead (known.feed ended.source)).coming
-  pub ending_is : ended.ending ≡ ending_of (ending_after why saved)
+  pub finishes : Finishes known.feed held failed asked desk text why
+      (record ended { display = display; lines = lines })
   pub reason : SessionReason (given_by config options words) (known.feed ended.source).failed
       (known.show_failed ended.display) (known.write_failed ended.lines) why
 
 -- the relation of the program's session, over a reader and two writers that had these bytes. If
 -- what the reads gave agrees with the bytes that were assumed of the reader as it was passed in,
--- the session is that of these bytes. A writer that hasn't failed got everything that its sink took.
--- The history's text is made if the options name a file for it; otherwise its sink took nothing
+-- the session is that of these bytes. A writer that hasn't failed got everything that its sink
+-- took. The history's text is made if the options name a file for it; otherwise its sink took
+-- nothing
 pub record PlaysOver {R K E W T : Type 0}
     (known : KnownDevices (ReadSource R K) (WriteSink E) (WriteSink W)) (held : T → List ℕ)
     (failed : T → Bool) (config : Config) (options : Options) (words : Option (List (List ℕ)))

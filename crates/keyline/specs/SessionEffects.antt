@@ -1,18 +1,50 @@
--- The effect of a session on its devices and history: all of its events, or the first of them.
+-- What is known of a session's devices, and its effect on them and on its history: all of its
+-- events, or the first of them.
 use Rattle.std.specs.Prelude.{◌≡◌, ◌⊎◌, ⊤, ℕ, Bool, true, false, ◌&&◌, List, [], ◌∷◌, ◌++◌, Result, Ok, Err, IsTrue, IfErr, IsOkAnd}
-use Rattle.std.specs.List.{flat_map}
+use Rattle.std.specs.List.{concat, flat_map}
+use Rattle.line_config.specs.Feed.{Feed}
 use Rattle.line_config.specs.declared.errors.ReadlineError.{ReadlineError}
 use Rattle.line_config.specs.declared.errors.ReadlineError.TheVariants.{Eof, Interrupted, NotUtf8, PasteOutOfPlace, Reader, Display, Lines, HistoryText, Helper, Handler, Memory}
 use Rattle.line_config.specs.Sending.{AppendsSome, Takes as TakesAll, TakesSome}
-use Rattle.line_editor.specs.LineEndings.{breaks_after}
+use Rattle.line_editor.specs.LineRun.{breaks_after}
 use Rattle.line_help.specs.History.{Filed, all_saved, takes}
 use Rattle.line_help.specs.HistoryText.{text_to_save}
 use Rattle.line_keys.specs.CustomBindings.{HandlerFails}
-use Rattle.line_keys.specs.Coming.{Coming, coming_after_error}
-use Rattle.line_keys.specs.KeyFeeds.{Paste}
+use Rattle.line_keys.specs.KeyFeeds.{Paste, Coming, coming_after_error}
 use Rattle.line_screen.specs.Drawing.{break_if, row_break}
-use Rattle.keyline.specs.Events.{SessionEvent, Takes, Helped, Draws, Hears, Breaks, Keeps, Writes, AllAnswered, all_of, bytes_drawn, end_events, coming_after_events, lines_kept, lines_written}
+use Rattle.line_screen.specs.ScreenCalls.{NothingWaits}
+use Rattle.keyline.specs.Events.{SessionEvent, Takes, Helped, Draws, Hears, Breaks, Keeps, Writes, AllAnswered, bytes_drawn, end_events, coming_after_events, lines_kept, lines_written}
 use Rattle.keyline.specs.Sessions.{Given, history_after, history_with_if, line_text, lines_text}
+
+-- what is known of a source, a display and a sink of lines
+pub record KnownDevices (S D L : Type 0) : Type 0 where
+  pub feed : S → Feed
+  pub shown : D → List ℕ
+  pub waits : D → List ℕ
+  pub show_failed : D → Bool
+  pub written_in : L → List ℕ
+  pub write_waits : L → List ℕ
+  pub write_failed : L → Bool
+
+abbrev pub devices_by : {S D L : Type 0} → (S → Feed) → (D → List ℕ) → (D → List ℕ) → (D → Bool)
+    → (L → List ℕ) → (L → List ℕ) → (L → Bool) → KnownDevices S D L
+devices_by feed shown waits show_failed written_in write_waits write_failed = record {
+  feed = feed;
+  shown = shown;
+  waits = waits;
+  show_failed = show_failed;
+  written_in = written_in;
+  write_waits = write_waits;
+  write_failed = write_failed;
+}
+
+-- a display that works has passed on everything that was drawn
+abbrev pub HasPassedOn : {S D L : Type 0} → KnownDevices S D L → D → Type 0
+HasPassedOn k display = NothingWaits k.waits k.show_failed display
+
+-- a sink of lines that works has passed on everything that was written
+abbrev pub HasPassedLines : {S D L : Type 0} → KnownDevices S D L → L → Type 0
+HasPassedLines k lines = NothingWaits k.write_waits k.write_failed lines
 
 -- why no more lines are read: what was given, or a device that has failed. If a helper fails, the
 -- events say so
@@ -53,7 +85,8 @@ module _ {D L : Type 0} (shown : D → List ℕ) (written_in : L → List ℕ) (
   CutSessionEvent x (Helped fails takes) Helper y = IsTrue fails × (y ≡ x)
   CutSessionEvent x (Helped fails takes) Memory y = IsTrue takes × (y ≡ x)
   CutSessionEvent x (Draws marks redraw (bytes ∷ more)) Display y =
-      TakesSome shown x.display y.display (all_of (bytes ∷ more)) × (y ≡ record x { display = y.display })
+      TakesSome shown x.display y.display (concat (bytes ∷ more))
+      × (y ≡ record x { display = y.display })
   CutSessionEvent x (Hears Paste) Memory y =
       (left : List ℕ) × (y ≡ record x { coming = coming_after_error Memory left })
   CutSessionEvent x Breaks Display y =
@@ -153,8 +186,8 @@ pub record Closes {D L : Type 0} (shown : D → List ℕ) (show_failed : D → B
 
 -- the history was saved, so that no entry is new; or the sink of its text has failed, and has taken
 -- a prefix of the text. If no entry is new, the sink isn't called
-pub record Saves {T : Type 0} (held : T → List ℕ) (failed : T → Bool)
-    (kept history' : Filed) (text text' : T) (saved : Bool) : Type 0 where
+pub record Saves {T : Type 0} (held : T → List ℕ) (failed : T → Bool) (kept history' : Filed)
+    (text text' : T) (saved : Bool) : Type 0 where
   pub done : saved ≡ true → (history' ≡ all_saved kept)
       × TakesAll held text text' (text_to_save kept)
   pub works : saved ≡ true → failed text' ≡ failed text

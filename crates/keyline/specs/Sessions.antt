@@ -9,7 +9,7 @@ use Rattle.line_config.specs.declared.errors.ReadlineError.{ReadlineError}
 use Rattle.line_config.specs.declared.settings.EditMode.{EditMode}
 use Rattle.line_help.specs.History.{Filed, history_with_lines}
 use Rattle.line_keys.specs.CustomBindings.{Custom}
-use Rattle.line_keys.specs.Coming.{Coming}
+use Rattle.line_keys.specs.KeyFeeds.{Coming}
 use Rattle.line_record.specs.Ring.{Ring}
 use Rattle.line_editor.specs.LineRun.{Helping, setting_by}
 use Rattle.line_editor.specs.Values.{Setting}
@@ -83,11 +83,6 @@ history_with_if adds lines history = if adds then history_with_lines history lin
 abbrev pub history_after : Bool → Result (List ℕ) ReadlineError → Filed → Filed
 history_after adds (Ok text) history = history_with_if adds (text ∷ []) history
 history_after adds (Err e) history = history
-
-abbrev pub state_after : Bool → Result (List ℕ) ReadlineError → Ring → List ℕ → Coming
-    → SessionState → SessionState
-state_after adds outcome ring query rest x =
-    state_at ring query (history_after adds outcome x.history) rest
 
 -- ---- what is written
 

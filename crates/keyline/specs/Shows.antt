@@ -1,14 +1,18 @@
--- What a display shows during events: the line to be shown at its top, and the rows above.
-use Rattle.std.specs.Prelude.{◌≡◌, ⊤, ℕ, ◌+◌, ◌≤◌, if◌then◌else◌, Bool, List, [], ◌∷◌, ◌++◌, Some, is_some, Option, Ok}
-use Rattle.std.specs.List.{filter, flat_map}
+-- What a display shows during events: the line to be shown at its top, and the rows above. When a
+-- typed character sends only its one byte.
+use Rattle.std.specs.Prelude.{◌≡◌, ⊤, ℕ, ◌+◌, ◌≤◌, if◌then◌else◌, Bool, List, [], ◌∷◌, ◌++◌, Some, is_some, Option, Ok, true}
+use Rattle.std.specs.List.{concat, filter, flat_map}
 use Rattle.line_buffer.specs.Cells.{origin}
+use Rattle.line_buffer.specs.Insertions.{insert as insertion}
 use Rattle.line_buffer.specs.declared.layout.Layout.{Layout}
 use Rattle.line_buffer.specs.declared.layout.Position.{Position}
 use Rattle.line_editor.specs.RenderCalls.{Marks}
 use Rattle.line_editor.specs.ModalCommands.{modal_seen}
-use Rattle.line_editor.specs.Redraws.{RedrawCalls, Redraw, info_text}
+use Rattle.line_editor.specs.Modal.{is_at_rest}
+use Rattle.line_editor.specs.Inserting.{is_bare, may_be_typed, insert_char}
+use Rattle.line_editor.specs.Redraws.{RedrawCalls, Redraw, info_text, nothing_asked, may_type}
 use Rattle.line_editor.specs.Redraws.Redraw.{Cleared}
-use Rattle.line_editor.specs.Sights.{Sight, sight, sight_with, sight_drawn, no_sight, sight_of, ended_sight, info_after}
+use Rattle.line_editor.specs.Sights.{Sight, sight, sight_with, sight_drawn, no_sight, sight_of, ended_sight, info_after, sight_all, FitsAll}
 use Rattle.line_editor.specs.EditSteps.{calls_of_steps}
 use Rattle.line_editor.specs.Values.{EditStep, Value, Setting, shown_marks}
 use Rattle.line_editor.specs.Values.EditStep.{Draws as DrawStep}
@@ -18,14 +22,14 @@ use Rattle.line_screen.specs.Display.{Display, Placed, meaning}
 use Rattle.line_screen.specs.Drawing.{row_break}
 use Rattle.line_screen.specs.Laws.{widths}
 use Rattle.line_screen.specs.Measure.{measure_of}
-use Rattle.keyline.specs.Events.{SessionEvent, Begins, Draws, Rests, Breaks, all_of, session}
+use Rattle.keyline.specs.Events.{SessionEvent, Begins, Draws, Rests, Breaks, session}
 use Rattle.keyline.specs.Sessions.{Given, LineGiven, SessionState}
 use Rattle.line_editor.specs.Commands.{Means, effect}
-use Rattle.line_editor.specs.LineScripts.{LineState, made_from, played_from, turn_script}
+use Rattle.line_editor.specs.LineScripts.{LineState, made_from, played_from, turn_script, LineScript, turn_start, phrase_script}
 use Rattle.line_editor.specs.declared.commands.Status.{Status}
 use Rattle.line_keys.specs.CustomBindings.{Custom}
 use Rattle.line_keys.specs.declared.command.Cmd.{Cmd}
-use Rattle.line_keys.specs.declared.command.Cmd.TheVariants.{Interrupt}
+use Rattle.line_keys.specs.declared.command.Cmd.TheVariants.{Interrupt, SelfInsert}
 
 -- ---- what is to be shown, as one drawing on a blank display
 
@@ -71,36 +75,24 @@ abbrev pub LowAll : Screen → Sight → List EditStep → Type 0
 LowAll s x [] = ⊤
 LowAll s x (r ∷ rs) = LowStep s x r × LowAll s (sight x r) rs
 
--- ---- tops, and the rows above: a line's top is the row of its prompt's first cell
+-- ---- a line's top, which is the row of its prompt's first cell, and the rows above it
 
-abbrev pub top_drawn : Redraw → ℕ → ℕ
-top_drawn Cleared top = 0
-top_drawn redraw top = top
+-- what stays until the screen is cleared, or this value instead: of a top 0, of the rows above []
+abbrev pub kept_drawn : {A : Type 0} → Redraw → A → A → A
+kept_drawn Cleared kept cleared = cleared
+kept_drawn redraw kept cleared = kept
 
-abbrev pub top_by : EditStep → ℕ → ℕ
-top_by (DrawStep value marks redraw) top = top_drawn redraw top
-top_by step top = top
+abbrev pub kept_by : {A : Type 0} → EditStep → A → A → A
+kept_by (DrawStep value marks redraw) kept cleared = kept_drawn redraw kept cleared
+kept_by step kept cleared = kept
 
-abbrev pub top_after : List EditStep → ℕ → ℕ
-top_after [] top = top
-top_after (r ∷ rs) top = top_after rs (top_by r top)
+abbrev pub kept_after : {A : Type 0} → List EditStep → A → A → A
+kept_after [] kept cleared = kept
+kept_after (r ∷ rs) kept cleared = kept_after rs (kept_by r kept cleared) cleared
 
 -- the row after a whole drawing
 abbrev pub next_top : Screen → ℕ → Sight → ℕ
 next_top s top x = top + (finish_of s.columns (widths s) (picture x)).row + 1
-
--- the rows above stay until the screen is cleared
-abbrev pub above_drawn : Redraw → List Placed → List Placed
-above_drawn Cleared over = []
-above_drawn redraw over = over
-
-abbrev pub above_by : EditStep → List Placed → List Placed
-above_by (DrawStep value marks redraw) over = above_drawn redraw over
-above_by step over = over
-
-abbrev pub above_after : List EditStep → List Placed → List Placed
-above_after [] over = over
-above_after (r ∷ rs) over = above_after rs (above_by r over)
 
 -- ---- what is sent
 
@@ -131,7 +123,7 @@ blank s = face s [] 0 [] no_sight
 -- a redraw for which these bytes were sent
 abbrev pub face_with_drawing : Face → Option Marks → Redraw → List (List ℕ) → Face
 face_with_drawing f marks redraw sent =
-    face f.screen (f.bytes ++ all_of sent) (top_drawn redraw f.top) (above_drawn redraw f.over)
+    face f.screen (f.bytes ++ concat sent) (kept_drawn redraw f.top 0) (kept_drawn redraw f.over [])
     (sight_drawn f.seen marks redraw)
 
 -- a new row, and the next line below everything
@@ -192,18 +184,16 @@ EachShown f (event ∷ later) = EachShown f later
 
 -- a session, with a prompt and columns for each line, from any display between two lines
 abbrev pub SessionsShow : Type 0
-SessionsShow =
-    (n : ℕ) (g : Given) (at : ℕ → LineGiven) (x : SessionState) (f : Face)
-    → IsAtRest f → EachShown f (session n g at x).events
+SessionsShow = (n : ℕ) (g : Given) (at : ℕ → LineGiven) (x : SessionState) (f : Face) → IsAtRest f
+    → EachShown f (session n g at x).events
 
 -- from any bytes after which the display shows the one, the bytes of these steps lead to the other;
 -- the rows above stay until the screen is cleared
 abbrev pub Lead : Screen → Sight → List EditStep → Sight → Type 0
-Lead s x steps y =
-    (bytes : List ℕ) (over : List Placed) (top : ℕ) (l : Layout)
+Lead s x steps y = (bytes : List ℕ) (over : List Placed) (top : ℕ) (l : Layout)
     → DisplayHolds s bytes over top l x → LowAll s x steps
-    → DisplayHolds s (bytes ++ bytes_for s l steps) (above_after steps over)
-    (top_after steps top) (calls_by_screen s l steps).layout y
+    → DisplayHolds s (bytes ++ bytes_for s l steps) (kept_after steps over [])
+    (kept_after steps top 0) (calls_by_screen s l steps).layout y
 
 -- an interruption leaves the cursor at the drawing's end
 abbrev pub sight_behind : Cmd → Sight → Sight
@@ -212,21 +202,50 @@ sight_behind cmd x = x
 
 -- a command, with any information
 abbrev pub CommandsShow : Type 0
-CommandsShow =
-    (s : Screen) → 2 ≤ s.columns → s.columns ≤ 1000
+CommandsShow = (s : Screen) → 2 ≤ s.columns → s.columns ≤ 1000
     → (m : Means) (cmd : Cmd) (a : Setting) (v : Value) (info : Option (List ℕ))
-    → let e = effect m cmd a v in
-    Lead s (sight_of a v info) e.steps
+    → let e = effect m cmd a v in Lead s (sight_of a v info) e.steps
     (sight_behind cmd (sight_of a e.value (info_after e.steps info)))
 
 -- a phrase and its command, whatever the input is; while a search stands, its prompt is shown
 abbrev pub TurnsShow : Type 0
-TurnsShow =
-    (s : Screen) → 2 ≤ s.columns → s.columns ≤ 1000
+TurnsShow = (s : Screen) → 2 ≤ s.columns → s.columns ≤ 1000
     → (n : ℕ) (a : Setting) (custom : Custom) (k : LineState) (info : Option (List ℕ))
-    (status : Status)
-    → let turn = turn_script n custom in let made = made_from a turn k in
-    let p = played_from a turn k in
-    p.answer ≡ Ok status
+    (status : Status) → let turn = turn_script n custom in let made = made_from a turn k in
+    let p = played_from a turn k in p.answer ≡ Ok status
     → Lead s (modal_seen k.modal a k.value info) made.steps
     (modal_seen p.rest.modal a made.value (info_after made.steps info))
+
+-- ---- one byte for a typed character
+
+-- the stored layout says whether information is shown, and whether the session's own prompt is
+pub record TellsSight (l : Layout) (x : Sight) : Type 0 where
+  pub info_is : l.has_info ≡ is_some x.info
+  pub given_is : l.default_prompt ≡ x.given
+
+-- and it does after any steps
+abbrev pub LayoutsTell : Type 0
+LayoutsTell = (s : Screen) (own : List ℕ) (steps : List EditStep) (l : Layout) (x : Sight)
+    → TellsSight l x → FitsAll own x steps
+    → TellsSight (calls_by_screen s l steps).layout (sight_all x steps)
+
+-- a character that its byte alone may show, if the text has space, in a line bare after it too
+pub record TypedAtEnd (a : Setting) (v : Value) (c : ℕ) : Type 0 where
+  pub alone : may_be_typed (is_some a.tabs) c 1 v ≡ true
+  pub room : is_some (insertion c 1 v.line).answer ≡ true
+  pub after : is_bare (insert_char c 1 a v).value ≡ true
+
+-- the tables read it alone, without a count or a drawing
+pub record ReadAlone (a : Setting) (k : LineState) (phrase : LineScript Cmd) (c : ℕ) : Type 0 where
+  pub answer : (played_from a phrase k).answer ≡ Ok (SelfInsert 1 c)
+  pub value_is : (made_from a phrase k).value ≡ k.value
+  pub unasked : (s : Screen) (l : Layout)
+      → calls_by_screen s l (made_from a phrase k).steps ≡ nothing_asked l
+
+-- if no search stands, and the layout allows its byte to be written alone, its turn sends that byte
+abbrev pub OneByte : Type 0
+OneByte = (n : ℕ) (s : Screen) (l : Layout) (a : Setting) (custom : Custom) (k : LineState) (c : ℕ)
+    → is_at_rest k.modal.standing ≡ true
+    → ReadAlone a k (phrase_script n custom (turn_start k)) c → TypedAtEnd a k.value c
+    → may_type (ruler_of s) l ≡ true
+    → bytes_for s l (made_from a (turn_script n custom) k).steps ≡ c ∷ []

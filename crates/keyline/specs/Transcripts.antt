@@ -1,9 +1,9 @@
 -- The result of a session over memory, as equations with the definition of a session.
-use Rattle.std.specs.Prelude.{◌≡◌, ℕ, ◌<◌, Bool, true, false, List, [], Option, Some, None, length}
+use Rattle.std.specs.Prelude.{◌≡◌, ℕ, ◌<◌, Bool, true, false, List, [], Option, Some, length, option_map}
 use Rattle.std.specs.List.{flat_map}
 use Rattle.line_config.specs.declared.errors.ReadlineError.{ReadlineError}
 use Rattle.line_help.specs.HistoryText.{text_to_save}
-use Rattle.line_keys.specs.Coming.{bytes_to_come}
+use Rattle.line_keys.specs.KeyFeeds.{bytes_to_come}
 use Rattle.keyline.specs.Endings.{ending_of}
 use Rattle.keyline.specs.Program.{EditHelper, helper_with}
 use Rattle.keyline.specs.Events.{Course, bytes_drawn, coming_after_events, lines_kept, lines_written, session}
@@ -15,8 +15,7 @@ use Rattle.keyline.specs.declared.over_memory.Transcript.{Transcript}
 
 -- completes these words, and has no styles of a prompt
 abbrev pub word_helper : Option (List (List ℕ)) → Option EditHelper
-word_helper None = None
-word_helper (Some words) = Some (helper_with (Some words) [] false)
+word_helper words = option_map (λ texts. helper_with (Some texts) [] false) words
 
 -- ---- result
 

@@ -2,11 +2,9 @@
 
 ghost use Rattle.std.specs.Prelude.{◌≡◌, ◌≤◌, IfErr, IfOk, Some, [], false, true};
 ghost use Rattle.line_config.specs.Adapters.{IsUnread, IsUnused, gave, bytes_taken};
-ghost use Rattle.keyline.specs.Builders.{HasDefaults, builder_with};
-ghost use Rattle.keyline.specs.Columns.{ColumnsBy};
+ghost use Rattle.keyline.specs.Options.{ColumnsBy};
 ghost use Rattle.keyline.specs.Program.{IsByEnvironment, profile_of, standard_config};
-ghost use Rattle.keyline.specs.Opened.{HasGiven, desk_of};
-ghost use Rattle.keyline.specs.SessionRuns.{Opens, Unopens};
+ghost use Rattle.keyline.specs.SessionCalls.{HasDefaults, HasGiven, builder_with, desk_of, Opens, Unopens};
 
 use crate::editor::LineEditor;
 use crate::program::{by_environment, with_profile};

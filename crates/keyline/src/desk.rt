@@ -4,7 +4,7 @@ ghost use Rattle.std.specs.Prelude.{◌≡◌, ◌≤◌, ◌++◌, ◌∷◌, �
 ghost use Rattle.line_config.specs.declared.errors.ReadlineError.TheVariants.{Display, Lines, Memory};
 ghost use Rattle.line_config.specs.Sending.{Sends};
 ghost use Rattle.line_help.specs.History.{takes};
-ghost use Rattle.line_keys.specs.Coming.{answer_map};
+ghost use Rattle.line_keys.specs.KeyFeeds.{answer_map};
 ghost use Rattle.line_screen.specs.ScreenCalls.{screen_of, sink_of, NothingWaits};
 ghost use Rattle.keyline.specs.SessionEffects.{Closes, DrawsEnd, RowIsCut, RowIsDrawn, breaks, work};
 ghost use Rattle.keyline.specs.Sessions.{given_of, line_text, history_with_if, screen_by};
@@ -174,7 +174,7 @@ impl<S: Source + Drop, H: Helper + Drop, D: Sink + Drop, L: Sink + Drop> Desk<S,
     ghost use Rattle.line_keys.specs.CustomBindings.{custom_of};
     ghost use Rattle.line_editor.specs.LineRun.{helper_from_hooks};
     ghost use Rattle.keyline.specs.Desks.{TakesLine};
-    ghost use Rattle.keyline.specs.KnownDevices.{devices_by};
+    ghost use Rattle.keyline.specs.SessionEffects.{devices_by};
 
     /// Reads a line and draws it. An accepted line is added to the history and written.
     pub(crate) fn one_line<B: Decides>(

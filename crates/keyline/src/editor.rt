@@ -3,11 +3,11 @@
 ghost use Rattle.std.specs.Prelude.{◌≡◌, None, string_bytes, true};
 ghost use Rattle.std.specs.Option.{option_map_or};
 ghost use Rattle.line_config.specs.declared.errors.ReadlineError.TheVariants.{Eof};
-ghost use Rattle.line_keys.specs.Coming.{answer_map};
+ghost use Rattle.line_keys.specs.KeyFeeds.{answer_map};
 ghost use Rattle.line_editor.specs.LineRun.{helper_from_hooks};
 ghost use Rattle.keyline.specs.Endings.{reason_to_end};
-ghost use Rattle.keyline.specs.KnownDevices.{devices_by};
-ghost use Rattle.keyline.specs.SessionRuns.{Finishes};
+ghost use Rattle.keyline.specs.SessionEffects.{devices_by};
+ghost use Rattle.keyline.specs.SessionCalls.{Finishes};
 
 use crate::session::{Ended, Session};
 use line_config::{ReadlineError, Sink, Source};
@@ -41,8 +41,7 @@ where
     L: Drop,
     T: Drop,
 {
-    ghost use Rattle.keyline.specs.Editors.{EditorReads, ending_in};
-    ghost use Rattle.keyline.specs.Opened.{desk_of, given_in, text_sink};
+    ghost use Rattle.keyline.specs.SessionCalls.{EditorReads, desk_of, ending_in, given_in, text_sink};
 
     /// The lines of this session.
     pub fn new(session: Session<S, H, D, L, T, B>) -> Self

@@ -1,8 +1,7 @@
 //! The program's invocation: its options, and whether what is off by default is turned on.
 
 ghost use Rattle.std.specs.Prelude.{◌≡◌, true, IfErr, IfOk, IfSome, ◌<◌, ◌++◌, length, map, position, remove};
-ghost use Rattle.keyline.specs.Invocations.{InvokesTo, IsAnswer, IsStyled, decides, place_of_extended, place_of_extended_in, for_options};
-ghost use Rattle.keyline.specs.Options.{HasColumns};
+ghost use Rattle.keyline.specs.Options.{InvokesTo, IsAnswer, IsStyled, decides, place_of_extended, place_of_extended_in, for_options, HasColumns};
 
 use crate::options::{Options, Parsed, parse};
 use line_help::split_styles;

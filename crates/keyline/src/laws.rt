@@ -1,20 +1,16 @@
 //! Laws of the definitions. Each is the contract of a function that does nothing, or of a call
 //! about which more is known.
 
-ghost use Rattle.std.specs.Prelude.{IsTrue};
+ghost use Rattle.std.specs.Prelude.{IsTrue, true};
 ghost use Rattle.line_config.specs.Feed.{AlwaysTold};
 ghost use Rattle.line_editor.specs.LineRun.{helper_from_hooks};
-ghost use Rattle.keyline.specs.SessionLaws.{CutsAreFree, LinesBegin, SessionsBegin, ColumnsAreFree, LineColumnsAreFree, LastAreKept};
+ghost use Rattle.keyline.specs.SessionLaws.{BytesAreEnough, CutsAreFree, FuelIsFree, LinesBegin, OffMeetsNone, SessionsBegin, ColumnsAreFree, LineColumnsAreFree, LastAreKept};
 ghost use Rattle.keyline.specs.Desks.{TakesLines};
-ghost use Rattle.keyline.specs.Fuel.{BytesAreEnough, FuelIsFree};
-ghost use Rattle.keyline.specs.KnownDevices.{devices_by};
-ghost use Rattle.keyline.specs.OneByte.{LayoutsTell, OneByte};
+ghost use Rattle.keyline.specs.SessionEffects.{devices_by};
+ghost use Rattle.keyline.specs.Shows.{LayoutsTell, OneByte, BlankIsAtRest, SessionsShow, CommandsShow, TurnsShow};
 ghost use Rattle.keyline.specs.Pasting.{PastesAreAccepted, PastedLinesAreAccepted};
-ghost use Rattle.keyline.specs.SessionRuns.{RunsSession};
+ghost use Rattle.keyline.specs.SessionCalls.{RunsSession, desk_of, given_in, prompt_of, text_sink};
 ghost use Rattle.keyline.specs.Events.{LinesInOrder};
-ghost use Rattle.keyline.specs.Opened.{desk_of, given_in, prompt_of, text_sink};
-ghost use Rattle.keyline.specs.Unmet.{OffMeetsNone};
-ghost use Rattle.keyline.specs.Shows.{BlankIsAtRest, SessionsShow, CommandsShow, TurnsShow};
 
 use crate::prompter::Prompter;
 use crate::session::{Ended, Session};
@@ -38,7 +34,7 @@ pub fn always_told<
     ensures plays { let helps =
         helper_from_hooks H.hint_of H.verdict_of H.completion_of H.update_of H.marks in
         let known = devices_by S.feed D.held D.waits D.has_failed L.held L.waits L.has_failed in
-        RunsSession known T.held T.has_failed
+        RunsSession known T.held T.has_failed true
         (given_in B.decides helps (prompt_of session) session)
         (desk_of session) (text_sink session) result }
 {

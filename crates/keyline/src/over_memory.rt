@@ -7,7 +7,7 @@ ghost use Rattle.line_config.specs.declared.errors.ReadlineError.TheVariants.{Me
 ghost use Rattle.line_keys.specs.CustomBindings.{custom_of};
 ghost use Rattle.line_screen.specs.Reading.{with_kept};
 ghost use Rattle.keyline.specs.Program.{given_over, start_by, word_texts};
-ghost use Rattle.keyline.specs.SessionRuns.{loads};
+ghost use Rattle.keyline.specs.SessionCalls.{loads};
 ghost use Rattle.keyline.specs.Transcripts.{Transcribes, is_cut, word_helper};
 
 use crate::edit_helper::EditHelper;

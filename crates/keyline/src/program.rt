@@ -2,9 +2,9 @@
 
 ghost use Rattle.std.specs.Prelude.{◌≡◌, ◌≤◌, IfErr, IfOk, [], false, if◌then◌else◌, true};
 ghost use Rattle.line_config.specs.Adapters.{reader_of, writer_of};
-ghost use Rattle.keyline.specs.KnownDevices.{devices_by};
+ghost use Rattle.keyline.specs.SessionEffects.{devices_by};
 ghost use Rattle.keyline.specs.Program.{EditsBy, PlaysOver, UnopensOver, IsByEnvironment, config_of, had_by, has_text, helper_of, helper_with, invoked_config, profile_of, config_without_colours, word_texts};
-ghost use Rattle.keyline.specs.SessionRuns.{Unopens};
+ghost use Rattle.keyline.specs.SessionCalls.{Unopens};
 
 use crate::boxed::{Boxed, Devices};
 use crate::edit_helper::EditHelper;

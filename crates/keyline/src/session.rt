@@ -3,12 +3,10 @@
 ghost use Rattle.std.specs.Prelude.{◌≡◌, ◌≤◌, IfErr, IfOk, IsTrue, OnErr, OnOk, false, true, string_bytes};
 ghost use Rattle.line_config.specs.declared.errors.ReadlineError.TheVariants.{Memory};
 ghost use Rattle.line_help.specs.History.{takes};
-ghost use Rattle.line_keys.specs.Coming.{answer_map};
+ghost use Rattle.line_keys.specs.KeyFeeds.{answer_map};
 ghost use Rattle.line_editor.specs.LineRun.{helper_from_hooks};
-ghost use Rattle.keyline.specs.KnownDevices.{devices_by};
-ghost use Rattle.keyline.specs.SessionEffects.{Saves, SavesIf, ending_after};
-ghost use Rattle.keyline.specs.Opened.{HasGiven, ReadsNext, SetsColours, SetsColumns, desk_of, given_in, history_of, prompt_of, text_sink, with_entry, with_helper};
-ghost use Rattle.keyline.specs.SessionRuns.{BeginsSession, Finishes, LoadRefused, Loaded, Opens, Remains, Runs, RunsSession, Unopens, text_to_save};
+ghost use Rattle.keyline.specs.SessionEffects.{Saves, SavesIf, devices_by, ending_after};
+ghost use Rattle.keyline.specs.SessionCalls.{HasGiven, ReadsNext, SetsScreen, desk_of, given_in, history_of, prompt_of, text_sink, with_entry, with_helper, BeginsSession, Finishes, LoadRefused, Loaded, Opens, Remains, RunsSession, Unopens, text_to_save};
 
 use crate::boxed::Boxed;
 use crate::desk::{Desk, renderer_over};
@@ -309,7 +307,7 @@ where
     /// Sets the number of columns of the display's rows for further lines. Nothing is drawn.
     pub fn set_columns(&mut self, columns: u16)
         requires { (2 ≤ columns) × (columns ≤ 1000) }
-        ensures { SetsColumns columns self.old self.new }
+        ensures { SetsScreen (λ screen. record screen { columns = columns }) self.old self.new }
     {
         match &mut self.desk.out.value {
             Some(out) => out.set_columns(columns),
@@ -320,7 +318,7 @@ where
     /// Sets whether the helper's styles are drawn in further lines. Nothing is drawn. At first they
     /// are if the setting `draw_colours` is on.
     pub fn set_colours(&mut self, colours: bool)
-        ensures { SetsColours colours self.old self.new }
+        ensures { SetsScreen (λ screen. record screen { colours = colours }) self.old self.new }
     {
         match &mut self.desk.out.value {
             Some(out) => out.set_colours(colours),
@@ -398,8 +396,9 @@ where
             L.has_failed in
             let helps = helper_from_hooks H.hint_of H.verdict_of H.completion_of H.update_of
             H.marks in
-            RunsSession known T.held T.has_failed (given_in B.decides helps (prompt_of self) self)
-            (desk_of self) (text_sink self) result }
+            RunsSession known T.held T.has_failed true
+            (given_in B.decides helps (prompt_of self) self) (desk_of self) (text_sink self)
+            result }
     {
         self.run_to_end(true)
     }
@@ -411,8 +410,9 @@ where
             L.has_failed in
             let helps = helper_from_hooks H.hint_of H.verdict_of H.completion_of H.update_of
             H.marks in
-            Runs known T.held T.has_failed saves (given_in B.decides helps (prompt_of self) self)
-            (desk_of self) (text_sink self) result }
+            RunsSession known T.held T.has_failed saves
+            (given_in B.decides helps (prompt_of self) self) (desk_of self) (text_sink self)
+            result }
     {
         let mut session = self;
         let empty = String::new(session.alloc);

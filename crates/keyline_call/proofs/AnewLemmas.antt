@@ -20,16 +20,16 @@ use Rattle.line_config.specs.declared.settings.BellStyle.TheVariants as Bell
 use Rattle.line_editor.specs.RenderCalls.{Marks, Ruler}
 use Rattle.line_editor.specs.Redraws.{RedrawCalls, info_text, fresh, full, nothing_asked, move_call, char_call, append_call, erase_call, put_in_short, taken_out_short, rest_call, layout_of, cell_on, column_back, may_type, may_take, may_erase, may_put_in, may_take_out, write_over_call, may_write_over}
 use Rattle.line_editor.specs.Redraws.Redraw.{Drawn, Moved, Typed, Appended, Taken, Erased, PutIn, TakenOut, DrawnFrom, Bared, ToEnd, Beeped, Cleared, Rewritten}
-use Rattle.line_editor.specs.Sights.{Sight, sight_with, no_sight, sight, sight_all, spans_by, drawn_spans, Fits, FitsAll, TypedFits, PutInFits, RewrittenFits}
+use Rattle.line_editor.specs.Sights.{Sight, sight_with, no_sight, sight, sight_all, drawn_spans, Fits, FitsAll, TypedFits, PutInFits, RewrittenFits}
 use Rattle.line_editor.specs.EditSteps.{one}
 use Rattle.line_editor.specs.Values.{EditStep, Value, shown_marks}
 use Rattle.line_editor.specs.Values.EditStep.{Draws}
-use Rattle.line_screen.specs.ScreenCalls.{Screen, bell_bytes, bytes_of, ruler_of, styles_by, line_styles}
+use Rattle.line_screen.specs.ScreenCalls.{Screen, bell_bytes, bytes_of, ruler_of, styles_of, line_styles}
 use Rattle.line_screen.specs.Chain.{Good, empty_view}
 use Rattle.line_screen.specs.Colours.{AreStyles, PaintedItem, Styles, skip, is_style, bytes_of_all_painted, painted_drawing, bytes_of_painted, bytes_of_painted_texts, painted_text, style_bytes, items_without_style, SgrSpan, are_styles, end_of}
 use Rattle.line_screen.specs.Colours.PaintedItem.{Bare as Plain, Begins, Shaded, Fenced, Padded}
 use Rattle.line_screen.specs.Display.{Placed, is_parameter, is_text, right}
-use Rattle.line_screen.specs.Drawing.{DrawnItem, Widths, text_items, no_style, break_if, fitted_col, bytes_of_item, bytes_of_items, col_after_one, col_after, control_sequence, erase_to_end, erase_to_row_end, in_fence, open_cell, take_cells_out, col_move, move_bytes, left_col, pushed_on, insertion_bytes, pulled_back, place_after_insertion, place_after_deletion, shown_text, drawing, is_step_back, short_move, begin_inserting, end_inserting, put_in, put_and_pushed, begins_two_rows}
+use Rattle.line_screen.specs.Drawing.{DrawnItem, Widths, text_items, no_style, break_if, fitted_col, bytes_of_item, bytes_of_items, col_after_one, col_after, control_sequence, erase_to_end, erase_to_row_end, in_fence, open_cell, take_cells_out, col_move, move_bytes, left_col, pushed_on, insertion_bytes, pulled_back, place_after_insertion, place_after_deletion, is_step_back, short_move, begin_inserting, end_inserting, put_in, put_and_pushed, begins_two_rows}
 use Rattle.line_screen.specs.Drawing.DrawnItem.{NewRow, Letter, Cluster, Tab}
 use Rattle.line_screen.specs.Laws.{widths}
 use Rattle.line_screen.specs.Measure.{in_row}
@@ -38,7 +38,7 @@ use Rattle.line_screen.proofs.Fitting.{items_fit}
 use Rattle.line_screen.proofs.LawLemmas.{start_is_empty}
 use Rattle.line_screen.proofs.StyleLemmas.{styles_are}
 use Rattle.line_screen.proofs.StyledTextLemmas.{skip_styles, text_painted}
-use Rattle.keyline.specs.Shows.{DisplayHolds, Low, LowStep, LowAll, above_by, bytes_for, calls_by_screen, top_by}
+use Rattle.keyline.specs.Shows.{DisplayHolds, Low, LowStep, LowAll, bytes_for, calls_by_screen, kept_by}
 use Rattle.keyline.proofs.ShowSteps.{drawn_holds, fresh_holds, if_none, rewritten_letters, small, step}
 use Rattle.keyline_call.specs.Laws.{drawing_start, begins_drawing, last_drawing}
 
@@ -228,7 +228,7 @@ cleared_or (Draws v m Cleared) = inr (λ x. record { given = refl; prompt = refl
 cleared_or r = inl tt
 
 -- without it the rows above stay
-rows_stay : (r : EditStep) → NotCleared r → (over : List Placed) (top : ℕ) → (above_by r over ≡ over) × (top_by r top ≡ top)
+rows_stay : (r : EditStep) → NotCleared r → (over : List Placed) (top : ℕ) → (kept_by r over [] ≡ over) × (kept_by r top 0 ≡ top)
 rows_stay (Draws v m Cleared) none over top = absurd none
 rows_stay r none over top = (refl, refl)
 
@@ -248,12 +248,6 @@ module _ (s : Screen) (low : 2 ≤ s.columns) (high : s.columns ≤ 1000) (own :
 
   fits_in : (text : List ℕ) → AllFit s.columns wide.cluster (text_items wide text)
   fits_in = items_fit s.mode s.tab s.columns some
-
-  calm_texts : (prompt line info : List ℕ) → Calm (shown_text s.columns wide prompt line info)
-  calm_texts prompt line info =
-      let text = λ (text : List ℕ) (col : ℕ). calm_sent s.columns wide.cluster (text_items wide text) col (fits_in text) in
-      let end = col_after s.columns (text_items wide prompt) 0 in
-      calm_three (text prompt 0) (text line end) (text info (col_after s.columns (text_items wide line) end))
 
   calm_spans : (spans : List SgrSpan) (text : List ℕ) (col : ℕ) → are_styles spans ≡ true → Calm (bytes_of_all_painted s.columns (painted_text wide spans text) col)
   calm_spans spans text col are = calm_painted s.columns wide.cluster (painted_text wide spans text) col (text_painted s.columns wide spans text are (fits_in text))
@@ -294,18 +288,12 @@ module _ (s : Screen) (low : 2 ≤ s.columns) (high : s.columns ≤ 1000) (own :
 
   whole : (bytes : List ℕ) (m : Option Marks) (l : Layout) (prompt : List ℕ) (given : Bool) (text : List ℕ) (at : ℕ) (info : Option (List ℕ)) → Low s (sight_with m given prompt text at info)
       → (let a = full (ruler_of s) m l prompt given text at info in Anew (bytes ++ flat_map (bytes_of s) a.calls) a.layout (sight_with m given prompt text at info))
-  whole bytes None l prompt given text at info rows =
-      let new = (full (ruler_of s) None l prompt given text at info).layout in
-      drawn_anew bytes l.cursor.row new (sight_with None given prompt text at info) (drawing s.columns wide prompt text (info_text info) new.end new.cursor) refl
-      (both (calm_texts prompt text (info_text info)) (calm_move new.end new.cursor))
-      (λ before over top good. (let h = fresh_holds s low high before over top (fresh s.mode) good in drawn_holds s low high before over top None (fresh s.mode) no_sight prompt given text at info h.good h.cursor rows))
-  whole bytes (Some m) l prompt given text at info rows =
-      let new = (full (ruler_of s) (Some m) l prompt given text at info).layout in
-      let styles = styles_by m given prompt text at (info_text info) in
-      let are = styles_are (spans_by m given prompt text at (info_text info)) in
-      drawn_anew bytes l.cursor.row new (sight_with (Some m) given prompt text at info) (painted_drawing s.columns wide styles prompt text (info_text info) new.end new.cursor) refl
-      (both (calm_styled styles prompt text (info_text info) are) (calm_move new.end new.cursor))
-      (λ before over top good. (let h = fresh_holds s low high before over top (fresh s.mode) good in drawn_holds s low high before over top (Some m) (fresh s.mode) no_sight prompt given text at info h.good h.cursor rows))
+  whole bytes m l prompt given text at info rows =
+      let new = (full (ruler_of s) m l prompt given text at info).layout in
+      let spans = drawn_spans m given prompt text at (info_text info) in
+      drawn_anew bytes l.cursor.row new (sight_with m given prompt text at info) (painted_drawing s.columns wide (styles_of spans) prompt text (info_text info) new.end new.cursor) refl
+      (both (calm_styled (styles_of spans) prompt text (info_text info) (styles_are spans)) (calm_move new.end new.cursor))
+      (λ before over top good. (let h = fresh_holds s low high before over top (fresh s.mode) good in drawn_holds s low high before over top m (fresh s.mode) no_sight prompt given text at info h.good h.cursor rows))
 
   -- calls that begin no drawing, and leave what is measured by
   abbrev Quiet : Layout → RedrawCalls → Type 0
@@ -370,7 +358,7 @@ module _ (s : Screen) (low : 2 ≤ s.columns) (high : s.columns ≤ 1000) (own :
             let drawn = before ++ (drawing_start ++ a.later) in
             let h = step s low high own drawn over top l x r (a.holds before over top good) fits rows in
             subst (λ z. DisplayHolds s z over top q.layout y) (append_assoc before (drawing_start ++ a.later) more)
-            (subst (λ t. DisplayHolds s (drawn ++ more) over t q.layout y) stay.1 (subst (λ ps. DisplayHolds s (drawn ++ more) ps (top_by r top) q.layout y) stay.0 h));
+            (subst (λ t. DisplayHolds s (drawn ++ more) over t q.layout y) stay.1 (subst (λ ps. DisplayHolds s (drawn ++ more) ps (kept_by r top 0) q.layout y) stay.0 h));
         measure_is = quiet.0 ∙ a.measure_is;
       }
 
@@ -401,7 +389,7 @@ module _ (s : Screen) (low : 2 ≤ s.columns) (high : s.columns ≤ 1000) (own :
   step_anew (Draws v m (Moved text at)) bytes l x a fits rows none =
       let to = (ruler_of s).measure (take at text) l.prompt_size in kept_on_step (Draws v m (Moved text at)) bytes l x (quiet_move l to (same_cell l.cursor to)) a fits rows none
   step_anew (Draws v m (Typed prompt c text at)) bytes l x a fits rows none =
-      let typed = (let t : TypedFits x prompt c text at = fits.3 in t.typed) in
+      let typed = (let t : TypedFits x c text at = fits.2 in t.typed) in
       short_or (Draws v m (Typed prompt c text at)) bytes l x (char_call l c) (by_whole v m l prompt text at) (may_type (ruler_of s) l) refl
       (λ is. (refl, both (calm_letter c (and_parts (is_printable c) (at_simple_end true x.line x.place) typed).0) no_bytes)) (whole bytes (shown_marks v m) l prompt true text at None rows) a fits rows none
   step_anew (Draws v m (Appended prompt c text at)) bytes l x a fits rows none =
@@ -419,7 +407,7 @@ module _ (s : Screen) (low : 2 ≤ s.columns) (high : s.columns ≤ 1000) (own :
       short_or_rest (Draws v m (Erased prompt c text at)) bytes l x (erase_call l count) (shown_marks v m) at text at (may_erase (ruler_of s) l c) refl (λ is. quiet_taken l count) a fits rows none
   step_anew (Draws v m (PutIn prompt c text at)) bytes l x a fits rows none =
       let rest = drop at text in
-      let printable : is_printable c ≡ true = (let t : PutInFits x prompt c text at = fits.3 in t.printable) in
+      let printable : is_printable c ≡ true = (let t : PutInFits x c text at = fits.2 in t.printable) in
       short_or (Draws v m (PutIn prompt c text at)) bytes l x (put_in_short (ruler_of s) l c rest) (by_whole v m l prompt text at) (may_put_in (ruler_of s) l rest) refl
       (λ is. quiet_put_in l c rest printable (pushed_printable (ruler_of s) l rest is)) (whole bytes (shown_marks v m) l prompt true text at None rows) a fits rows none
   step_anew (Draws v m (TakenOut prompt count text at)) bytes l x a fits rows none =
@@ -433,8 +421,8 @@ module _ (s : Screen) (low : 2 ≤ s.columns) (high : s.columns ≤ 1000) (own :
       let cell = (ruler_of s).measure (take from text) l.prompt_size in
       let cursor = (ruler_of s).measure (take at text) l.prompt_size in
       let letters = slice_range text from upto in
-      let t : RewrittenFits x prompt from upto text at = fits.2 in
-      let printable = ap (list_all is_printable) (rewritten_letters x prompt from upto text at t) ∙ t.printable in
+      let t : RewrittenFits x from upto text = fits.1 in
+      let printable = ap (list_all is_printable) (rewritten_letters x from upto text t) ∙ t.printable in
       let written = both (calm_short l.cursor cell) (both (calm_all is_printable letter_plain letters printable) (calm_short (right (length letters) cell) cursor)) in
       short_or_rest (Draws v m (Rewritten prompt from upto text at)) bytes l x (write_over_call l letters cell cursor) (shown_marks v m) from text at (may_write_over (ruler_of s) l cell (length letters)) refl
       (λ is. (refl, both written no_bytes)) a fits rows none
@@ -464,7 +452,8 @@ module _ (s : Screen) (low : 2 ≤ s.columns) (high : s.columns ≤ 1000) (own :
   step_bare (Draws v m ToEnd) bytes l x b fits rows = inr (record { given = b.given; prompt = b.prompt })
   step_bare (Draws v m Cleared) bytes l x b fits rows = inr (record { given = refl; prompt = refl })
   step_bare (Draws v m Beeped) bytes l x b fits rows = inr b
-  step_bare (Draws v m redraw) bytes l x b fits rows = absurd (not_given x b fits.0)
+  step_bare (Draws v m (DrawnFrom prompt from text at info)) bytes l x b fits rows = absurd (not_given x b fits.0)
+  step_bare (Draws v m redraw) bytes l x b fits rows = absurd (not_given x b fits.0.given)
   step_bare r bytes l x b fits rows = inr b
 
   step_either : (r : EditStep) (bytes : List ℕ) (l : Layout) (x : Sight) → Either bytes l x → Fits own x r → LowStep s x r → EitherAfter bytes l r x

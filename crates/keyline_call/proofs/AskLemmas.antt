@@ -7,15 +7,14 @@ use Rattle.std.proofs.lemmas.List.{drop_all, take_all, take_rest}
 use Rattle.line_config.specs.declared.errors.ReadlineError.{ReadlineError}
 use Rattle.line_config.specs.declared.errors.ReadlineError.TheVariants.{PasteOutOfPlace}
 use Rattle.script.proofs.ScriptLaws.{ok_not_err}
-use Rattle.line_keys.specs.Coming.{Coming, Pressed, Pasted, CutOff, Ends, Refused, key_at, behind_key, refusal_of}
-use Rattle.line_keys.specs.KeyFeeds.{ReadAs}
+use Rattle.line_keys.specs.KeyFeeds.{ReadAs, Coming, Pressed, Pasted, CutOff, Ends, Refused, key_at, behind, refusal_of}
 use Rattle.line_keys.specs.KeyFeeds.InputItem.{Key}
 use Rattle.line_keys.specs.declared.key.KeyEvent.{KeyEvent}
 use Rattle.keyline_call.specs.Asks.{in_front, is_zero, keys_alone, none_more, rows_of}
 
 -- ---- the keys of a row
 
-pub key_taken : (c c' : Coming) (k : KeyEvent) → ReadAs Key (key_at c) (behind_key c) (Ok k) c' → keys_alone c ≡ option_map (λ keys. k ∷ keys) (keys_alone c')
+pub key_taken : (c c' : Coming) (k : KeyEvent) → ReadAs Key (key_at c) (behind Key c) (Ok k) c' → keys_alone c ≡ option_map (λ keys. k ∷ keys) (keys_alone c')
 key_taken (Pressed bytes p rest) c' k (inl (is, at)) =
     let same : k ≡ p = cc in
     rw (same, at) refl
@@ -25,7 +24,7 @@ key_taken (Ends bytes last left) c' k (inl (is, at)) = ok_not_err k _ is
 key_taken (Refused bytes why) c' k (inl (is, at)) = ok_not_err k _ is
 key_taken c c' k (inr (e, left, never, is, at)) = absurd never
 
-pub keys_ended : (c c' : Coming) (e : ReadlineError) → ReadAs {X = KeyEvent} Key (key_at c) (behind_key c) (Err e) c' → keys_alone c ≡ none_more e
+pub keys_ended : (c c' : Coming) (e : ReadlineError) → ReadAs {X = KeyEvent} Key (key_at c) (behind Key c) (Err e) c' → keys_alone c ≡ none_more e
 keys_ended (Pressed bytes p rest) c' e (inl (is, at)) = ok_not_err p e (sym is)
 keys_ended (Pasted bytes text rest) c' e (inl (is, at)) = let same : e ≡ PasteOutOfPlace = cc in rw same refl
 keys_ended (CutOff bytes last left) c' e (inl (is, at)) = let same : e ≡ PasteOutOfPlace = cc in rw same refl
@@ -39,15 +38,15 @@ more done k None = refl
 more done k (Some keys) = ap (λ (x : List KeyEvent). Some x) (sym (append_assoc done (k ∷ []) keys))
 
 pub one_more : (all : Option (List KeyEvent)) (done done' : List KeyEvent) (k : KeyEvent) (c c' : Coming) (r : Result KeyEvent ReadlineError) → all ≡ option_map (λ keys. done ++ keys) (keys_alone c)
-    → ReadAs Key (key_at c) (behind_key c) r c' → r ≡ Ok k → done' ≡ done ++ k ∷ [] → all ≡ option_map (λ keys. done' ++ keys) (keys_alone c')
+    → ReadAs Key (key_at c) (behind Key c) r c' → r ≡ Ok k → done' ≡ done ++ k ∷ [] → all ≡ option_map (λ keys. done' ++ keys) (keys_alone c')
 one_more all done done' k c c' r is reads ok pushed =
-    is ∙ (ap (λ o. option_map (λ keys. done ++ keys) o) (key_taken c c' k (subst (λ (x : Result KeyEvent ReadlineError). ReadAs Key (key_at c) (behind_key c) x c') ok reads))
+    is ∙ (ap (λ o. option_map (λ keys. done ++ keys) o) (key_taken c c' k (subst (λ (x : Result KeyEvent ReadlineError). ReadAs Key (key_at c) (behind Key c) x c') ok reads))
     ∙ (more done k (keys_alone c') ∙ ap (λ (d : List KeyEvent). option_map (λ keys. d ++ keys) (keys_alone c')) (sym pushed)))
 
 pub last_key : (all : Option (List KeyEvent)) (done : List KeyEvent) (e : ReadlineError) (c c' : Coming) (r : Result KeyEvent ReadlineError) → all ≡ option_map (λ keys. done ++ keys) (keys_alone c)
-    → ReadAs Key (key_at c) (behind_key c) r c' → r ≡ Err e → option_map (λ keys. done ++ keys) (none_more e) ≡ all
+    → ReadAs Key (key_at c) (behind Key c) r c' → r ≡ Err e → option_map (λ keys. done ++ keys) (none_more e) ≡ all
 last_key all done e c c' r is reads err =
-    sym (is ∙ ap (λ o. option_map (λ keys. done ++ keys) o) (keys_ended c c' e (subst (λ (x : Result KeyEvent ReadlineError). ReadAs Key (key_at c) (behind_key c) x c') err reads)))
+    sym (is ∙ ap (λ o. option_map (λ keys. done ++ keys) o) (keys_ended c c' e (subst (λ (x : Result KeyEvent ReadlineError). ReadAs Key (key_at c) (behind Key c) x c') err reads)))
 
 -- ---- rows
 

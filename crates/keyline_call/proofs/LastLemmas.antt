@@ -16,7 +16,7 @@ use Rattle.line_editor.specs.Sights.{Sight, drawn_spans, no_sight, sight_with}
 use Rattle.line_editor.specs.Values.{Setting, Value}
 use Rattle.line_editor.proofs.LineLeads.{lines_lead}
 use Rattle.line_editor.proofs.ToldLemmas.{rest_along}
-use Rattle.line_keys.specs.Coming.{answer_map}
+use Rattle.line_keys.specs.KeyFeeds.{answer_map}
 use Rattle.line_keys.specs.InputStates.{new_input}
 use Rattle.line_screen.specs.ScreenCalls.{Screen, ruler_of}
 use Rattle.line_screen.specs.Chain.{Shows, above, cursor_of, finish_of}

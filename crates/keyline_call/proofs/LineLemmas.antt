@@ -11,19 +11,17 @@ use Rattle.line_config.specs.declared.errors.ReadlineError.{ReadlineError}
 use Rattle.line_config.specs.declared.errors.ReadlineError.TheVariants.{Display, Helper, Memory}
 use Rattle.line_config.specs.declared.memory.SliceSource.{SliceSource}
 use Rattle.line_config.specs.declared.memory.VecSink.{VecSink}
-use Rattle.line_editor.specs.LineEndings.{breaks_after}
 use Rattle.line_editor.specs.LineScripts.{LineStage, LineState, line_state, line_script, line_stage}
 use Rattle.line_editor.specs.Modal.{Modal}
 use Rattle.line_editor.specs.Redraws.{fresh}
-use Rattle.line_editor.specs.LineRun.{Helping, IsOpen, Runs, first_line_state, outcome_of, stage_first}
+use Rattle.line_editor.specs.LineRun.{Helping, IsOpen, Runs, first_line_state, outcome_of, stage_first, breaks_after}
 use Rattle.line_editor.specs.EditSteps.{surface}
 use Rattle.line_editor.specs.Values.{Setting, Value, first_value}
 use Rattle.line_editor.specs.States.{reason_of}
 use Rattle.line_editor.specs.declared.line_run.Ran.{Ran}
 use Rattle.line_help.specs.History.{Filed}
 use Rattle.line_keys.specs.CustomBindings.{Custom}
-use Rattle.line_keys.specs.Coming.{Coming, answer_map, bytes_to_come}
-use Rattle.line_keys.specs.KeyFeeds.{KeyFeed}
+use Rattle.line_keys.specs.KeyFeeds.{KeyFeed, Coming, answer_map, bytes_to_come}
 use Rattle.line_keys.specs.PhraseScripts.{Input}
 use Rattle.line_buffer.specs.Line.{Line}
 use Rattle.line_buffer.specs.declared.layout.Layout.{Layout}
@@ -31,7 +29,7 @@ use Rattle.line_record.specs.Ring.{Ring}
 use Rattle.line_screen.specs.ScreenCalls.{canvas_of, screen_of, sink_of, ruler_of}
 use Rattle.line_screen.specs.Reader.{coming_in, bytes_left_in}
 use Rattle.line_screen.proofs.Outcomes.{unread_in}
-use Rattle.line_screen.specs.Reading.{count_of_kept}
+use Rattle.std.specs.Option.{option_len}
 use Rattle.line_screen.specs.Drawing.{break_if}
 use Rattle.line_screen.specs.declared.reading.reader.KeyReader.{KeyReader}
 use Rattle.line_screen.specs.declared.renderer.ScreenRenderer.{ScreenRenderer}
@@ -45,7 +43,7 @@ use Rattle.keyline_call.specs.Lines.{IsWant, LeftBy, ReadsLine, ReadsKeys, last_
 use Rattle.keyline_call.specs.declared.line.Left.{Left}
 use Rattle.line_config.specs.declared.settings.HistoryDuplicates.TheVariants.{AlwaysAdd}
 use Rattle.line_keys.specs.declared.events.Event.{Event}
-use Rattle.keyline.specs.SessionRuns.{history_loaded_from}
+use Rattle.keyline.specs.SessionCalls.{history_loaded_from}
 use Rattle.keyline_call.specs.Asks.{AreAsked, custom_by_asking}
 use Rattle.keyline_call.specs.Meant.{AreMeant, AreValid, settings_by, whole, words_in}
 use Rattle.keyline_call.specs.Slots.{IsRingOf}
@@ -132,7 +130,7 @@ module _ {H K T : Type 0} (held waits : VecSink → List ℕ) (failed : VecSink 
     }
 
 -- a reader that keeps no byte reads no more than its source has
-pub bound_at : (kept : Option ℕ) (count : ℕ) (keys : List ℕ) → kept ≡ None → count ≡ length keys → count + count_of_kept kept ≡ length keys
+pub bound_at : (kept : Option ℕ) (count : ℕ) (keys : List ℕ) → kept ≡ None → count ≡ length keys → count + option_len kept ≡ length keys
 bound_at kept count keys none is = rw (none, is) (search arith)
 
 -- the same by the settings and the options of the line

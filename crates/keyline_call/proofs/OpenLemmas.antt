@@ -10,7 +10,7 @@ use Rattle.line_config.specs.declared.errors.ReadlineError.TheVariants.{Eof, Int
 use Rattle.line_help.specs.declared.history.search.SearchDirection.{SearchDirection}
 use Rattle.line_help.specs.declared.history.search.SearchDirection.TheVariants.{Forward, Reverse}
 use Rattle.line_keys.specs.CustomBindings.{Custom}
-use Rattle.line_keys.specs.PhraseScripts.{Answer, KeyScript, Needs, Shows, steps}
+use Rattle.line_keys.specs.PhraseScripts.{Answer, KeyScript, Needs, Shows, steps, is_emacs}
 use Rattle.line_keys.specs.Refreshing.{Ask}
 use Rattle.line_keys.specs.Refreshing.Ask.{Line, Message, Prompted, DoingInsert, DoneInserting}
 use Rattle.line_keys.specs.Replies.{Reply}
@@ -18,13 +18,12 @@ use Rattle.line_keys.specs.declared.command.Cmd.{Cmd}
 use Rattle.line_keys.specs.declared.command.Cmd.TheVariants.{AcceptLine, AcceptOrInsertLine, EndOfFile, Interrupt}
 use Rattle.line_editor.specs.Accepting.{accepts}
 use Rattle.line_editor.specs.Asks.{ask_effect, shown_in}
-use Rattle.line_editor.specs.Commands.{Means, outcome}
-use Rattle.line_keys.specs.Modes.{is_emacs}
+use Rattle.line_editor.specs.Commands.{Means, means_of, outcome}
 use Rattle.line_editor.specs.Leads.{BeginShows, LeadsAlong}
-use Rattle.line_editor.specs.LineScripts.{Begins, Keys, Meets, Obeys, LineAsk, LineScript, LineState, answer_at, effect_at, script_of_keys, left_at, line_plan, line_script, means_at, meet_script, obey_script, played_from, steps_along, turn_script, line_script_after, turns_script}
+use Rattle.line_editor.specs.LineScripts.{Begins, Keys, Meets, Obeys, LineAsk, LineScript, LineState, answer_at, effect_at, script_of_keys, left_at, line_plan, line_script, meet_script, obey_script, played_from, steps_along, turn_script, line_script_after, turns_script}
 use Rattle.line_editor.specs.ModalCommands.{meeting, modal_seen, sight_in_mode}
 use Rattle.line_editor.specs.Modal.{Modal}
-use Rattle.line_editor.specs.NextCommand.{line_phrase}
+use Rattle.line_editor.specs.NextCommand.{line_phrase, ring_after_reset}
 use Rattle.line_editor.specs.Redraws.{info_text}
 use Rattle.line_editor.specs.Searching.{heading}
 use Rattle.line_editor.specs.Sights.{Sight, drawn_spans, sight, sight_all, sight_with, FitsAll}
@@ -90,7 +89,7 @@ module _ (s : Setting) where
   spoken script = (then) (script_of_keys script) meet_script
 
   obeyed : (cmd : Cmd) (k : LineState) → EndsInPhrase false (played_from s (obey_script cmd) k)
-  obeyed cmd k = by (outcome (means_at s k cmd) cmd s k.value) (command_error (means_at s k cmd) cmd k.value)
+  obeyed cmd k = by (outcome (means_of k.input (ring_after_reset cmd k.ring)) cmd s k.value) (command_error (means_of k.input (ring_after_reset cmd k.ring)) cmd k.value)
     where
       by : (q : Result Status ReadlineError) → error_of q
           → EndsInPhrase false (play_after_answer (λ status. record { answer = Ok status; asks = []; rest = left_at s k (Obeys cmd) }) (Obeys cmd) (left_at s k (Obeys cmd)) q)

@@ -5,11 +5,9 @@ use Rattle.line_config.specs.declared.device.Last.TheVariants.{End}
 use Rattle.line_config.specs.declared.errors.ReadlineError.{ReadlineError}
 use Rattle.line_config.specs.declared.errors.ReadlineError.TheVariants.{Eof}
 use Rattle.line_config.specs.declared.settings.EditMode.{EditMode}
-use Rattle.line_keys.specs.CustomBindings.{Custom, custom_of}
-use Rattle.line_keys.specs.Bound.{find, same_event}
-use Rattle.line_keys.specs.Coming.{Coming, Pressed, Ends, Refused, refusal_of}
-use Rattle.line_keys.specs.Events.{normal_event}
-use Rattle.line_keys.specs.Handling.{Meaning}
+use Rattle.line_keys.specs.CustomBindings.{Custom, custom_of, Meaning}
+use Rattle.line_keys.specs.KeyFeeds.{Coming, Pressed, Ends, Refused, refusal_of}
+use Rattle.line_keys.specs.Events.{normal_event, find, same_event}
 use Rattle.line_keys.specs.declared.events.Event.{Event}
 use Rattle.line_keys.specs.declared.events.Event.TheVariants.{KeySeq}
 use Rattle.line_keys.specs.declared.key.KeyEvent.{KeyEvent}

@@ -5,7 +5,7 @@ use Rattle.std.specs.Result.{IfOk, result_unwrap_or}
 use Rattle.line_buffer.specs.Line.{Line}
 use Rattle.line_config.specs.declared.memory.VecSink.{VecSink}
 use Rattle.line_help.specs.HistoryText.{text_to_save}
-use Rattle.line_keys.specs.Coming.{answer_map}
+use Rattle.line_keys.specs.KeyFeeds.{answer_map}
 use Rattle.keyline_call.specs.Buffers.{BufferTexts, GivesTexts, buffer_texts, texts_wanted, with_lengths}
 use Rattle.keyline_call.specs.Slots.{AreSlots}
 use Rattle.keyline_call.specs.Statuses.{status_of_ending}

@@ -8,10 +8,10 @@ use Rattle.line_config.specs.declared.errors.ReadlineError.TheVariants.{Display,
 use Rattle.line_config.specs.declared.memory.VecSink.{VecSink}
 use Rattle.line_editor.specs.LineRun.{IsOpen}
 use Rattle.line_editor.specs.Values.{Value, first_value}
-use Rattle.line_keys.specs.Coming.{answer_map, bytes_to_come}
+use Rattle.line_keys.specs.KeyFeeds.{answer_map, bytes_to_come}
 use Rattle.line_keys.specs.declared.events.Event.{Event}
 use Rattle.keyline.specs.Program.{config_of, given_with}
-use Rattle.keyline.specs.SessionRuns.{history_loaded_from}
+use Rattle.keyline.specs.SessionCalls.{history_loaded_from}
 use Rattle.keyline.specs.Events.{Course, bytes_drawn, line_course, line_play_in}
 use Rattle.keyline.specs.Sessions.{Given, SessionState, setting_in, state_over}
 use Rattle.keyline.specs.declared.options.Options.{Options}

@@ -1,7 +1,7 @@
 //! Keys of the caller's own. If one is typed, the line stops there.
 
 ghost use Rattle.std.specs.Prelude.{[], ◌∷◌, ◌++◌, ◌≡◌, ◌≢◌, ◌<◌, ◌||◌, IfSome, MatchResult, is_some, length, option_map, position};
-ghost use Rattle.line_keys.specs.Bound.{find};
+ghost use Rattle.line_keys.specs.Events.{find};
 ghost use Rattle.line_keys.specs.declared.events.Event.{Event};
 ghost use Rattle.keyline_call.specs.Asks.{AreAsked, is_zero, keys_in, names, none_more, rows_of};
 ghost use Rattle.keyline_call.specs.declared.status.CallStatus.TheVariants.{Memory};

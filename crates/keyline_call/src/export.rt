@@ -4,11 +4,11 @@ ghost use Rattle.std.specs.Prelude.{[], ◌≡◌, ◌≢◌, ◌≤◌, ◌↔�
 ghost use Rattle.std.specs.Result.{result_unwrap_or};
 ghost use Rattle.std.specs.Str.{IsUtf8};
 ghost use Rattle.line_help.specs.HistoryText.{text_to_save};
-ghost use Rattle.line_keys.specs.Coming.{answer_map};
+ghost use Rattle.line_keys.specs.KeyFeeds.{answer_map};
 ghost use Rattle.keyline_call.specs.declared.status.CallStatus.TheVariants.{Memory};
 ghost use Rattle.keyline_call.specs.Call.{Answers, Calls, status_in};
 ghost use Rattle.keyline_call.specs.Lines.{IsRefused, ReadsKeys};
-ghost use Rattle.keyline.specs.SessionRuns.{history_loaded_from};
+ghost use Rattle.keyline.specs.SessionCalls.{history_loaded_from};
 ghost use Rattle.keyline.specs.Program.{config_of, word_texts};
 ghost use Rattle.keyline_call.specs.Meant.{AreMeant, AreValid, mode_numbered, settings_by, whole, words_in};
 ghost use Rattle.keyline_call.specs.Buffers.{FitsBuffers, GivesTexts, SameBuffers, if_wanted, buffer_texts, texts_in, texts_of, texts_wanted, with_lengths};

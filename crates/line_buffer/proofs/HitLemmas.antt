@@ -7,13 +7,17 @@ use Rattle.std.proofs.lemmas.List.{reverse-append, append_assoc, length-append}
 use Rattle.std.proofs.lemmas.Str.{IsUtf8-past_char, chars_past_char, IsUtf8-encode, chars-append, encodes-chars, chars-nil, IsCharBoundary-at_seam, IsCharBoundary-past_char, IsCharBoundary-start, drop_past_char, length-encode}
 use Rattle.std.proofs.lemmas.List.Elements.{All-append, All-cons, All-take}
 use Rattle.unicode_segmentation.proofs.TextLemmas.{IsUtf8-before, chars-encode_utf8}
-use Rattle.line_buffer.specs.Hits.{chars_placed, placed_chars, hits_from, hits, last_char}
+use Rattle.line_buffer.specs.Hits.{chars_placed, placed_chars, hits, last_char}
 use Rattle.line_buffer.specs.Clusters.{IsPart, nth_or_last}
 use Rattle.line_buffer.proofs.ChainLemmas.{All-last_or, All-reverse, last_or-append}
 
 -- the places among placed characters
 abbrev pub places_of : ℕ → List (ℕ × ℕ) → List ℕ
 places_of c xs = map (λ x. x.0) (filter (λ x. x.1 == c) xs)
+
+-- in a text that begins at a given place
+abbrev pub hits_from : ℕ → ℕ → List ℕ → List ℕ
+hits_from at c text = places_of c (chars_placed at (chars text))
 
 -- one place, or none
 abbrev pub place_if : Bool → ℕ → List ℕ

@@ -2,11 +2,11 @@
 use Rattle.std.proofs.Common.{◌≡◌, ℕ, suc, ◌+◌, ◌≤◌, Bool, true, false, List, [], ◌∷◌, ◌++◌, length, take, drop, map, refl, sym, ap, ◌∙◌, arith, append_assoc, append-nil, length-append, take-append-drop, IsUtf8, chars, take_while, encode_utf8, encode_utf8_all}
 use Rattle.std.proofs.Math.Seq.{take-append_seam, drop-append-add}
 use Rattle.std.specs.Char.{is_whitespace}
-use Rattle.std.specs.List.{prefix_len}
+use Rattle.std.specs.List.{prefix_len, join_with_byte}
 use Rattle.std.proofs.lemmas.List.{length-drop, drop-append-le}
 use Rattle.std.proofs.lemmas.Str.{encodes-chars}
 use Rattle.line_buffer.specs.Indent.{front_whitespace, row_event, row_len, row_events}
-use Rattle.line_buffer.specs.Laws.{row_text, row_after_indent, RowsGetTheirMargin}
+use Rattle.line_buffer.specs.Laws.{row_after_indent, RowsGetTheirMargin}
 use Rattle.line_buffer.specs.Replay.{text_after_event, text_after_events}
 
 encoded-append : (xs ys : List ℕ) → encode_utf8_all (xs ++ ys) ≡ encode_utf8_all xs ++ encode_utf8_all ys
@@ -57,32 +57,30 @@ row_events_none : (margin : List ℕ) (dedent : Bool) (at : ℕ) (text : List �
 unfolding row_events text_after_events
 row_events_none margin dedent at text = refl
 
-row_text_one : (row : List ℕ) → row_text (row ∷ []) ≡ row
-unfolding row_text
+row_text_one : (row : List ℕ) → join_with_byte 10 (row ∷ []) ≡ row
 row_text_one row = refl
 
-row_text_more : (row next : List ℕ) (rows : List (List ℕ)) → row_text (row ∷ (next ∷ rows)) ≡ row ++ 10 ∷ row_text (next ∷ rows)
-unfolding row_text
+row_text_more : (row next : List ℕ) (rows : List (List ℕ)) → join_with_byte 10 (row ∷ (next ∷ rows)) ≡ row ++ 10 ∷ join_with_byte 10 (next ∷ rows)
 row_text_more row next rows = refl
 
 pub rows_get_their_margin : RowsGetTheirMargin
 rows_get_their_margin margin dedent before after [] u =
-    row_events_none margin dedent (length before) (before ++ (row_text [] ++ after))
+    row_events_none margin dedent (length before) (before ++ (join_with_byte 10 [] ++ after))
 rows_get_their_margin margin dedent before after (row ∷ []) u =
-    row_events_one margin dedent (length before) row (before ++ (row_text (row ∷ []) ++ after))
+    row_events_one margin dedent (length before) row (before ++ (join_with_byte 10 (row ∷ []) ++ after))
     ∙ ap (λ xs. text_after_event (row_event margin dedent (length before) row) (before ++ (xs ++ after))) (row_text_one row)
     ∙ one_row margin dedent before after row (u 0 row (omega arith))
     ∙ ap (λ xs. before ++ (xs ++ after)) (sym (row_text_one (row_after_indent margin dedent row)))
 rows_get_their_margin margin dedent before after (row ∷ (next ∷ rows)) u =
     let moved = row_after_indent margin dedent row in
-    let later = row_text (next ∷ rows) in
-    let later_moved = row_text (map (row_after_indent margin dedent) (next ∷ rows)) in
+    let later = join_with_byte 10 (next ∷ rows) in
+    let later_moved = join_with_byte 10 (map (row_after_indent margin dedent) (next ∷ rows)) in
     let onward = before ++ (moved ++ 10 ∷ []) in
     let behind : (xs : List ℕ) → before ++ (moved ++ 10 ∷ xs) ≡ onward ++ xs =
     λ xs. ap (λ ys. before ++ ys) (sym (append_assoc moved (10 ∷ []) xs)) ∙ sym (append_assoc before (moved ++ 10 ∷ []) xs) in
     let place : length before + row_len margin dedent row + 1 ≡ length onward =
     omega (arith, moved_len margin dedent row, length-append before (moved ++ 10 ∷ []), length-append moved (10 ∷ [])) in
-    row_events_more margin dedent (length before) row (before ++ (row_text (row ∷ (next ∷ rows)) ++ after)) (next ∷ rows)
+    row_events_more margin dedent (length before) row (before ++ (join_with_byte 10 (row ∷ (next ∷ rows)) ++ after)) (next ∷ rows)
     ∙ ap (λ xs. text_after_events (row_events margin dedent (length before + row_len margin dedent row + 1) (next ∷ rows)) (text_after_event (row_event margin dedent (length before) row) (before ++ xs)))
     (ap (λ xs. xs ++ after) (row_text_more row next rows) ∙ append_assoc row (10 ∷ later) after)
     ∙ ap (text_after_events (row_events margin dedent (length before + row_len margin dedent row + 1) (next ∷ rows)))

@@ -4,9 +4,10 @@ use Rattle.std.proofs.Common.{◌≡◌, ℕ, zero, suc, ◌+◌, ◌-◌, ◌==
 use Rattle.std.proofs.Math.ListN.{replicate}
 use Rattle.std.specs.Char.{IsScalar}
 use Rattle.std.specs.Int.{is_in_range}
+use Rattle.std.specs.Prelude.{slice_get}
 use Rattle.std.proofs.lemmas.Str.{IsUtf8-encode, chars-append}
 use Rattle.unicode_segmentation.proofs.TextLemmas.{IsUtf8-before, chars-encode_utf8}
-use Rattle.std.specs.List.{onto_first, list_all}
+use Rattle.std.specs.List.{onto_first, list_all, slice_split}
 use Rattle.std.proofs.lemmas.List.Sums.{sum_by-cons, sum_by-append}
 use Rattle.std.proofs.Math.Bool.{or-false}
 use Rattle.std.proofs.lemmas.Bool.{and_from, and_right, and_parts, or_left, or_right, or_cases, or_parts, not-true, cases_lt}
@@ -37,8 +38,8 @@ use Rattle.unicode_width.proofs.KindLemmas.{kind_stepped, is_ligature_transparen
 use Rattle.unicode_width.proofs.Rules.{is_simple, str_width-append_simple}
 use Rattle.line_buffer.specs.declared.layout.GraphemeClusterMode.{GraphemeClusterMode}
 use Rattle.line_buffer.specs.declared.layout.GraphemeClusterMode.TheVariants.{Unicode, WcWidth, NoZwj}
-use Rattle.line_buffer.specs.Parting.{looks_ahead, is_solid, takes_marks, is_tone, is_bare, parts, first, is_flag_letter}
-use Rattle.line_buffer.specs.Width.{char_columns_of, parts_between_joiners, columns_of}
+use Rattle.line_buffer.specs.Parting.{looks_ahead, is_solid, takes_marks, is_bare, parts, is_flag_letter}
+use Rattle.line_buffer.specs.Width.{char_columns_of, columns_of}
 use Rattle.line_buffer.proofs.ListedRanges.{apart, implied}
 
 -- ---- facts of the tables
@@ -57,6 +58,15 @@ flag = (0x1F3F4, 0x1F3F4) ∷ []
 
 abbrev tones : List Range
 tones = (0x1F3FB, 0x1F3FF) ∷ []
+
+abbrev is_tone : ℕ → Bool
+is_tone = is_in_range 0x1F3FB 0x1F3FF
+
+abbrev pub first : List ℕ → Option ℕ
+first cs = slice_get cs 0
+
+abbrev pub parts_between_joiners : List ℕ → List (List ℕ)
+parts_between_joiners cs = slice_split (λ c. c == 0x200D) cs
 
 abbrev is_zero : ℕ → Bool
 is_zero c = is_ligature_transparent c || in_ranges zeros c

@@ -2,16 +2,12 @@
 use Rattle.std.proofs.Common.{◌≡◌, Bool, true, ℕ, ◌+◌, ◌-◌, arith, take, drop, List, [], ◌∷◌, ◌++◌, inr, refl, subst, ap, ◌∙◌, if◌then◌else◌, IsUtf8, IsCharBoundary}
 use Rattle.std.specs.List.{replace_range, insert_slice}
 use Rattle.line_buffer.specs.Event.{ChangeEvent}
-use Rattle.line_buffer.specs.Replay.{Swaps, Replays, ReplaysAll, TakesAll, Reports, StopsAmong, wants_or}
+use Rattle.line_buffer.specs.Replay.{Swaps, Replays, TakesAll, Reports, StopsAmong, wants_or}
 
 module _ {S : Type 0} (takes : S → ChangeEvent → S → Type 0) where
   TakesAll-append : (es fs : List ChangeEvent) (s t u : S) → TakesAll takes s es t → TakesAll takes t fs u → TakesAll takes s (es ++ fs) u
   TakesAll-append [] fs s t u e h = subst (λ x. TakesAll takes x fs u) e h
   TakesAll-append (e ∷ es) fs s t u h k = (h.0, h.1, TakesAll-append es fs h.0 t u h.2 k)
-
-ReplaysAll-append : (es fs : List ChangeEvent) (a b c : List ℕ) → ReplaysAll es a b → ReplaysAll fs b c → ReplaysAll (es ++ fs) a c
-ReplaysAll-append [] fs a b c e h = subst (λ x. ReplaysAll fs x c) e h
-ReplaysAll-append (e ∷ es) fs a b c h k = (h.0, h.1, ReplaysAll-append es fs h.0 b c h.2 k)
 
 -- nothing told, nothing changed
 pub reports_nothing : {S : Type 0} (takes : S → ChangeEvent → S → Type 0) (s : S) (a : List ℕ) → Reports takes [] s s a a
@@ -25,7 +21,7 @@ pub reports_then : {S : Type 0} {takes : S → ChangeEvent → S → Type 0} {es
     → Reports takes (es ++ fs) s u a c
 reports_then {S} {takes} {es} {fs} {s} {t} {u} {a} {b} {c} x y = record {
   told = TakesAll-append takes es fs s t u x.told y.told;
-  replays = ReplaysAll-append es fs a b c x.replays y.replays;
+  replays = TakesAll-append (λ a e b. Replays e a b) es fs a b c x.replays y.replays;
 }
 
 -- the failed event, as another equation has it

@@ -9,10 +9,10 @@ use Rattle.line_buffer.specs.declared.types.Direction.TheVariants.{Forward}
 use Rattle.line_buffer.specs.declared.types.Movement.{Movement}
 use Rattle.line_buffer.specs.Event.{ChangeEvent}
 use Rattle.line_buffer.specs.Event.ChangeEvent.{StartKilling, StopKilling}
-use Rattle.line_buffer.specs.Indent.{indent_events, indent_line}
-use Rattle.line_buffer.specs.Insertions.{text_that_fits, update_events, insert, yank, without_before, yank_pop}
+use Rattle.line_buffer.specs.Indent.{indent}
+use Rattle.line_buffer.specs.Insertions.{text_that_fits, update, insert, yank, without_before, yank_pop}
 use Rattle.line_buffer.specs.Line.{Line}
-use Rattle.line_buffer.specs.Range.{IsSpanOf, range_of, deletion_events, deletion_line, kill_events, kill_line, goes_by_clusters}
+use Rattle.line_buffer.specs.Range.{IsSpanOf, range_of, deletion_events, deletion_line, kill_events, kill, goes_by_clusters}
 use Rattle.line_buffer.specs.Replay.{deletion, insertion, replacement, text_after_event, text_after_events, line_after_event, line_after_events}
 use Rattle.line_buffer.proofs.InsertionLemmas.{insert_cases, yank_cases}
 
@@ -45,7 +45,7 @@ replayed_replacement text from upto added le fits =
     ap (λ n. replace_range text from n added) (let k : from + length (slice_range text from upto) ≡ upto = omega (arith, length-between text from upto fits, le) in k)
 
 -- the new text of an update is what is kept of it
-pub update_replayed : (text : List ℕ) (l : Line) → text_after_events (update_events text l) l.text ≡ text_that_fits text l
+pub update_replayed : (text : List ℕ) (l : Line) → text_after_events (update text 0 l).events l.text ≡ text_that_fits text l
 update_replayed text l =
     replayed_all-first _ _ l.text ∙ replayed_all-one _ _
     ∙ ap (λ t. text_after_event (insertion 0 (text_that_fits text l)) t) (replayed_deletion l.text 0 (length l.text) Forward (omega arith) (omega arith) ∙ drop_all (length l.text) l.text (omega arith))
@@ -71,10 +71,10 @@ pub deletion_replayed : (o : Option TextSpan) (l : Line) → IfSome o (IsSpanOf 
 deletion_replayed None l h = replayed_all-none l.text
 deletion_replayed (Some span) l h = replayed_all-one _ l.text ∙ replayed_deletion l.text span.from span.upto span.direction h.order h.end.0
 
-pub kill_replayed : (movement : Movement) (l : Line) → IfSome (range_of movement l) (IsSpanOf l.text) → text_after_events (kill_events movement l) l.text ≡ (kill_line movement l).text
+pub kill_replayed : (movement : Movement) (l : Line) → IfSome (range_of movement l) (IsSpanOf l.text) → text_after_events (kill_events movement l) l.text ≡ (kill movement l).line.text
 kill_replayed movement l h =
     let events : List ChangeEvent = deletion_events (range_of movement l) l in
-    elim (goes_by_clusters movement) as (λ b. text_after_events (if b then events else StartKilling ∷ (events ++ (StopKilling ∷ []))) l.text ≡ (kill_line movement l).text) [
+    elim (goes_by_clusters movement) as (λ b. text_after_events (if b then events else StartKilling ∷ (events ++ (StopKilling ∷ []))) l.text ≡ (kill movement l).line.text) [
       | true ↦ deletion_replayed (range_of movement l) l h
       | false ↦
           replayed_all-first StartKilling (events ++ (StopKilling ∷ [])) l.text ∙ replayed_all-append events (StopKilling ∷ []) l.text
@@ -87,5 +87,5 @@ carried_text [] l = refl
 carried_text (e ∷ es) l = carried_text es (line_after_event e l)
 
 -- the rows that are moved
-pub indent_replayed : (movement : Movement) (amount : ℕ) (dedent : Bool) (l : Line) → text_after_events (indent_events movement amount dedent l) l.text ≡ (indent_line movement amount dedent l).text
-indent_replayed movement amount dedent l = sym (carried_text (indent_events movement amount dedent l) l)
+pub indent_replayed : (movement : Movement) (amount : ℕ) (dedent : Bool) (l : Line) → text_after_events (indent movement amount dedent l).events l.text ≡ (indent movement amount dedent l).line.text
+indent_replayed movement amount dedent l = sym (carried_text (indent movement amount dedent l).events l)

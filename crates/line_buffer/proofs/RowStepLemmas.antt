@@ -7,7 +7,7 @@ use Rattle.std.proofs.lemmas.Str.{IsCharBoundary-from_drop, IsCharBoundary-after
 use Rattle.line_buffer.specs.declared.types.Movement.{Movement}
 use Rattle.line_buffer.specs.Edit.{StopsAt, SameSettings}
 use Rattle.line_buffer.specs.Event.{ChangeEvent}
-use Rattle.line_buffer.specs.Indent.{rows_covered, spaces, indent_events, rows_of, row_event, row_len, row_events}
+use Rattle.line_buffer.specs.Indent.{rows_covered, spaces, indent, rows_of, row_event, row_len, row_events}
 use Rattle.line_buffer.specs.Line.{Line}
 use Rattle.line_buffer.specs.Replay.{Replays, Reports, TellsOfChange, wants_or, line_after_event, line_after_events}
 use Rattle.line_buffer.specs.Rows.{is_in_row, row_start, row_end}
@@ -53,7 +53,7 @@ pub record SomeChange (all : List ChangeEvent) : Type 0 where
   pub tells : TellsOfChange first
   pub events : all ≡ first ∷ never
 
-pub indent_events-some : (movement : Movement) (amount : ℕ) (dedent : Bool) (l : Line) → SomeChange (indent_events movement amount dedent l)
+pub indent_events-some : (movement : Movement) (amount : ℕ) (dedent : Bool) (l : Line) → SomeChange (indent movement amount dedent l).events
 indent_events-some movement amount dedent l =
     let first = row_start l.text (rows_covered movement l).0 in
     let text = slice_range l.text first (row_end l.text (rows_covered movement l).1) in

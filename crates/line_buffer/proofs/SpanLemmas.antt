@@ -13,12 +13,12 @@ use Rattle.line_buffer.specs.declared.types.At.{At}
 use Rattle.line_buffer.specs.declared.types.Word.{Word}
 use Rattle.line_buffer.specs.declared.types.Movement.{Movement}
 use Rattle.line_buffer.specs.declared.types.Movement.TheVariants.{WholeLine, BeginningOfLine, EndOfLine, BackwardWord, ForwardWord, ViCharSearch, ViFirstPrint, BackwardChar, ForwardChar, LineUp, LineDown, WholeBuffer, BeginningOfBuffer, EndOfBuffer}
-use Rattle.line_buffer.specs.Clusters.{clusters, cluster_ends, cluster_starts_back, nth_or_last, place_forward, place_backward, IsPart}
-use Rattle.line_buffer.specs.Hits.{hit_forward, hit_backward, past_cluster, hits}
+use Rattle.line_buffer.specs.Clusters.{clusters, cluster_ends, nth_or_last, place_forward, place_backward, IsPart}
+use Rattle.line_buffer.specs.Hits.{hit_forward, hit_backward, hits}
 use Rattle.line_buffer.specs.Line.{Line, text_before, text_after, with_cursor_at, with_replacement}
 use Rattle.line_buffer.specs.Replay.{replacement, text_after_events}
-use Rattle.line_buffer.specs.Transpositions.{between_clusters, clusters_at, transposes_chars, later_first, transpose_chars_events, transpose_chars_line}
-use Rattle.line_buffer.specs.Range.{deletion_events, deletion_line, kill_events, kill_line, IsSpanOf, up_to_cursor, from_cursor, around_cursor, to_row_end, from_row_start, search_range, range_of}
+use Rattle.line_buffer.specs.Transpositions.{between_clusters, clusters_at, transposes_chars, later_first, transpose_chars}
+use Rattle.line_buffer.specs.Range.{deletion_events, deletion_line, kill_events, kill, IsSpanOf, up_to_cursor, from_cursor, around_cursor, to_row_end, from_row_start, search_range, range_of}
 use Rattle.line_buffer.specs.Rows.{is_in_row, row_start, row_end, behind_newlines, row_starts, starts_above, starts_below, row_close}
 use Rattle.line_buffer.specs.Words.{prev_word, next_word, stops_back, stops_forward}
 use Rattle.line_buffer.proofs.ChainLemmas.{All-last_or, All-reverse}
@@ -68,7 +68,7 @@ module _ (l : Line) (u : IsUtf8 l.text) (b : IsCharBoundary l.text l.place) wher
   pub place_backward-earlier : (n : ℕ) → IfSome (place_backward n l) (IsEarlier l)
   place_backward-earlier n =
       weaker (IsCharBoundary (text_before l)) (IsEarlier l) (place_backward n l) earlier
-      (All-last_or (IsCharBoundary (text_before l)) (take n (cluster_starts_back (text_before l))) (All-take (IsCharBoundary (text_before l)) n (cluster_starts_back (text_before l))
+      (All-last_or (IsCharBoundary (text_before l)) _ (All-take (IsCharBoundary (text_before l)) n _
       (All-map (IsCharBoundary (text_before l)) (λ x. x.0) (reverse (clusters (text_before l)))
       (All-reverse (λ x. IsCharBoundary (text_before l) x.0) (clusters (text_before l)) (λ k d h. (All-IsPartAt (text_before l) (IsUtf8-take l.text l.place u b) k d h).start)))))
 
@@ -85,7 +85,7 @@ module _ (l : Line) (u : IsUtf8 l.text) (b : IsCharBoundary l.text l.place) wher
   on_span : (o : Option ℕ) → IfSome o (IsLater l) → IfSome (option_map (λ i. from_cursor i l) o) (IsSpanOf l.text)
   on_span o h = mapped (λ i. from_cursor i l) (IsSpanOf l.text) o (weaker (IsLater l) (λ i. IsSpanOf l.text (from_cursor i l)) o (λ i e. record { order = e.1; start = b; end = e.0 }) h)
 
-  past-later : IsLater l (past_cluster l)
+  past-later : IsLater l (unwrap_or (place_forward 1 l) l.place)
   past-later = by_place (place_forward 1 l) (place_forward-later 1)
     where
       by_place : (o : Option ℕ) → IfSome o (IsLater l) → IsLater l (unwrap_or o l.place)
@@ -94,7 +94,7 @@ module _ (l : Line) (u : IsUtf8 l.text) (b : IsCharBoundary l.text l.place) wher
 
   hit_forward-part : (c n : ℕ) → IfSome (hit_forward c n l) (λ i. IsPart l.text i (length (encode_utf8 c)) × (l.place ≤ i))
   hit_forward-part c n =
-      let past = past_cluster l in
+      let past : ℕ = unwrap_or (place_forward 1 l) l.place in
       let found = nth_or_last n (hits c (drop past l.text)) in
       mapped (λ i. past + i) (λ i. IsPart l.text i (length (encode_utf8 c)) × (l.place ≤ i)) found
       (weaker (λ i. IsPart (drop past l.text) i (length (encode_utf8 c))) (λ i. IsPart l.text (past + i) (length (encode_utf8 c)) × (l.place ≤ past + i)) found
@@ -227,7 +227,7 @@ module _ (l : Line) (u : IsUtf8 l.text) (b : IsCharBoundary l.text l.place) wher
   range_spans EndOfBuffer = unless_empty (l.place == length l.text) _ (record { order = b.0; start = b; end = IsCharBoundary-end l.text })
 
   -- what the kills, and the deletions that aren't kills, tell leads to the text that they leave
-  pub kill_replays : (movement : Movement) → text_after_events (kill_events movement l) l.text ≡ (kill_line movement l).text
+  pub kill_replays : (movement : Movement) → text_after_events (kill_events movement l) l.text ≡ (kill movement l).line.text
   kill_replays movement = kill_replayed movement l (range_spans movement)
 
   pub deletion_replays : (movement : Movement) → text_after_events (deletion_events (range_of movement l) l) l.text ≡ (deletion_line (range_of movement l) l).text
@@ -256,7 +256,7 @@ module _ (l : Line) (u : IsUtf8 l.text) (b : IsCharBoundary l.text l.place) wher
       s
   between_span false = clusters_span l u b
 
-  pub transpose_chars_replays : text_after_events (transpose_chars_events l) l.text ≡ (transpose_chars_line l).text
+  pub transpose_chars_replays : text_after_events (transpose_chars l).events l.text ≡ (transpose_chars l).line.text
   transpose_chars_replays = by_test (transposes_chars l)
     where
       by_test : (t : Bool) → text_after_events (if t then replacement (clusters_at (between_clusters l)).0 (clusters_at (between_clusters l)).2 (later_first (clusters_at (between_clusters l)) l.text) l.text ∷ [] else []) l.text

@@ -15,7 +15,7 @@ use Rattle.line_buffer.specs.declared.layout.GraphemeClusterMode.{GraphemeCluste
 use Rattle.line_buffer.specs.declared.layout.GraphemeClusterMode.TheVariants.{Unicode, WcWidth, NoZwj}
 use Rattle.line_buffer.specs.declared.layout.TabStops.{TabStops}
 use Rattle.line_buffer.specs.Clusters.{clusters, cluster_ends}
-use Rattle.line_buffer.specs.Columns.{boundary_columns, place_at_column}
+use Rattle.line_buffer.specs.Columns.{place_at_column}
 use Rattle.line_buffer.specs.Tabs.{tab_end, parts_end, column_after}
 use Rattle.line_buffer.specs.Width.{columns_of, width_of}
 use Rattle.line_buffer.proofs.ChainLemmas.{option_map-last_or, last_or-append}
@@ -31,6 +31,10 @@ FirstTab text k = (k < length text) × (get_or text k 0 ≡ 9) × ((i : ℕ) →
 
 abbrev is_tab : ℕ → Bool
 is_tab byte = byte == 0x09
+
+-- the boundaries of the clusters of a row that begins at a column, each with its own column
+abbrev boundary_columns : GraphemeClusterMode → Option TabStops → ℕ → List ℕ → List (ℕ × ℕ)
+boundary_columns mode tabs first row = map (λ i. (i, column_after mode tabs first (take i row))) (0 ∷ cluster_ends row)
 
 none_pass : (text : List ℕ) → NoTabs text → All (λ b. is_tab b ≡ false) text
 none_pass text h = All-from_get_or (λ b. is_tab b ≡ false) text 0 (λ i l. ne_eqb _ 9 (h i l))

@@ -7,7 +7,7 @@ use Rattle.std.proofs.lemmas.Bool.Decides.{nat_tests}
 use Rattle.std.proofs.lemmas.Str.{IsUtf8-drop}
 use Rattle.line_buffer.specs.Replay.{replacement}
 use Rattle.line_buffer.specs.Line.{Line}
-use Rattle.line_buffer.specs.Transpositions.{clusters_around, between_clusters, clusters_at, later_first, transposes_chars, transpose_chars_events}
+use Rattle.line_buffer.specs.Transpositions.{clusters_around, between_clusters, clusters_at, later_first, transposes_chars, transpose_chars}
 use Rattle.line_buffer.proofs.CutLemmas.{at_seam}
 use Rattle.line_buffer.proofs.ReplayLemmas.{if_true}
 
@@ -17,7 +17,7 @@ transposes l pos at behind two = and_from (not (l.place == 0)) (nat_lt 1 (cluste
 
 -- the event of the exchange, as the code has its parts
 pub exchange_event : (l m : Line) (parts : ℕ × ℕ × ℕ) (swapped : List ℕ) → transposes_chars l ≡ true → parts ≡ clusters_at (between_clusters l) → m ≡ l → swapped ≡ later_first parts m.text
-    → transpose_chars_events l ≡ replacement parts.0 parts.2 swapped m.text ∷ []
+    → (transpose_chars l).events ≡ replacement parts.0 parts.2 swapped m.text ∷ []
 exchange_event l m parts swapped holds is same made =
     let at = clusters_at (between_clusters l) in
     if_true (transposes_chars l) (replacement at.0 at.2 (later_first at l.text) l.text ∷ []) [] holds

@@ -13,10 +13,6 @@ clusters text = with_offsets 0 (graphemes true text)
 abbrev pub cluster_ends : List ℕ → List ℕ
 cluster_ends text = map (λ x. x.0 + length x.1) (clusters text)
 
--- the last one first
-abbrev pub cluster_starts_back : List ℕ → List ℕ
-cluster_starts_back text = map (λ x. x.0) (reverse (clusters text))
-
 -- the n-th, the last if there are fewer, none if n is 0 or the list is empty
 abbrev pub nth_or_last : ℕ → List ℕ → Option ℕ
 nth_or_last n places = last_or None (take n places)
@@ -27,7 +23,7 @@ place_forward n l = option_map (λ e. l.place + e) (nth_or_last n (cluster_ends 
 
 -- before the n-th cluster before the cursor
 abbrev pub place_backward : ℕ → Line → Option ℕ
-place_backward n l = nth_or_last n (cluster_starts_back (text_before l))
+place_backward n l = nth_or_last n (map (λ x. x.0) (reverse (clusters (text_before l))))
 
 -- a part of a text between character boundaries
 pub record IsPart (text : List ℕ) (at len : ℕ) : Type 0 where

@@ -9,16 +9,13 @@ use Rattle.line_buffer.specs.Rows.{row_start, row_end, starts_above, starts_belo
 use Rattle.line_buffer.specs.Tabs.{column_after}
 use Rattle.line_buffer.specs.declared.layout.TabStops.{TabStops}
 
--- the boundaries of the clusters of a row that begins at a column, each with its own column
-abbrev pub boundary_columns : GraphemeClusterMode → Option TabStops → ℕ → List ℕ → List (ℕ × ℕ)
-boundary_columns mode tabs first row =
-    map (λ i. (i, column_after mode tabs first (take i row))) (0 ∷ cluster_ends row)
-
--- the last boundary whose column is at most the given one, the row's start if there is none
+-- of the boundaries of the clusters of a row that begins at a column, each with its own column, the
+-- last whose column is at most the given one; the row's start if there is none
 unfoldable pub place_at_column : GraphemeClusterMode → Option TabStops → ℕ → ℕ → List ℕ → ℕ
 place_at_column mode tabs first column row =
-    unwrap_or (option_map (λ x. x.0)
-    (last_or None (filter (λ x. nat_le x.1 column) (boundary_columns mode tabs first row)))) 0
+    let ends : List (ℕ × ℕ) =
+    map (λ i. (i, column_after mode tabs first (take i row))) (0 ∷ cluster_ends row) in
+    unwrap_or (option_map (λ x. x.0) (last_or None (filter (λ x. nat_le x.1 column) ends))) 0
 
 -- the first row begins after the prompt, any other in the first column
 abbrev pub first_column : ℕ → ℕ → ℕ

@@ -27,8 +27,7 @@ pub record StopsAt {S : Type 0} (takes refuses : S → ChangeEvent → S → Typ
 -- a call that succeeded has made the edit; one that failed stopped at one of the edit's events
 pub record EditsLine {S A E : Type 0} (takes refuses : S → ChangeEvent → S → Type 0)
     (closing : List ChangeEvent) (edit : Edit A) (s t : S) (start after : Line)
-    (result : Result A E)
-    : Type 0 where
+    (result : Result A E) : Type 0 where
   pub answer : IfOk result (λ a. a ≡ edit.answer)
   pub told : OnOk result (Reports takes edit.events s t start.text after.text)
   pub line : OnOk result (after ≡ edit.line)
@@ -38,15 +37,14 @@ pub record EditsLine {S A E : Type 0} (takes refuses : S → ChangeEvent → S �
 -- the same, and the text doesn't get longer
 pub record CutsLine {S A E : Type 0} (takes refuses : S → ChangeEvent → S → Type 0)
     (closing : List ChangeEvent) (edit : Edit A) (s t : S) (start after : Line)
-    (result : Result A E)
-    : Type 0 where
+    (result : Result A E) : Type 0 where
   pub edits : EditsLine takes refuses closing edit s t start after result
   pub shrinks : length after.text ≤ length start.text
 
 -- one change is reported and then made; if it fails, the line stays as it was
 pub record ChangesLine {S A E : Type 0} (takes refuses : S → ChangeEvent → S → Type 0)
-    (event : ChangeEvent)
-    (made : Line) (s t : S) (before after : Line) (result : Result A E) : Type 0 where
+    (event : ChangeEvent) (made : Line) (s t : S) (before after : Line) (result : Result A E)
+    : Type 0 where
   pub told : OnOk result (takes s event t)
   pub replays : OnOk result (Replays event before.text after.text)
   pub line : OnOk result (after ≡ made)

@@ -14,25 +14,19 @@ chars_placed at (c ∷ cs) = (at, c) ∷ chars_placed (at + length (encode_utf8 
 abbrev pub placed_chars : List ℕ → List (ℕ × ℕ)
 placed_chars text = chars_placed 0 (chars text)
 
--- the places of a character in a text that begins at a given place
-abbrev pub hits_from : ℕ → ℕ → List ℕ → List ℕ
-hits_from at c text = map (λ x. x.0) (filter (λ x. x.1 == c) (chars_placed at (chars text)))
-
+-- the places of a character in a text
 abbrev pub hits : ℕ → List ℕ → List ℕ
-hits c text = hits_from 0 c text
+hits c text = map (λ x. x.0) (filter (λ x. x.1 == c) (placed_chars text))
 
 -- the place of a text's last character
 abbrev pub last_char : List ℕ → ℕ
 last_char text = unwrap_or (option_map (λ x. x.0) (last_or None (placed_chars text))) 0
 
--- the end of the cluster at the cursor
-abbrev pub past_cluster : Line → ℕ
-past_cluster l = unwrap_or (place_forward 1 l) l.place
-
 -- the n-th place of a character after the cluster at the cursor
 abbrev pub hit_forward : ℕ → ℕ → Line → Option ℕ
 hit_forward c n l =
-    option_map (λ i. past_cluster l + i) (nth_or_last n (hits c (drop (past_cluster l) l.text)))
+    let past = unwrap_or (place_forward 1 l) l.place in
+    option_map (λ i. past + i) (nth_or_last n (hits c (drop past l.text)))
 
 -- before the cursor, the nearest first
 abbrev pub hit_backward : ℕ → ℕ → Line → Option ℕ
@@ -54,8 +48,7 @@ hit (BackwardAfter c) n l = hit_backward c n l
 
 -- the cursor's new place: the hit's, one character before it, or right after it
 abbrev pub search_place : CharSearch → ℕ → Line → Option ℕ
-search_place (Forward c) n l = hit_forward c n l
 search_place (ForwardBefore c) n l = option_map (λ i. last_char (take i l.text)) (hit_forward c n l)
-search_place (Backward c) n l = hit_backward c n l
 search_place (BackwardAfter c) n l =
     option_map (λ i. i + length (encode_utf8 c)) (hit_backward c n l)
+search_place search n l = hit search n l

@@ -7,10 +7,9 @@ use Rattle.line_buffer.specs.declared.types.Movement.{Movement}
 use Rattle.line_buffer.specs.declared.types.Movement.TheVariants.{BackwardWord, ForwardWord, LineUp, LineDown, WholeBuffer, BeginningOfBuffer, EndOfBuffer}
 use Rattle.line_buffer.specs.Clusters.{nth_or_last}
 use Rattle.line_buffer.specs.Edit.{Edit, edit_of_events}
-use Rattle.line_buffer.specs.Event.{ChangeEvent}
-use Rattle.line_buffer.specs.Event.ChangeEvent.{Delete}
+use Rattle.line_buffer.specs.Event.{ChangeEvent, Delete}
 use Rattle.line_buffer.specs.Line.{Line}
-use Rattle.line_buffer.specs.Replay.{insertion, line_after_events}
+use Rattle.line_buffer.specs.Replay.{insertion}
 use Rattle.line_buffer.specs.Rows.{row_start, row_end, starts_above, starts_below}
 use Rattle.line_buffer.specs.Words.{prev_word, next_word}
 
@@ -60,14 +59,8 @@ change_rows margin dedent from upto l =
 abbrev pub spaces : ℕ → List ℕ
 spaces amount = repeat amount (32 ∷ [])
 
-abbrev pub indent_events : Movement → ℕ → Bool → Line → List ChangeEvent
-indent_events movement amount dedent l =
+abbrev pub indent : Movement → ℕ → Bool → Line → Edit Bool
+indent movement amount dedent l =
     let first = row_start l.text (rows_covered movement l).0 in
     let last = row_end l.text (rows_covered movement l).1 in
-    row_events (spaces amount) dedent first (rows_of (slice_range l.text first last))
-
-abbrev pub indent_line : Movement → ℕ → Bool → Line → Line
-indent_line movement amount dedent l = line_after_events (indent_events movement amount dedent l) l
-
-abbrev pub indent : Movement → ℕ → Bool → Line → Edit Bool
-indent movement amount dedent l = edit_of_events true (indent_events movement amount dedent l) l
+    edit_of_events true (change_rows (spaces amount) dedent first last l).events l

@@ -3,8 +3,7 @@ use Rattle.std.specs.Prelude.{⊤, ℕ, zero, suc, ◌+◌, ◌-◌, ◌==◌, B
 use Rattle.std.specs.List.{insert_slice, repeat}
 use Rattle.line_buffer.specs.declared.types.Direction.TheVariants.{Forward}
 use Rattle.line_buffer.specs.Edit.{Edit}
-use Rattle.line_buffer.specs.Event.{ChangeEvent}
-use Rattle.line_buffer.specs.Event.ChangeEvent.{InsertChar}
+use Rattle.line_buffer.specs.Event.{ChangeEvent, InsertChar}
 use Rattle.line_buffer.specs.Line.{Line, without_range}
 use Rattle.line_buffer.specs.Replay.{deletion, insertion}
 
@@ -27,17 +26,14 @@ abbrev pub text_that_fits : List ℕ → Line → List ℕ
 text_that_fits text l =
     if l.growth || nat_le (length text) l.limit then text else take (last_cut text l.limit) text
 
-abbrev pub update_events : List ℕ → Line → List ChangeEvent
-update_events text l =
-    deletion 0 (length l.text) Forward l.text ∷ (insertion 0 (text_that_fits text l) ∷ [])
-
-abbrev pub update_line : List ℕ → ℕ → Line → Line
-update_line text pos l =
-    record l { text = text_that_fits text l; place = min pos (length (text_that_fits text l)) }
-
 abbrev pub update : List ℕ → ℕ → Line → Edit ⊤
 update text pos l =
-    record { answer = tt; events = update_events text l; line = update_line text pos l }
+    let kept = text_that_fits text l in
+    record {
+      answer = tt;
+      events = deletion 0 (length l.text) Forward l.text ∷ (insertion 0 kept ∷ []);
+      line = record l { text = kept; place = min pos (length kept) };
+    }
 
 -- an edit that isn't made if the text doesn't fit
 abbrev pub Insertion : Type 0

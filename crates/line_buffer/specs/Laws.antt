@@ -1,9 +1,9 @@
 -- Laws of the edits.
 use Rattle.std.specs.Prelude.{◌≡◌, ◌≤◌, ℕ, Bool, true, false, IsTrue, IsUtf8, All, List, [], ◌∷◌, ◌++◌, length, drop, map, if◌then◌else◌, is_some, Option, option_map, option_to_list}
+use Rattle.std.specs.List.{join_with_byte}
 use Rattle.line_buffer.specs.declared.types.Movement.{Movement}
 use Rattle.line_buffer.specs.declared.types.Movement.TheVariants.{WholeLine, BeginningOfLine, EndOfLine}
-use Rattle.line_buffer.specs.Event.{ChangeEvent}
-use Rattle.line_buffer.specs.Event.ChangeEvent.{Delete}
+use Rattle.line_buffer.specs.Event.{ChangeEvent, Delete}
 use Rattle.line_buffer.specs.Indent.{front_whitespace, row_events}
 use Rattle.line_buffer.specs.Insertions.{text_that_fits}
 use Rattle.line_buffer.specs.Line.{Line}
@@ -49,12 +49,6 @@ KeepsTheLongestThatFits =
     (text : List ℕ) (l : Line) → IsUtf8 text → l.growth ≡ false
     → IsLongestThatFits text (text_that_fits text l) l.limit
 
--- rows with their newlines between
-unfoldable pub row_text : List (List ℕ) → List ℕ
-row_text [] = []
-row_text (row ∷ []) = row
-row_text (row ∷ (next ∷ rows)) = row ++ 10 ∷ row_text (next ∷ rows)
-
 -- the margin before a row, or the row without as much whitespace at its front
 abbrev pub row_after_indent : List ℕ → Bool → List ℕ → List ℕ
 row_after_indent margin dedent row =
@@ -67,5 +61,5 @@ RowsGetTheirMargin =
     (margin : List ℕ) (dedent : Bool) (before after : List ℕ) (rows : List (List ℕ))
     → All IsUtf8 rows
     → text_after_events (row_events margin dedent (length before) rows)
-    (before ++ (row_text rows ++ after))
-    ≡ before ++ (row_text (map (row_after_indent margin dedent) rows) ++ after)
+    (before ++ (join_with_byte 10 rows ++ after))
+    ≡ before ++ (join_with_byte 10 (map (row_after_indent margin dedent) rows) ++ after)

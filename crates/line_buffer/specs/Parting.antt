@@ -1,7 +1,8 @@
 -- Characters before which a text may be parted: nothing that follows them changes the columns of
 -- what precedes them.
-use Rattle.std.specs.Prelude.{ℕ, Bool, true, false, not, ◌&&◌, ◌||◌, ◌==◌, nat_le, nat_lt, List, [], ◌∷◌, Option, Some, None}
+use Rattle.std.specs.Prelude.{ℕ, Bool, true, false, not, ◌&&◌, ◌||◌, ◌==◌, nat_le, nat_lt, Option}
 use Rattle.std.specs.Int.{is_in_range}
+use Rattle.std.specs.Option.{option_map_or}
 use Rattle.ucd_emoji.specs.Binary.{is_emoji_variation_base}
 use Rattle.line_buffer.specs.Width.{char_columns_of}
 
@@ -22,14 +23,9 @@ is_solid c = not (looks_ahead c) && (nat_le c 0xA0 || nat_lt 0 (char_columns_of 
 abbrev pub takes_marks : ℕ → Bool
 takes_marks c = is_emoji_variation_base c || (is_in_range 0x2D31 0x2D65 c || (c == 0x2D6F))
 
--- tones of skin
-abbrev pub is_tone : ℕ → Bool
-is_tone = is_in_range 0x1F3FB 0x1F3FF
-
--- no mark follows
+-- no mark follows, and no tone of skin
 abbrev pub is_bare : Option ℕ → Bool
-is_bare None = true
-is_bare (Some next) = is_solid next && not (is_tone next)
+is_bare next = option_map_or (λ c. is_solid c && not (is_in_range 0x1F3FB 0x1F3FF c)) next true
 
 -- by the character and the one that follows it
 abbrev pub parts : ℕ → Option ℕ → Bool
@@ -37,9 +33,4 @@ parts c next = is_solid c && (not (takes_marks c) || is_bare next)
 
 -- a selector that makes the character an emoji follows
 abbrev pub is_selected : ℕ → Option ℕ → Bool
-is_selected c None = false
-is_selected c (Some next) = is_emoji_variation_base c && (next == 0xFE0F)
-
-abbrev pub first : List ℕ → Option ℕ
-first [] = None
-first (c ∷ cs) = Some c
+is_selected c next = option_map_or (λ s. is_emoji_variation_base c && (s == 0xFE0F)) next false

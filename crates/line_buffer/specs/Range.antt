@@ -8,8 +8,7 @@ use Rattle.line_buffer.specs.declared.types.Movement.{Movement}
 use Rattle.line_buffer.specs.declared.types.Movement.TheVariants.{WholeLine, BeginningOfLine, EndOfLine, BackwardWord, ForwardWord, ViCharSearch, ViFirstPrint, BackwardChar, ForwardChar, LineUp, LineDown, WholeBuffer, BeginningOfBuffer, EndOfBuffer}
 use Rattle.line_buffer.specs.Clusters.{place_forward, place_backward}
 use Rattle.line_buffer.specs.Edit.{Edit}
-use Rattle.line_buffer.specs.Event.{ChangeEvent}
-use Rattle.line_buffer.specs.Event.ChangeEvent.{StartKilling, StopKilling}
+use Rattle.line_buffer.specs.Event.{ChangeEvent, StartKilling, StopKilling}
 use Rattle.line_buffer.specs.Hits.{hit}
 use Rattle.line_buffer.specs.Line.{Line, without_range}
 use Rattle.line_buffer.specs.Replay.{deletion}
@@ -85,9 +84,7 @@ range_of EndOfBuffer l =
 -- the range that is copied: the same, except for the newlines at the ends of a row
 abbrev pub copied_range : Movement → Line → Option TextSpan
 copied_range WholeLine l =
-    let from = row_start l.text l.place in
-    let upto = row_end l.text l.place in
-    if from == upto then None else Some (record { from = from; upto = upto; direction = Forward })
+    if row_start l.text l.place == row_end l.text l.place then None else range_of WholeLine l
 copied_range BeginningOfLine l =
     if row_start l.text l.place == l.place then None else from_row_start l
 copied_range EndOfLine l = if l.place == row_end l.text l.place then None else to_row_end l.place l
@@ -138,12 +135,5 @@ kill_events movement l =
 abbrev pub kill_closing : Movement → List ChangeEvent
 kill_closing movement = if goes_by_clusters movement then [] else StopKilling ∷ []
 
-abbrev pub kill_line : Movement → Line → Line
-kill_line movement l = deletion_line (range_of movement l) l
-
 abbrev pub kill : Movement → Line → Edit Bool
-kill movement l = record {
-  answer = is_some (range_of movement l);
-  events = kill_events movement l;
-  line = kill_line movement l;
-}
+kill movement l = record (deletion_by movement l) { events = kill_events movement l }

@@ -2,8 +2,7 @@
 -- that keeps its place in the text.
 use Rattle.std.specs.Prelude.{◌≡◌, ℕ, ◌+◌, List, [], ◌∷◌, ◌++◌, ◌⊎◌, length, slice_range, IsUtf8, IsCharBoundary, encode_utf8, ◌-◌, min, nat_le, if◌then◌else◌}
 use Rattle.std.specs.List.{replace_range}
-use Rattle.line_buffer.specs.Event.{ChangeEvent}
-use Rattle.line_buffer.specs.Event.ChangeEvent.{StartKilling, StopKilling, Delete, InsertChar, InsertStr, Replace}
+use Rattle.line_buffer.specs.Event.{ChangeEvent, StartKilling, StopKilling, Delete, InsertChar, InsertStr, Replace}
 use Rattle.line_buffer.specs.declared.types.Direction.{Direction}
 use Rattle.line_buffer.specs.Line.{Line}
 
@@ -23,13 +22,7 @@ Replays (InsertStr at text) before after = Swaps at [] text before after
 Replays (Replace at removed added) before after = Swaps at removed added before after
 Replays mark before after = after ≡ before
 
--- the change of a text by events in order
-abbrev pub ReplaysAll : List ChangeEvent → List ℕ → List ℕ → Type 0
-ReplaysAll [] before after = after ≡ before
-ReplaysAll (e ∷ es) before after =
-    (between : List ℕ) × Replays e before between × ReplaysAll es between after
-
--- the change of a listener by events in order
+-- the change of a listener, or of a text, by events in order
 abbrev pub TakesAll : {S : Type 0} → (S → ChangeEvent → S → Type 0) → S → List ChangeEvent → S
     → Type 0
 TakesAll takes s [] t = t ≡ s
@@ -37,10 +30,9 @@ TakesAll {S} takes s (e ∷ es) t = (u : S) × takes s e u × TakesAll takes u e
 
 -- the listener took the events in order, and they lead from one text to the other
 pub record Reports {S : Type 0} (takes : S → ChangeEvent → S → Type 0) (events : List ChangeEvent)
-    (s t : S)
-    (before after : List ℕ) : Type 0 where
+    (s t : S) (before after : List ℕ) : Type 0 where
   pub told : TakesAll takes s events t
-  pub replays : ReplaysAll events before after
+  pub replays : TakesAll (λ text e later. Replays e text later) before events after
 
 -- an event that reports a change, and so can fail; the marks of a kill can't
 abbrev pub TellsOfChange : ChangeEvent → Type 0
@@ -57,8 +49,7 @@ wants_or refuses s e t = (t ≡ s) ⊎ refuses s e t
 -- left. That event was stopped by the listener's error or as in `wants_or`; the later ones never
 -- come. At last the listener was notified of what closes the call
 pub record StopsAmong {S : Type 0} (takes stops : S → ChangeEvent → S → Type 0)
-    (closing events : List ChangeEvent)
-    (s t : S) (before after : List ℕ) : Type 0 where
+    (closing events : List ChangeEvent) (s t : S) (before after : List ℕ) : Type 0 where
   pub done : List ChangeEvent
   pub refused : ChangeEvent
   pub never : List ChangeEvent

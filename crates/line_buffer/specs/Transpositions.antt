@@ -1,12 +1,11 @@
 -- Transpositions of two parts of a text: the clusters at the cursor, or the words around it.
-use Rattle.std.specs.Prelude.{⊤, ℕ, ◌+◌, ◌==◌, ◌&&◌, not, nat_lt, nat_le, true, Bool, if◌then◌else◌, List, [], ◌∷◌, ◌++◌, length, slice_range}
+use Rattle.std.specs.Prelude.{⊤, ℕ, ◌+◌, ◌==◌, ◌&&◌, not, nat_lt, nat_le, true, Bool, if◌then◌else◌, List, [], ◌∷◌, ◌++◌, length, slice_range, unwrap_or}
 use Rattle.std.specs.List.{replace_range}
 use Rattle.unicode_segmentation.specs.Grapheme.{graphemes}
 use Rattle.line_buffer.specs.declared.types.At.TheVariants.{AfterEnd}
 use Rattle.line_buffer.specs.declared.types.Word.TheVariants.{Emacs}
 use Rattle.line_buffer.specs.Clusters.{place_forward, place_backward}
 use Rattle.line_buffer.specs.Edit.{Edit}
-use Rattle.line_buffer.specs.Event.{ChangeEvent}
 use Rattle.line_buffer.specs.Line.{Line, text_before, text_after, with_cursor_at, with_replacement}
 use Rattle.line_buffer.specs.Replay.{replacement}
 use Rattle.line_buffer.specs.Words.{prev_word, next_word}
@@ -17,11 +16,8 @@ between_clusters l = if l.place == length l.text then with_cursor_at (place_back
 
 -- where the cluster before a place starts, the place, and where the cluster after it ends
 abbrev pub clusters_at : Line → ℕ × ℕ × ℕ
-clusters_at l = (
-  (with_cursor_at (place_backward 1 l) l).place,
-  l.place,
-  (with_cursor_at (place_forward 1 l) l).place,
-)
+clusters_at l =
+    (unwrap_or (place_backward 1 l) l.place, l.place, unwrap_or (place_forward 1 l) l.place)
 
 -- how many clusters are before the cursor and after it, each text split by itself
 abbrev pub clusters_around : Line → ℕ
@@ -35,23 +31,15 @@ transposes_chars l = not (l.place == 0) && nat_lt 1 (clusters_around l)
 abbrev pub later_first : ℕ × ℕ × ℕ → List ℕ → List ℕ
 later_first parts text = slice_range text parts.1 parts.2 ++ slice_range text parts.0 parts.1
 
-abbrev pub transpose_chars_events : Line → List ChangeEvent
-transpose_chars_events l =
-    let parts = clusters_at (between_clusters l) in
-    if transposes_chars l then replacement parts.0 parts.2 (later_first parts l.text) l.text ∷ []
-    else []
-
-abbrev pub transpose_chars_line : Line → Line
-transpose_chars_line l =
-    let parts = clusters_at (between_clusters l) in
-    if transposes_chars l then with_replacement parts.0 parts.2 (later_first parts l.text) l else l
-
 abbrev pub transpose_chars : Line → Edit Bool
-transpose_chars l = record {
-  answer = transposes_chars l;
-  events = transpose_chars_events l;
-  line = transpose_chars_line l;
-}
+transpose_chars l =
+    let parts = clusters_at (between_clusters l) in
+    let swapped = later_first parts l.text in
+    record {
+      answer = transposes_chars l;
+      events = if transposes_chars l then replacement parts.0 parts.2 swapped l.text ∷ [] else [];
+      line = if transposes_chars l then with_replacement parts.0 parts.2 swapped l else l;
+    }
 
 -- the cursor after the n-th later end of a word, and at the n-th earlier start of one
 unfoldable pub after_words : ℕ → Line → Line
@@ -78,50 +66,35 @@ words_around n l = record {
   second = ((second_word n l).place, (after_words n l).place);
 }
 
--- the later part is replaced first, so that the earlier one is still at its place
-abbrev pub swap_events : WordPair → List ℕ → List ChangeEvent
-swap_events p text =
-    let first = slice_range text p.first.0 p.first.1 in
-    let second = slice_range text p.second.0 p.second.1 in
-    replacement p.second.0 p.second.1 first text
-    ∷ (replacement p.first.0 p.first.1 second
-    (replace_range text p.second.0 p.second.1 first) ∷ [])
-
--- the cursor after both
-abbrev pub swap_line : WordPair → Line → Line
-swap_line p l =
+-- the later part is replaced first, so that the earlier one is still at its place; the cursor goes
+-- after both
+abbrev pub swap : WordPair → Line → Edit ⊤
+swap p l =
     let first = slice_range l.text p.first.0 p.first.1 in
     let second = slice_range l.text p.second.0 p.second.1 in
-    record l {
-      text = replace_range
-          (replace_range l.text p.second.0 p.second.1 first) p.first.0 p.first.1 second;
-      place = p.second.1;
+    let between = replace_range l.text p.second.0 p.second.1 first in
+    record {
+      answer = tt;
+      events = replacement p.second.0 p.second.1 first l.text
+          ∷ (replacement p.first.0 p.first.1 second between ∷ []);
+      line = record l
+          { text = replace_range between p.first.0 p.first.1 second; place = p.second.1 };
     }
 
-abbrev pub swap : WordPair → Line → Edit ⊤
-swap p l = record { answer = tt; events = swap_events p l.text; line = swap_line p l }
-
-abbrev pub are_apart : WordPair → Bool
-are_apart p = not (p.first.0 == p.second.0) && nat_le p.first.1 p.second.0
-
+-- the words are two, one before the other
 abbrev pub transposes_words : ℕ → Line → Bool
-transposes_words n l = are_apart (words_around n l)
-
-abbrev pub transpose_words_events : ℕ → Line → List ChangeEvent
-transpose_words_events n l =
-    if transposes_words n l then swap_events (words_around n l) l.text else []
+transposes_words n l =
+    let p = words_around n l in not (p.first.0 == p.second.0) && nat_le p.first.1 p.second.0
 
 -- if the words aren't two, the cursor stays after the first
-abbrev pub transpose_words_line : ℕ → Line → Line
-transpose_words_line n l =
-    if transposes_words n l then swap_line (words_around n l) l else after_words 1 (first_word n l)
-
 abbrev pub transpose_words : ℕ → Line → Edit Bool
-transpose_words n l = record {
-  answer = transposes_words n l;
-  events = transpose_words_events n l;
-  line = transpose_words_line n l;
-}
+transpose_words n l =
+    let swapped = swap (words_around n l) l in
+    record {
+      answer = transposes_words n l;
+      events = if transposes_words n l then swapped.events else [];
+      line = if transposes_words n l then swapped.line else after_words 1 (first_word n l);
+    }
 
 -- the line at which these events begin: the cursor has already moved
 abbrev pub before_transposed : ℕ → Line → Line

@@ -10,15 +10,11 @@ use Rattle.line_buffer.specs.declared.layout.GraphemeClusterMode.TheVariants.{Un
 abbrev pub char_columns_of : ℕ → ℕ
 char_columns_of c = unwrap_or (char_width false c) 0
 
--- the characters between joiners
-abbrev pub parts_between_joiners : List ℕ → List (List ℕ)
-parts_between_joiners cs = slice_split (λ c. c == 0x200D) cs
-
--- of characters
+-- of characters; by `NoZwj` of each part between joiners
 abbrev pub columns_of : GraphemeClusterMode → List ℕ → ℕ
 columns_of Unicode cs = str_width false cs
 columns_of WcWidth cs = sum_by char_columns_of cs
-columns_of NoZwj cs = sum_by (str_width false) (parts_between_joiners cs)
+columns_of NoZwj cs = sum_by (str_width false) (slice_split (λ c. c == 0x200D) cs)
 
 -- of a text: at most the greatest number of columns
 abbrev pub width_of : GraphemeClusterMode → List ℕ → ℕ

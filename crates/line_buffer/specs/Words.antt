@@ -41,10 +41,6 @@ starts_between InWord InWord = false
 starts_between Other Other = false
 starts_between x y = true
 
--- a word ends where one would start in the other direction
-abbrev pub ends_between : ClusterKind → ClusterKind → Bool
-ends_between x y = starts_between y x
-
 -- the clusters of a text by their places and kinds
 abbrev pub kinds : Word → List (ℕ × List ℕ) → List (ℕ × ClusterKind)
 kinds word pieces = map (λ x. (x.0, kind_of word x.1)) pieces
@@ -58,11 +54,12 @@ pub record EndsInRun (word : Word) (text : List ℕ) (at : ℕ) (kind : ClusterK
   pub splits : kinds word (clusters text) ≡
       kinds word (clusters (take at text)) ++ map (λ i. (i, kind)) (at ∷ later)
 
--- the place between two neighbours, if such a motion can stop there
+-- the place between two neighbours, if such a motion can stop there; a word ends where one would
+-- start in the other direction
 abbrev pub edge_between : At → ℕ × ClusterKind → ℕ × ClusterKind → Option ℕ
 edge_between Start x y = if starts_between x.1 y.1 then Some y.0 else None
-edge_between BeforeEnd x y = if ends_between x.1 y.1 then Some x.0 else None
-edge_between AfterEnd x y = if ends_between x.1 y.1 then Some y.0 else None
+edge_between BeforeEnd x y = if starts_between y.1 x.1 then Some x.0 else None
+edge_between AfterEnd x y = if starts_between y.1 x.1 then Some y.0 else None
 
 -- the places at which such a motion can stop inside a text
 abbrev pub edges_of : At → List (ℕ × ClusterKind) → List ℕ
@@ -74,8 +71,8 @@ abbrev pub clusters_at : ℕ → List ℕ → List (ℕ × List ℕ)
 clusters_at from text = with_offsets from (graphemes true text)
 
 -- the first clusters of a text are of one kind, and the last of them stands from `last` to `end`:
--- a motion over the text can stop before the first, if something stands there, and where it can over
--- the last and the clusters of the text behind it
+-- a motion over the text can stop before the first, if something stands there, and where it can
+-- over the last and the clusters of the text behind it
 pub record BeginsInRun (word : Word) (text : List ℕ) (last end : ℕ) (kind : ClusterKind) : Type 0
   where
     pub boundary : IsCharBoundary text end

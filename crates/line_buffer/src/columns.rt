@@ -3,11 +3,11 @@
 #![tactic(auto, unfolding(crate::specs::Columns::cursor_column, crate::specs::Columns::place_in_row, crate::specs::Columns::line_up, crate::specs::Columns::line_down))]
 
 ghost use Rattle.std.specs.Char.{IsScalar};
-ghost use Rattle.std.specs.Prelude.{◌≡◌, ◌<◌, ◌≤◌, ◌+◌, ◌&&◌, ◌||◌, min, take, drop, slice_range, chars, Some, None, is_some, IfSome, IsCharBoundary};
+ghost use Rattle.std.specs.Prelude.{◌≡◌, ◌<◌, ◌≤◌, ◌+◌, ◌&&◌, ◌||◌, min, take, drop, slice_get, slice_range, chars, Some, None, is_some, IfSome, IsCharBoundary};
 ghost use Rattle.std.specs.List.{list_all};
 ghost use Rattle.line_buffer.specs.Width.{columns_of};
 ghost use Rattle.line_buffer.specs.Line.{with_cursor_at};
-ghost use Rattle.line_buffer.specs.Parting.{looks_ahead, is_solid, takes_marks, first, is_bare, parts, is_selected, is_flag_letter};
+ghost use Rattle.line_buffer.specs.Parting.{looks_ahead, is_solid, takes_marks, is_bare, parts, is_selected, is_flag_letter};
 ghost use Rattle.line_buffer.specs.Columns.{place_at_column, first_column, cursor_column, place_in_row, line_up, line_down};
 
 use crate::layout::{GraphemeClusterMode, Layout, TabStops, Unit, char_columns};
@@ -95,7 +95,7 @@ fn parts(c: char, next: Option<char>, flags: bool, inside: bool) -> bool
 }
 
 fn first_char(text: &str) -> Option<char>
-    ensures { result ≡ first (chars text.now) }
+    ensures { result ≡ slice_get (chars text.now) 0 }
 {
     match text.chars().next() {
         Some(c) => Some(c),

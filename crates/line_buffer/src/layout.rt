@@ -2,7 +2,9 @@
 
 ghost use Rattle.std.specs.Prelude.{◌≡◌, ◌≤◌, min, false, chars, unwrap_or, None};
 ghost use Rattle.std.specs.Ordering.{as_partial_cmp};
-ghost use Rattle.line_buffer.specs.Cells.{origin, reading_order, reading_order_total, reading_order_agrees, reading_order_ties, reading_order_partial};
+ghost use Rattle.std.specs.Cmp.{partial_order_from_agreeing_total};
+ghost use Rattle.std.proofs.Common.{refl};
+ghost use Rattle.line_buffer.specs.Cells.{origin, reading_order, reading_order_total, reading_order_ties};
 ghost use Rattle.line_buffer.specs.declared.layout.GraphemeClusterMode.TheVariants.{WcWidth, NoZwj};
 ghost use Rattle.line_buffer.specs.Width.{char_columns_of, columns_of, width_of};
 
@@ -24,7 +26,7 @@ impl Ord for Position {
 
     ghost total = { reading_order_total };
 
-    ghost matches_partial_cmp = { reading_order_agrees };
+    ghost matches_partial_cmp = { λ _ _. refl };
 
     ghost matches_eq = { reading_order_ties };
 
@@ -37,7 +39,8 @@ impl Ord for Position {
 impl PartialOrd for Position {
     ghost partial_cmp = { as_partial_cmp reading_order };
 
-    ghost laws = { reading_order_partial };
+    ghost laws = { partial_order_from_agreeing_total reading_order reading_order_total (λ _ _. refl)
+        reading_order_ties };
 
     fn partial_cmp(&self, other: &Position) -> Option<Ordering> {
         Some(self.cmp(other))

@@ -183,11 +183,6 @@ impl LineBuffer {
         let end = self.row_end();
         match movement {
             Movement::WholeLine if start == end => None,
-            Movement::WholeLine => Some(TextSpan {
-                from: start,
-                upto: end,
-                direction: Direction::Forward,
-            }),
             Movement::BeginningOfLine if start == self.pos() => None,
             Movement::EndOfLine if self.pos() == end => None,
             movement => self.range_of(movement),

@@ -5,7 +5,7 @@ use Rattle.std.specs.IoError.{error_kind}
 use Rattle.std.specs.declared.io.Error.{Error}
 use Rattle.std.specs.declared.io.ErrorKind.{ErrorKind}
 use Rattle.std.specs.declared.io.ErrorKind.TheVariants.{Interrupted}
-use Rattle.line_config.specs.DeviceCalls.{AnswersFlush, AnswersWrite, DeviceCall, Moves, Flushes, EndsWithCall, IsWriteFailure, IsFlush, Since, Tries, again, flush_interrupted, flushes, move_interrupted, bytes_moved, moves}
+use Rattle.line_config.specs.DeviceCalls.{Answers, DeviceCall, Moves, Flushes, EndsWithCall, IsWriteFailure, IsFlush, Since, Tries, again, flush_interrupted, flushes, move_interrupted, bytes_moved, moves}
 
 pub again_none : (call : DeviceCall) (before : List DeviceCall) → before ≡ again 0 call before
 unfolding again
@@ -80,15 +80,15 @@ ends_since Is a b c first second = record {
 }
 
 -- a write that failed has failed its writer
-pub write_fails : {A : Type 0} (bytes : List ℕ) (result : Result ℕ A) (e : A) → result ≡ Err e → (c : DeviceCall) → AnswersWrite bytes result c → IsWriteFailure c
+pub write_fails : {A : Type 0} (bytes : List ℕ) (result : Result ℕ A) (e : A) → result ≡ Err e → (c : DeviceCall) → Answers (Moves (Ok (bytes_moved result bytes))) IsWriteFailure result c → IsWriteFailure c
 write_fails bytes result e is c answers = rw is at answers
 
 -- a flush after other calls
-pub flush_ends : {E : Type 0} (result : Result ⊤ E) (a b c : List DeviceCall) → Since a b → Tries flush_interrupted b c (AnswersFlush result) → OnOk result (EndsWithCall IsFlush a c)
+pub flush_ends : {E : Type 0} (result : Result ⊤ E) (a b c : List DeviceCall) → Since a b → Tries flush_interrupted b c (Answers (Flushes (Ok tt)) IsWriteFailure result) → OnOk result (EndsWithCall IsFlush a c)
 flush_ends (Ok x) a b c first t = ends_tries flush_interrupted a b c IsFlush IsFlush first t (λ call is. is)
 flush_ends (Err e) a b c first t = tt
 
-pub flush_fails : {E : Type 0} (result : Result ⊤ E) (a b c : List DeviceCall) → Since a b → Tries flush_interrupted b c (AnswersFlush result)
+pub flush_fails : {E : Type 0} (result : Result ⊤ E) (a b c : List DeviceCall) → Since a b → Tries flush_interrupted b c (Answers (Flushes (Ok tt)) IsWriteFailure result)
     → OnErr result (EndsWithCall IsWriteFailure a c)
 flush_fails (Ok x) a b c first t = tt
 flush_fails (Err e) a b c first t = ends_tries flush_interrupted a b c IsWriteFailure IsWriteFailure first t (λ call is. is)

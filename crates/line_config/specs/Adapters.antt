@@ -2,7 +2,7 @@
 -- std's ghost members of these.
 use Rattle.std.specs.Prelude.{◌≡◌, ◌⊎◌, ◌∷◌, ℕ, ◌+◌, ◌-◌, ◌^◌, ◌<◌, List, [], ◌++◌, length, option_to_list, Option, Some, None, Bool, Result, Ok, Err, unwrap_or}
 use Rattle.std.specs.Io.KnownBytes.{Consumes, IsAtEnd}
-use Rattle.line_config.specs.Buffer.{bytes_in, piece_in, room_in}
+use Rattle.line_config.specs.Buffer.{bytes_in, piece_in}
 use Rattle.line_config.specs.Feed.{Feed}
 use Rattle.line_config.specs.DeviceCalls.{DeviceCall, Moves, Tries, move_interrupted}
 use Rattle.line_config.specs.Foretold.{is_failed}
@@ -12,11 +12,6 @@ use Rattle.line_config.specs.declared.adapters.WriteSink.{WriteSink}
 use Rattle.line_config.specs.declared.device.DeviceFailed.{DeviceFailed}
 use Rattle.line_config.specs.declared.device.Last.{Last}
 use Rattle.line_config.specs.declared.device.Last.TheVariants.{End, Failed}
-use Rattle.line_config.specs.declared.recorded.Recorded.{Recorded}
-
--- the reader with the log of its calls
-abbrev pub reader_with_log : {R K : Type 0} → ReadSource R K → Recorded R
-reader_with_log s = s.reader
 
 abbrev pub reader_of : {R K : Type 0} → ReadSource R K → R
 reader_of s = inner_of s.reader
@@ -28,10 +23,6 @@ bytes_not_given s = bytes_in s.unread
 -- what its reads gave
 abbrev pub gave : {R K : Type 0} → ReadSource R K → List ℕ
 gave s = took s.reader
-
--- the end or the failure that a read met
-abbrev pub end_met : {R K : Type 0} → ReadSource R K → Option Last
-end_met s = s.met
 
 -- after an end or a failure nothing remains
 abbrev pub to_come : Option Last → List ℕ → List ℕ
@@ -60,8 +51,8 @@ pub record IsUnread {R K : Type 0} (reader : R) (s : ReadSource R K) : Type 0 wh
   pub reader_is : reader_of s ≡ reader
   pub unread : bytes_not_given s ≡ []
   pub none_given : gave s ≡ []
-  pub not_called : calls_of (reader_with_log s) ≡ []
-  pub none_met : end_met s ≡ None
+  pub not_called : calls_of s.reader ≡ []
+  pub none_met : s.met ≡ None
 
 -- the byte of a call of a source
 abbrev pub byte_given_by : Result (Option ℕ) DeviceFailed → List ℕ
@@ -78,13 +69,11 @@ end_met_by call = None
 -- a source reads once, if nothing is unread and nothing was met; or not at all, and then it fails
 -- anew only after so many bytes
 abbrev pub ReadsOnce : {R K : Type 0} → ReadSource R K → ReadSource R K → Type 0
-ReadsOnce old new =
-    ((bytes_not_given old ≡ []) × (end_met old ≡ None)
-    × Tries move_interrupted (calls_of (reader_with_log old)) (calls_of (reader_with_log new))
-    (λ call. end_met new ≡ end_met_by call))
-    ⊎ ((reader_with_log new ≡ reader_with_log old)
-    × ((end_met new ≡ end_met old) ⊎
-    ((end_met new ≡ Some Failed) × (2 ^ 63 - 4096 < length (gave old)))))
+ReadsOnce old new = ((bytes_not_given old ≡ []) × (old.met ≡ None)
+    × Tries move_interrupted (calls_of old.reader) (calls_of new.reader)
+    (λ call. new.met ≡ end_met_by call))
+    ⊎ ((new.reader ≡ old.reader) × ((new.met ≡ old.met)
+    ⊎ ((new.met ≡ Some Failed) × (2 ^ 63 - 4096 < length (gave old)))))
 
 -- a source gave these bytes, from the front of what its reads gave. What is noted more is what the
 -- reader gave more, if the reader reports its bytes; at the end nothing of them was left. While
@@ -96,16 +85,10 @@ pub record AsksReader {R K : Type 0} (remaining : R → Option (List ℕ)) (byte
   pub noted : gave new ≡ gave old ++ more
   pub passed : bytes_not_given old ++ more ≡ bytes ++ bytes_not_given new
   pub reader : Consumes (remaining (reader_of old)) (remaining (reader_of new)) more
-  pub lazy : 0 < length (bytes_not_given old) → (more ≡ []) ×
-      (reader_with_log new ≡ reader_with_log old)
+  pub lazy : 0 < length (bytes_not_given old) → (more ≡ []) × (new.reader ≡ old.reader)
   pub once : 0 < length more → more ≡ piece_in new.unread
-  pub end : end_met old ≡ None → end_met new ≡ Some End → IsAtEnd (remaining (reader_of new))
-  pub stays : (last : Last) → end_met old ≡ Some last
-      → (end_met new ≡ Some last) × (reader_with_log new ≡ reader_with_log old)
-
--- the writer with the log of what its writes took
-abbrev pub writer_with_log : {W : Type 0} → WriteSink W → Recorded W
-writer_with_log s = s.writer
+  pub end : old.met ≡ None → new.met ≡ Some End → IsAtEnd (remaining (reader_of new))
+  pub stays : (x : Last) → old.met ≡ Some x → (new.met ≡ Some x) × (new.reader ≡ old.reader)
 
 abbrev pub writer_of : {W : Type 0} → WriteSink W → W
 writer_of s = inner_of s.writer
@@ -118,10 +101,6 @@ bytes_sent s = took s.writer
 abbrev pub bytes_not_sent : {W : Type 0} → WriteSink W → List ℕ
 bytes_not_sent s = bytes_in s.unsent
 
--- how many more bytes fit before any are sent
-abbrev pub room_of : {W : Type 0} → WriteSink W → ℕ
-room_of s = room_in s.unsent
-
 -- the same and what was not sent yet: all that the sink took
 abbrev pub bytes_taken : {W : Type 0} → WriteSink W → List ℕ
 bytes_taken s = bytes_sent s ++ bytes_not_sent s
@@ -132,4 +111,4 @@ pub record IsUnused {W : Type 0} (contents : W → Option (List ℕ)) (writer : 
   pub writer_is : writer_of s ≡ writer
   pub sent : bytes_sent s ≡ unwrap_or (contents writer) []
   pub unsent : bytes_not_sent s ≡ []
-  pub not_called : calls_of (writer_with_log s) ≡ []
+  pub not_called : calls_of s.writer ≡ []

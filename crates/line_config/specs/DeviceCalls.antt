@@ -1,5 +1,5 @@
 -- The calls of a reader or a writer with their answers, the newest first.
-use Rattle.std.specs.Prelude.{◌≡◌, ⊤, ℕ, ◌+◌, ◌-◌, ◌^◌, suc, zero, List, [], ◌∷◌, ◌++◌, take, Result, Ok, Err}
+use Rattle.std.specs.Prelude.{◌≡◌, ⊤, ℕ, ◌+◌, ◌-◌, ◌^◌, suc, zero, List, [], ◌∷◌, ◌++◌, take, Result, Ok, Err, MatchResult}
 use Rattle.std.specs.IoError.{error_kind}
 use Rattle.std.specs.declared.io.Error.{Error}
 use Rattle.std.specs.declared.io.ErrorKind.{ErrorKind}
@@ -76,20 +76,7 @@ IsWriteFailure call = ⊤
 abbrev pub IsFlush : DeviceCall → Type 0
 IsFlush call = call ≡ Flushes (Ok tt)
 
--- the last call of a read, a write or a flush with this answer
-abbrev pub AnswersRead : {E : Type 0} → List ℕ → Result ℕ E → DeviceCall → Type 0
-AnswersRead bytes (Ok n) call = call ≡ Moves (Ok (take n bytes))
-AnswersRead bytes (Err e) call = IsReadFailure call
-
-abbrev pub AnswersWrite : {E : Type 0} → List ℕ → Result ℕ E → DeviceCall → Type 0
-AnswersWrite bytes (Ok n) call = call ≡ Moves (Ok (take n bytes))
-AnswersWrite bytes (Err e) call = IsWriteFailure call
-
-abbrev pub AnswersFlush : {E : Type 0} → Result ⊤ E → DeviceCall → Type 0
-AnswersFlush (Ok x) call = IsFlush call
-AnswersFlush (Err e) call = IsWriteFailure call
-
--- the last call of a read that gave these bytes, or failed
-abbrev pub FillsBy : {A E : Type 0} → List ℕ → Result A E → DeviceCall → Type 0
-FillsBy bytes (Ok x) call = call ≡ Moves (Ok bytes)
-FillsBy bytes (Err e) call = IsReadFailure call
+-- the last call of a read, a write or a flush with this answer: this one, or one that failed so
+abbrev pub Answers : {A E : Type 0} → DeviceCall → (DeviceCall → Type 0) → Result A E
+    → DeviceCall → Type 0
+Answers done IsFailure result call = MatchResult result (λ _. call ≡ done) (λ _. IsFailure call)

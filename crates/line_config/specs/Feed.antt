@@ -27,13 +27,7 @@ pub record Feed : Type 0 where
 -- a source over memory of these bytes, followed by this, before it gave any
 abbrev pub fresh_feed : List ℕ → Last → Feed
 fresh_feed bytes last =
-    record {
-      told = true;
-      coming = bytes;
-      last = last;
-      bound = length bytes;
-      failed = false;
-    }
+    record { told = true; coming = bytes; last = last; bound = length bytes; failed = false }
 
 -- a source that always agrees with the assumption, like one over memory
 abbrev pub AlwaysTold : {F : Type 0} → (F → Feed) → Type 0

@@ -1,5 +1,5 @@
 -- What is assumed of a reader, compared with what its reads gave.
-use Rattle.std.specs.Prelude.{◌≡◌, IsTrue, ℕ, ◌==◌, Bool, true, false, if◌then◌else◌, List, [], ◌∷◌, ◌++◌, Option, Some, None, unwrap_or}
+use Rattle.std.specs.Prelude.{◌≡◌, IsTrue, ℕ, ◌==◌, Bool, true, false, not, if◌then◌else◌, List, [], ◌∷◌, ◌++◌, Option, Some, None, unwrap_or}
 use Rattle.std.specs.Io.KnownBytes.{Consumes, IsAtEnd}
 use Rattle.line_config.specs.declared.device.Last.{Last}
 use Rattle.line_config.specs.declared.device.Last.TheVariants.{End, Failed}
@@ -20,25 +20,16 @@ agrees (Some []) End (Some End) = true
 agrees (Some []) Failed (Some Failed) = true
 agrees (Some left) last met = false
 
--- what follows the bytes, if the reads met this
-abbrev pub last_met : Option Last → Last
-last_met None = End
-last_met (Some last) = last
-
 -- what reads gave, and the end or failure that they met, agree with themselves
 abbrev pub EachRunAgrees : Type 0
 EachRunAgrees = (given : List ℕ) (met : Option Last)
-    → IsTrue (agrees (rest_after_given given given) (last_met met) met)
+    → IsTrue (agrees (rest_after_given given given) (unwrap_or met End) met)
 
 -- ---- what is said
 
 abbrev pub is_failed : Option Last → Bool
 is_failed (Some Failed) = true
 is_failed met = false
-
-abbrev pub works : Option Last → Bool
-works (Some Failed) = false
-works met = true
 
 -- a read that left this reader gave these bytes and met this: none if it met the end or failed; and
 -- at the end none is left
@@ -59,8 +50,7 @@ pub record HeldBefore {R : Type 0} (told : R → List ℕ → Option Last → Bo
 -- what is said of a reader is kept from read to read: if it holds after one, it held before
 abbrev pub Foretells : {R : Type 0} → (R → Option (List ℕ)) → (R → List ℕ → Option Last → Bool)
     → (R → List ℕ → List ℕ) → Last → Type 0
-Foretells {R} remaining told left last =
-    (old new : R) (given more : List ℕ) (met : Option Last)
+Foretells {R} remaining told left last = (old new : R) (given more : List ℕ) (met : Option Last)
     → Consumes (remaining old) (remaining new) more → Meets remaining new more met
     → IsTrue (told new (given ++ more) met) → HeldBefore told left last old new given more met
 
@@ -78,7 +68,7 @@ rest_as_said all r given = unwrap_or (rest_after_given all given) []
 
 -- said of a reader that reports its bytes: it gives these, and doesn't fail
 abbrev pub own_told : {R : Type 0} → R → List ℕ → Option Last → Bool
-own_told r given met = works met
+own_told r given met = not (is_failed met)
 
 abbrev pub own_left : {R : Type 0} → (R → List ℕ) → R → List ℕ → List ℕ
 own_left bytes r given = bytes r

@@ -1,8 +1,8 @@
 -- What can be said of a reader beforehand.
-use Rattle.std.specs.Prelude.{◌≡◌, ℕ, IsTrue, List, [], ◌∷◌, ◌++◌, Option, Some, None, refl, unwrap_or}
+use Rattle.std.specs.Prelude.{◌≡◌, ℕ, IsTrue, not, List, [], ◌∷◌, ◌++◌, Option, Some, None, refl, unwrap_or}
 use Rattle.std.proofs.Common.{ap, ◌∙◌, arith}
 use Rattle.std.specs.Io.KnownBytes.{Consumes, IsAtEnd}
-use Rattle.line_config.specs.Foretold.{rest_after_given, agrees, works, AnyCanBeSaid, OwnBytesCanBeSaid, EndsAsSaid, own_told, agrees_as_said}
+use Rattle.line_config.specs.Foretold.{rest_after_given, agrees, is_failed, AnyCanBeSaid, OwnBytesCanBeSaid, EndsAsSaid, own_told, agrees_as_said}
 use Rattle.line_config.specs.declared.device.Last.{Last}
 use Rattle.line_config.specs.declared.device.Last.TheVariants.{End, Failed}
 
@@ -57,9 +57,10 @@ any_said remaining all last old new given more met consumed meets t =
     }
 
 -- a reader that works meets only the end
-at_end : (met : Option Last) (x : Last) → met ≡ Some x → IsTrue (works met) → x ≡ End
+at_end : (met : Option Last) (x : Last) → met ≡ Some x → IsTrue (not (is_failed met)) → x ≡ End
 at_end met End is t = refl
-at_end met Failed is t = let u : IsTrue (works (Some Failed)) = rw is at t in absurd (cc)
+at_end met Failed is t =
+    let u : IsTrue (not (is_failed (Some Failed))) = rw is at t in absurd (cc)
 
 pub said_ends : {R : Type 0} (all : List ℕ) (last : Last)
     → EndsAsSaid (agrees_as_said {R = R} all last) last

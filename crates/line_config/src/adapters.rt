@@ -2,7 +2,7 @@
 ghost use Rattle.std.specs.Prelude.{◌≡◌, ◌++◌, ◌+◌, ◌^◌, ◌≤◌, ◌<◌, [], false, length, take, drop, is_err, is_some, IsErr, IsTrue, Ok, Some, None, IfOk, OnOk, OnErr};
 ghost use Rattle.std.specs.Io.KnownBytes.{Appends};
 ghost use Rattle.line_config.specs.Sending.{AppendsSome, Takes};
-ghost use Rattle.line_config.specs.Buffer.{bytes_in};
+ghost use Rattle.line_config.specs.Buffer.{bytes_in, room_in};
 ghost use Rattle.line_config.specs.DeviceCalls.{EndsWithCall, IsFlush, IsWriteFailure};
 ghost use Rattle.line_config.specs.Feed.{Fills, GivesByte, GivesBytes};
 ghost use Rattle.line_config.specs.Recorded.{Notes, took};
@@ -54,7 +54,7 @@ impl<R: Read> ReadSource<R, Brand> {
 }
 
 impl<R: Read, K: Foretold<R>> ReadSource<R, K> {
-    ghost use Rattle.line_config.specs.Adapters.{AsksReader, ReadsOnce, IsUnread, reader_of, bytes_not_given, end_met, source_feed};
+    ghost use Rattle.line_config.specs.Adapters.{AsksReader, ReadsOnce, IsUnread, reader_of, bytes_not_given, source_feed};
 
     /// A source that gives the bytes of the reader, of which `K` says what is assumed.
     pub fn foretold(reader: R) -> Self
@@ -84,10 +84,9 @@ impl<R: Read, K: Foretold<R>> ReadSource<R, K> {
         requires { bytes_not_given self.old ≡ [] }
         ensures reader { AsksReader R.remaining [] self.old self.new }
         ensures told { Fills (source_feed K.told K.left K.last self.old)
-            (source_feed K.told K.left K.last self.new) (bytes_not_given self.new)
-            (end_met self.new) }
+            (source_feed K.told K.left K.last self.new) (bytes_not_given self.new) self.new.met }
         ensures once { ReadsOnce self.old self.new }
-        ensures met { bytes_not_given self.new ≡ [] → IsTrue (is_some (end_met self.new)) }
+        ensures met { bytes_not_given self.new ≡ [] → IsTrue (is_some self.new.met) }
     {
         if self.met.is_some() {
             return;
@@ -110,10 +109,9 @@ impl<R: Read, K: Foretold<R>> ReadSource<R, K> {
     fn get_ready(&mut self)
         ensures reader { AsksReader R.remaining [] self.old self.new }
         ensures told { Fills (source_feed K.told K.left K.last self.old)
-            (source_feed K.told K.left K.last self.new) (bytes_not_given self.new)
-            (end_met self.new) }
+            (source_feed K.told K.left K.last self.new) (bytes_not_given self.new) self.new.met }
         ensures once { ReadsOnce self.old self.new }
-        ensures met { bytes_not_given self.new ≡ [] → IsTrue (is_some (end_met self.new)) }
+        ensures met { bytes_not_given self.new ≡ [] → IsTrue (is_some self.new.met) }
     {
         if self.unread.is_empty() {
             self.fill();
@@ -122,7 +120,7 @@ impl<R: Read, K: Foretold<R>> ReadSource<R, K> {
 }
 
 impl<R: Read, K: Foretold<R>> Source for ReadSource<R, K> {
-    ghost use Rattle.line_config.specs.Adapters.{AsksReader, ReadsOnce, reader_with_log, gave, byte_given_by, end_met, source_feed, bytes_not_given};
+    ghost use Rattle.line_config.specs.Adapters.{AsksReader, ReadsOnce, gave, byte_given_by, source_feed, bytes_not_given};
 
     ghost feed = { λ s. source_feed K.told K.left K.last s };
 
@@ -136,9 +134,9 @@ impl<R: Read, K: Foretold<R>> Source for ReadSource<R, K> {
         // once no byte is left.
         ensures reader { AsksReader R.remaining (byte_given_by result) self.old self.new }
         ensures end { result ≡ Ok None → (bytes_not_given self.new ≡ []) ×
-            (end_met self.new ≡ Some End) }
+            (self.new.met ≡ Some End) }
         ensures fault { OnErr result
-            ((bytes_not_given self.new ≡ []) × (end_met self.new ≡ Some Failed)) }
+            ((bytes_not_given self.new ≡ []) × (self.new.met ≡ Some Failed)) }
         ensures once { ReadsOnce self.old self.new }
     {
         self.get_ready();
@@ -161,8 +159,8 @@ impl<R: Read, K: Foretold<R>> Source for ReadSource<R, K> {
         // No read is made.
         ensures unread { bytes_not_given self.new ≡ drop amount (bytes_not_given self.old) }
         ensures gave { gave self.new ≡ gave self.old }
-        ensures met { end_met self.new ≡ end_met self.old }
-        ensures reader { reader_with_log self.new ≡ reader_with_log self.old }
+        ensures met { self.new.met ≡ self.old.met }
+        ensures reader { self.new.reader ≡ self.old.reader }
     {
         self.unread.consume(amount);
     }
@@ -185,7 +183,7 @@ pub struct WriteSink<W> {
 }
 
 impl<W: Write> WriteSink<W> {
-    ghost use Rattle.line_config.specs.Adapters.{IsUnused, writer_with_log, writer_of, bytes_not_sent, room_of, bytes_taken};
+    ghost use Rattle.line_config.specs.Adapters.{IsUnused, writer_of, bytes_not_sent, bytes_taken};
     ghost use Rattle.line_config.specs.Recorded.{calls_of};
 
     /// A sink that sends to the writer.
@@ -213,16 +211,14 @@ impl<W: Write> WriteSink<W> {
     fn gather(&mut self, bytes: &[u8]) -> Result<usize, DeviceFailed>
         ensures ok { IfOk result (λ n. Takes bytes_taken self.old self.new (take n bytes.now)) }
         ensures err { OnErr result (bytes_taken self.new ≡ bytes_taken self.old) }
-        ensures writer { Notes W.contents (writer_with_log self.old) (writer_with_log self.new) }
+        ensures writer { Notes W.contents self.old.writer self.new.writer }
         ensures bound { IfOk result (λ n. n ≤ length bytes.now) }
         ensures some { IfOk result (λ n. 0 < length bytes.now → 0 < n) }
-        ensures room { IfOk result (λ n. room_of self.old ≤ room_of self.new + n) }
-        ensures refused { OnErr result (room_of self.old ≡ 0) }
-        ensures cause { OnErr result
-            (EndsWithCall IsWriteFailure (calls_of (writer_with_log self.old))
-            (calls_of (writer_with_log self.new))) }
-        ensures waiting { 0 < room_of self.old → writer_with_log self.new
-            ≡ writer_with_log self.old }
+        ensures room { IfOk result (λ n. room_in self.old.unsent ≤ room_in self.new.unsent + n) }
+        ensures refused { OnErr result (room_in self.old.unsent ≡ 0) }
+        ensures cause { OnErr result (EndsWithCall IsWriteFailure
+            (calls_of self.old.writer) (calls_of self.new.writer)) }
+        ensures waiting { 0 < room_in self.old.unsent → self.new.writer ≡ self.old.writer }
     {
         if self.unsent.is_full() {
             self.unsent.send_to(&mut self.writer)?;
@@ -234,13 +230,12 @@ impl<W: Write> WriteSink<W> {
     fn gather_pieces(&mut self, bytes: &[u8]) -> Result<(), DeviceFailed>
         ensures ok { OnOk result (Takes bytes_taken self.old self.new bytes.now) }
         ensures begins { AppendsSome (bytes_taken self.old) bytes.now (bytes_taken self.new) }
-        ensures writer { Notes W.contents (writer_with_log self.old) (writer_with_log self.new) }
-        ensures refused { OnErr result (room_of self.old < length bytes.now) }
-        ensures cause { OnErr result
-            (EndsWithCall IsWriteFailure (calls_of (writer_with_log self.old))
-            (calls_of (writer_with_log self.new))) }
-        ensures waiting { length bytes.now ≤ room_of self.old
-            → writer_with_log self.new ≡ writer_with_log self.old }
+        ensures writer { Notes W.contents self.old.writer self.new.writer }
+        ensures refused { OnErr result (room_in self.old.unsent < length bytes.now) }
+        ensures cause { OnErr result (EndsWithCall IsWriteFailure
+            (calls_of self.old.writer) (calls_of self.new.writer)) }
+        ensures waiting { length bytes.now ≤ room_in self.old.unsent
+            → self.new.writer ≡ self.old.writer }
     {
         let mut rest = bytes;
         while !rest.is_empty() {
@@ -254,13 +249,12 @@ impl<W: Write> WriteSink<W> {
     fn gather_all(&mut self, bytes: &[u8]) -> Result<(), DeviceFailed>
         ensures ok { OnOk result (Takes bytes_taken self.old self.new bytes.now) }
         ensures begins { AppendsSome (bytes_taken self.old) bytes.now (bytes_taken self.new) }
-        ensures writer { Notes W.contents (writer_with_log self.old) (writer_with_log self.new) }
-        ensures refused { OnErr result (room_of self.old < length bytes.now) }
-        ensures cause { OnErr result
-            (EndsWithCall IsWriteFailure (calls_of (writer_with_log self.old))
-            (calls_of (writer_with_log self.new))) }
-        ensures waiting { length bytes.now ≤ room_of self.old
-            → writer_with_log self.new ≡ writer_with_log self.old }
+        ensures writer { Notes W.contents self.old.writer self.new.writer }
+        ensures refused { OnErr result (room_in self.old.unsent < length bytes.now) }
+        ensures cause { OnErr result (EndsWithCall IsWriteFailure
+            (calls_of self.old.writer) (calls_of self.new.writer)) }
+        ensures waiting { length bytes.now ≤ room_in self.old.unsent
+            → self.new.writer ≡ self.old.writer }
     {
         if bytes.len() <= self.unsent.room() {
             self.unsent.append(bytes);
@@ -274,13 +268,11 @@ impl<W: Write> WriteSink<W> {
     fn send(&mut self) -> Result<(), DeviceFailed>
         ensures takes { bytes_taken self.new ≡ bytes_taken self.old }
         ensures sent { OnOk result (bytes_not_sent self.new ≡ []) }
-        ensures writer { Notes W.contents (writer_with_log self.old) (writer_with_log self.new) }
-        ensures flushed { OnOk result
-            (EndsWithCall IsFlush (calls_of (writer_with_log self.old))
-            (calls_of (writer_with_log self.new))) }
-        ensures cause { OnErr result
-            (EndsWithCall IsWriteFailure (calls_of (writer_with_log self.old))
-            (calls_of (writer_with_log self.new))) }
+        ensures writer { Notes W.contents self.old.writer self.new.writer }
+        ensures flushed { OnOk result (EndsWithCall IsFlush (calls_of self.old.writer)
+            (calls_of self.new.writer)) }
+        ensures cause { OnErr result (EndsWithCall IsWriteFailure
+            (calls_of self.old.writer) (calls_of self.new.writer)) }
     {
         self.unsent.send_to(&mut self.writer)?;
         flush_retrying(&mut self.writer)
@@ -288,7 +280,7 @@ impl<W: Write> WriteSink<W> {
 }
 
 impl<W: Write> Sink for WriteSink<W> {
-    ghost use Rattle.line_config.specs.Adapters.{writer_with_log, writer_of, bytes_sent, bytes_not_sent, room_of, bytes_taken};
+    ghost use Rattle.line_config.specs.Adapters.{writer_of, bytes_sent, bytes_not_sent, bytes_taken};
     ghost use Rattle.line_config.specs.Recorded.{calls_of};
 
     ghost held = { bytes_taken };
@@ -304,18 +296,17 @@ impl<W: Write> Sink for WriteSink<W> {
         ensures for_good { IsTrue self.old.failed → IsErr result }
 
         // If the writer reports its bytes, it has taken what its writes are noted to have taken.
-        ensures writer { Notes W.contents (writer_with_log self.old) (writer_with_log self.new) }
+        ensures writer { Notes W.contents self.old.writer self.new.writer }
 
         // Bytes that fit into the array are buffered: the writer isn't called, so nothing can fail.
         ensures refused { OnErr result (self.old.failed ≡ false
-            → room_of self.old < length bytes.now) }
-        ensures waiting { length bytes.now ≤ room_of self.old
-            → writer_with_log self.new ≡ writer_with_log self.old }
+            → room_in self.old.unsent < length bytes.now) }
+        ensures waiting { length bytes.now ≤ room_in self.old.unsent
+            → self.new.writer ≡ self.old.writer }
 
         // It fails if the writer's last call failed, and then for good: it makes no more calls.
         ensures cause { OnErr result (self.old.failed ≡ false
-            → EndsWithCall IsWriteFailure (calls_of (writer_with_log self.old))
-            (calls_of (writer_with_log self.new))) }
+            → EndsWithCall IsWriteFailure (calls_of self.old.writer) (calls_of self.new.writer)) }
         ensures rests { IsTrue self.old.failed → self.new ≡ self.old }
     {
         if self.failed {
@@ -332,21 +323,19 @@ impl<W: Write> Sink for WriteSink<W> {
         ensures held { bytes_taken self.new ≡ bytes_taken self.old }
         ensures failure { self.new.failed ≡ is_err result }
         ensures for_good { IsTrue self.old.failed → IsErr result }
-        ensures writer { Notes W.contents (writer_with_log self.old) (writer_with_log self.new) }
+        ensures writer { Notes W.contents self.old.writer self.new.writer }
 
         // Then the writer itself has all bytes, and the array none.
         ensures waits { OnOk result (bytes_not_sent self.new ≡ []) }
         ensures passed_on { OnOk result (bytes_sent self.new ≡ bytes_taken self.old) }
         ensures told { OnOk result (Appends (W.contents (writer_of self.old))
             (W.contents (writer_of self.new)) (bytes_not_sent self.old)) }
-        ensures flushed { OnOk result
-            (EndsWithCall IsFlush (calls_of (writer_with_log self.old))
-            (calls_of (writer_with_log self.new))) }
+        ensures flushed { OnOk result (EndsWithCall IsFlush (calls_of self.old.writer)
+            (calls_of self.new.writer)) }
 
         // It fails if the writer's last call failed, and then for good: it makes no more calls.
         ensures cause { OnErr result (self.old.failed ≡ false
-            → EndsWithCall IsWriteFailure (calls_of (writer_with_log self.old))
-            (calls_of (writer_with_log self.new))) }
+            → EndsWithCall IsWriteFailure (calls_of self.old.writer) (calls_of self.new.writer)) }
         ensures rests { IsTrue self.old.failed → self.new ≡ self.old }
     {
         if self.failed {

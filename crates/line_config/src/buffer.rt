@@ -1,7 +1,7 @@
 //! The fixed array of an adapter: its content is between two places of the array.
 ghost use Rattle.std.specs.Prelude.{◌≡◌, IsTrue, ◌+◌, ◌-◌, ◌≤◌, ◌<◌, [], ◌++◌, length, take, drop, min, option_to_list, OnOk, OnErr, IsNone, ◌↔◌};
 ghost use Rattle.std.specs.Io.KnownBytes.{Consumes, IsAtEnd};
-ghost use Rattle.line_config.specs.DeviceCalls.{EndsWithCall, FillsBy, IsWriteFailure, Tries, move_interrupted};
+ghost use Rattle.line_config.specs.DeviceCalls.{Answers, EndsWithCall, IsReadFailure, IsWriteFailure, Moves, Tries, move_interrupted};
 ghost use Rattle.line_config.specs.Recorded.{Notes, calls_of, inner_of, took};
 
 use crate::device::DeviceFailed;
@@ -93,7 +93,7 @@ impl<const N: usize> Buffer<N> {
             (bytes_in self.new ≡ [] → 0 < N → IsAtEnd (R.remaining (inner_of reader.new))) }
         ensures err { OnErr result (bytes_in self.new ≡ []) }
         ensures tries { Tries move_interrupted (calls_of reader.old) (calls_of reader.new)
-            (FillsBy (bytes_in self.new) result) }
+            (Answers (Moves (Ok (bytes_in self.new))) IsReadFailure result) }
         ensures piece { piece_in self.new ≡ bytes_in self.new }
     {
         self.start = 0;

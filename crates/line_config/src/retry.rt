@@ -6,8 +6,8 @@
 ghost use Rattle.std.specs.Prelude.{◌≡◌, ◌++◌, ◌<◌, ◌≤◌, length, take, Ok, Err, OnErr, IfOk, IsTrue, ◌↔◌};
 ghost use Rattle.std.specs.Io.KnownBytes.{ReadConsumes};
 ghost use Rattle.std.specs.IoError.{error_kind};
-ghost use Rattle.line_config.specs.DeviceCalls.{Tries, flush_interrupted, move_interrupted, bytes_moved};
-ghost use Rattle.line_config.specs.DeviceCalls.{AnswersFlush, AnswersRead, AnswersWrite};
+ghost use Rattle.line_config.specs.DeviceCalls.{Answers, Flushes, IsReadFailure, IsWriteFailure, Moves, Tries};
+ghost use Rattle.line_config.specs.DeviceCalls.{flush_interrupted, move_interrupted, bytes_moved};
 ghost use Rattle.line_config.specs.Recorded.{Notes, calls_of, inner_of, took};
 
 use crate::device::DeviceFailed;
@@ -34,7 +34,7 @@ pub(crate) fn read_retrying<R: Read>(
         (R.remaining (inner_of reader.new)) result buf.new }
     ensures took { took reader.new ≡ took reader.old ++ bytes_moved result buf.new }
     ensures tries { Tries move_interrupted (calls_of reader.old) (calls_of reader.new)
-        (AnswersRead buf.new result) }
+        (Answers (Moves (Ok (bytes_moved result buf.new))) IsReadFailure result) }
 {
     for _tried in 0..TRIES {
         match reader.read(buf) {
@@ -58,7 +58,7 @@ pub(crate) fn write_retrying<W: Write>(
     ensures err { OnErr result (took writer.new ≡ took writer.old) }
     ensures writer { Notes W.contents writer.old writer.new }
     ensures tries { Tries move_interrupted (calls_of writer.old) (calls_of writer.new)
-        (AnswersWrite bytes.now result) }
+        (Answers (Moves (Ok (bytes_moved result bytes.now))) IsWriteFailure result) }
 {
     for _tried in 0..TRIES {
         match writer.write(bytes) {
@@ -77,7 +77,7 @@ pub(crate) fn flush_retrying<W: Write>(writer: &mut Recorded<W>) -> Result<(), D
     ensures bytes { took writer.new ≡ took writer.old }
     ensures writer { Notes W.contents writer.old writer.new }
     ensures tries { Tries flush_interrupted (calls_of writer.old) (calls_of writer.new)
-        (AnswersFlush result) }
+        (Answers (Flushes (Ok tt)) IsWriteFailure result) }
 {
     for _tried in 0..TRIES {
         match writer.flush() {

@@ -1,5 +1,5 @@
 -- What the helper's candidates make of a state.
-use Rattle.std.specs.Prelude.{get_or, Option, None, Some, option_map, slice_get, Result, Ok, Err, IsErrAnd, IsFalse, IfOk, OnOk}
+use Rattle.std.specs.Prelude.{get_or, Option, None, Some, option_map, option_and_then, slice_get, Result, Ok, Err, IsErrAnd, IsFalse, IfOk, OnOk}
 use Rattle.std.proofs.Common.{◌≡◌, ℕ, ◌+◌, ◌<◌, ◌≤◌, ◌==◌, arith, Bool, true, false, if◌then◌else◌, List, [], ◌∷◌, ◌++◌, map, take, length, refl, sym, ap, ◌∙◌, subst}
 use Rattle.std.proofs.lemmas.Bool.{cond-true, cond-false}
 use Rattle.std.proofs.lemmas.Bool.Decides.{nat_tests}
@@ -15,13 +15,13 @@ use Rattle.line_help.specs.declared.helpers.validate as verdicts
 use Rattle.line_help.specs.declared.history as histories
 use Rattle.line_keys.specs.declared.command.Cmd.{Cmd}
 use Rattle.line_keys.specs.declared.command.CmdKind.TheVariants.{Other}
-use Rattle.line_editor.specs.Candidates.{rows_of, list_text, list_shown, text_at, candidate_at}
+use Rattle.line_editor.specs.Candidates.{rows_of, list_text, list_shown, candidate_at}
 use Rattle.line_editor.specs.Completing.{begins_word, completion_from, candidates_given, candidates_asked}
 use Rattle.line_editor.specs.Drawing.{message_effect}
 use Rattle.line_editor.specs.ModalCommands.{then_meets}
 use Rattle.line_editor.specs.Modal.{Modal, Meeting, next_of}
 use Rattle.line_editor.specs.States.{value_of, setting_of, fails_by, IsHelpFault, Does}
-use Rattle.line_editor.specs.Turn.{MeetsAs}
+use Rattle.line_editor.specs.Turn.{Meets}
 use Rattle.line_editor.specs.Values.{Value, Setting, Transition, then_do, completion_reply}
 use Rattle.line_editor.specs.declared.modal_state.Next.{Next}
 use Rattle.line_editor.specs.declared.renderer as renderers
@@ -49,12 +49,12 @@ none_offered offers all i past = slice_get-map offers all i ∙ ap (option_map o
 
 -- there is no word for it
 pub put_nowhere : {C : Type 0} (offers : C → Offered) (all : List C) (i start : ℕ) (l : Line) (b : Bool) → b ≡ begins_word start l → b ≡ false → candidate_at i (completion_from offers start all) l ≡ None
-put_nowhere offers all i start l b is apart = cond-false (begins_word start l) (text_at (slice_get (map offers all) i)) None (sym is ∙ apart)
+put_nowhere offers all i start l b is apart = cond-false (begins_word start l) (option_and_then (λ (p : Offered). unless_empty p.replacement) (slice_get (map offers all) i)) None (sym is ∙ apart)
 
 -- there is one
 pub put_there : {C : Type 0} (offers : C → Offered) (all : List C) (i start : ℕ) (l : Line) (b : Bool) (o : Option Offered) → b ≡ begins_word start l → b ≡ true → slice_get (map offers all) i ≡ o
-    → candidate_at i (completion_from offers start all) l ≡ text_at o
-put_there offers all i start l b o is begins found = cond-true (begins_word start l) (text_at (slice_get (map offers all) i)) None (sym is ∙ begins) ∙ ap text_at found
+    → candidate_at i (completion_from offers start all) l ≡ option_and_then (λ (p : Offered). unless_empty p.replacement) o
+put_there offers all i start l b o is begins found = cond-true (begins_word start l) (option_and_then (λ (p : Offered). unless_empty p.replacement) (slice_get (map offers all) i)) None (sym is ∙ begins) ∙ ap (option_and_then (λ (p : Offered). unless_empty p.replacement)) found
 
 abbrev text_by : List ℕ → Bool → Option (List ℕ)
 text_by text b = if b then None else Some text
@@ -98,15 +98,15 @@ module _ {Out H Hi K T : Type 0} {renderer : renderers.Renderer.Ghosts Out} {com
   met_same first met s m y h = ap (λ (a : Setting). met a (value_of m)) (setting_stays s m h.stays) ∙ ap (met (setting_of s)) h.value
 
   pub met_then : {B : Type 0} (first : Transition) (met : Setting → Value → Meeting) (cmd : Cmd) (s m t : State Out H Hi K T renderer completer candidate hinter hint highlighter validator history) (x : Modal) (y : B)
-      (result : Result Next ReadlineError) → Does first s m (Ok y) → MeetsAs met cmd m t x result → MeetsAs (then_meets first met) cmd s t x result
+      (result : Result Next ReadlineError) → Does first s m (Ok y) → Meets met (next_of cmd) m t x result → Meets (then_meets first met) (next_of cmd) s t x result
   met_then first met cmd s m t x y result h k = record {
     does = does_both first (λ (a : Setting) (v : Value). (met a v).effect) s m t y result h k.does;
     modal_is = subst (λ (z : Meeting). OnOk result (x ≡ z.modal)) (met_same first met s m y h) k.modal_is;
-    next = subst (λ (z : Meeting). IfOk result (λ n. next_of n cmd ≡ z.next)) (met_same first met s m y h) k.next;
+    next = subst (λ (z : Meeting). IfOk result (λ n. next_of cmd n ≡ z.next)) (met_same first met s m y h) k.next;
   }
 
   pub met_cut : {B : Type 0} (first : Transition) (met : Setting → Value → Meeting) (cmd : Cmd) (s t : State Out H Hi K T renderer completer candidate hinter hint highlighter validator history) (x : Modal) (e : ReadlineError)
-      (result : Result Next ReadlineError) → IsErrAnd result (λ z. z ≡ e) → Does {A = B} first s t (Err e) → MeetsAs (then_meets first met) cmd s t x result
+      (result : Result Next ReadlineError) → IsErrAnd result (λ z. z ≡ e) → Does {A = B} first s t (Err e) → Meets (then_meets first met) (next_of cmd) s t x result
   met_cut first met cmd s t x e (Ok n) is h = absurd is
   met_cut first met cmd s t x e (Err fault) is h = record {
     does = does_cut_by first (λ (a : Setting) (v : Value). (met a v).effect) s t e (Err fault) is h;

@@ -1,6 +1,7 @@
 -- The loop of a line: what was done so far by turns, and what is left.
 use Rattle.std.proofs.Common.{◌≡◌, inl, inr, ℕ, zero, suc, ◌<◌, ◌≤◌, List, refl, sym, ap, subst, ◌∙◌, IsTrue, arith, le_refl}
 use Rattle.std.specs.Prelude.{Result, Ok, Err, IfErr, OnOk, IsErrAnd}
+use Rattle.std.specs.Result.{result_and}
 use Rattle.line_config.specs.declared.errors.ReadlineError.{ReadlineError}
 use Rattle.script.specs.Scripts.{Ends, Asks, World, Goes}
 use Rattle.script.proofs.ScriptLaws.{then_goes, then_cut}
@@ -9,18 +10,15 @@ use Rattle.line_help.specs.declared.helpers.hint as hints
 use Rattle.line_help.specs.declared.helpers.highlight as highlights
 use Rattle.line_help.specs.declared.helpers.validate as verdicts
 use Rattle.line_help.specs.declared.history as histories
-use Rattle.line_keys.specs.CustomBindings.{Custom, custom_of}
-use Rattle.line_keys.specs.Handling.{Meaning}
+use Rattle.line_keys.specs.CustomBindings.{Custom, custom_of, Meaning}
 use Rattle.line_keys.specs.InputStates.{custom_in}
 use Rattle.line_keys.specs.declared.keymap.InputState.{InputState}
-use Rattle.line_keys.specs.Coming.{Coming}
-use Rattle.line_keys.specs.KeyFeeds.{KeyFeed}
+use Rattle.line_keys.specs.KeyFeeds.{KeyFeed, Coming}
 use Rattle.line_keys.specs.PhraseScripts.{Input}
 use Rattle.line_record.specs.Ring.{Ring}
 use Rattle.line_editor.specs.Accepting.{submit_effect}
 use Rattle.line_editor.specs.Drawing.{refresh_effect}
 use Rattle.line_editor.specs.LineScripts.{line_begun, LineAsk, LineAnswer, LineScript, Makes, LineStage, line_state, line_script_after, turn_script, turns_script, line_script}
-use Rattle.line_editor.specs.LineRun.{text_or}
 use Rattle.line_editor.specs.Modal.{Modal}
 use Rattle.line_editor.specs.States.{value_of, Reason, Stays, Does}
 use Rattle.line_editor.specs.Turn.{Cause, Takes, stage_of, world_of}
@@ -55,7 +53,7 @@ some_fuel : (m bound : ℕ) → bound < m → Some m
 some_fuel zero bound h = absurd (omega arith)
 some_fuel (suc k) bound h = record { less = k; is = refl }
 
-on_ok : {A P : Type 0} (result : Result A ReadlineError) (text : List ℕ) → P → OnOk (text_or result text) P
+on_ok : {A P : Type 0} (result : Result A ReadlineError) (text : List ℕ) → P → OnOk (result_and result (Ok text)) P
 on_ok (Ok x) text h = h
 on_ok (Err e) text h = tt
 
@@ -74,7 +72,7 @@ module _ {R : Type 0} (w : World LineAsk LineAnswer (LineStage R) ReadlineError)
 module _ {Out H Hi K T : Type 0} {renderer : renderers.Renderer.Ghosts Out} {completer : completions.Completer.Ghosts H K} {candidate : completions.Candidate.Ghosts K}
     {hinter : hints.Hinter.Ghosts H T} {hint : hints.Hint.Ghosts T} {highlighter : highlights.Highlighter.Ghosts H} {validator : verdicts.Validator.Ghosts H} {history : histories.History.Ghosts Hi} where
   caused : {A : Type 0} (custom : Custom) (t : State Out H Hi K T renderer completer candidate hinter hint highlighter validator history) (feed : KeyFeed) (result : Result A ReadlineError) (text : List ℕ)
-      → IfErr result (Reason t) → IfErr (text_or result text) (λ e. Cause custom t feed e)
+      → IfErr result (Reason t) → IfErr (result_and result (Ok text)) (λ e. Cause custom t feed e)
   caused custom t feed (Ok x) text why = tt
   caused custom t feed (Err e) text why = edit_cause custom t feed e why
 
@@ -95,7 +93,7 @@ module _ {Out H Hi K T : Type 0} {renderer : renderers.Renderer.Ghosts Out} {com
 
   -- the line's close, with its text
   closes : {A : Type 0} (s m t : State Out H Hi K T renderer completer candidate hinter hint highlighter validator history) (i : Input) (r : Ring) (q : Modal) (c : Coming) (result : Result A ReadlineError) → Stays s m → Does submit_effect m t result
-      → Goes (world_of s) (Asks (Makes submit_effect) (λ v. Ends v.line.text)) (stage_of m i r q c) (text_or result t.recorded.line.text) (stage_of t i r q c)
+      → Goes (world_of s) (Asks (Makes submit_effect) (λ v. Ends v.line.text)) (stage_of m i r q c) (result_and result (Ok t.recorded.line.text)) (stage_of t i r q c)
   closes s m t i r q c (Ok x) stays h = makes s m t stays submit_effect i r q c (λ v. Ends v.line.text) x (Ok t.recorded.line.text) (stage_of t i r q c) h (refl, refl)
   closes {A} s m t i r q c (Err e) stays h = unmade s m t stays submit_effect i r q c (λ v. Ends v.line.text) {A = A} e h
 
@@ -184,9 +182,9 @@ module _ {Out H Hi K T : Type 0} {renderer : renderers.Renderer.Ghosts Out} {com
 
       -- a turn that ends the line
       pub carries_ended : {A : Type 0} (t : State Out H Hi K T renderer completer candidate hinter hint highlighter validator history) (i2 : Input) (r2 : Ring) (q2 : Modal) (feed2 : KeyFeed) (e : ReadlineError) (result : Result A ReadlineError)
-          → IsErrAnd result (λ x. x ≡ e) → TakesTurn t i2 r2 q2 feed2 (Err e) → Takes turns_script custom s i r q feed t i2 r2 q2 feed2 (text_or result t.recorded.line.text)
+          → IsErrAnd result (λ x. x ≡ e) → TakesTurn t i2 r2 q2 feed2 (Err e) → Takes turns_script custom s i r q feed t i2 r2 q2 feed2 (result_and result (Ok t.recorded.line.text))
       carries_ended t i2 r2 q2 feed2 e result is turn =
-          subst (λ x. Takes turns_script custom s i r q feed t i2 r2 q2 feed2 (text_or x t.recorded.line.text)) (sym (is_err e result is)) (record {
+          subst (λ x. Takes turns_script custom s i r q feed t i2 r2 q2 feed2 (result_and x (Ok t.recorded.line.text))) (sym (is_err e result is)) (record {
             goes = λ told n h. refused t i2 r2 q2 feed2 (turn.told told) n (so_far.goes (turn.told told) n h) e (turn.goes told);
             stays = λ told. stays_both s m t (so_far.stays (turn.told told)) (turn.stays told);
             told = λ h. so_far.told (turn.told h);
@@ -198,9 +196,9 @@ module _ {Out H Hi K T : Type 0} {renderer : renderers.Renderer.Ghosts Out} {com
 
       -- a turn that accepts the line, and the line's close
       pub carries_closed : {A : Type 0} (m2 t : State Out H Hi K T renderer completer candidate hinter hint highlighter validator history) (i2 : Input) (r2 : Ring) (q2 : Modal) (feed2 : KeyFeed) (result : Result A ReadlineError)
-          → TakesTurn m2 i2 r2 q2 feed2 (Ok Submit) → Does submit_effect m2 t result → Takes turns_script custom s i r q feed t i2 r2 q2 feed2 (text_or result t.recorded.line.text)
+          → TakesTurn m2 i2 r2 q2 feed2 (Ok Submit) → Does submit_effect m2 t result → Takes turns_script custom s i r q feed t i2 r2 q2 feed2 (result_and result (Ok t.recorded.line.text))
       carries_closed m2 t i2 r2 q2 feed2 result turn close = record {
-        goes = λ told n h. turned m2 i2 r2 q2 feed2 (turn.told told) n (so_far.goes (turn.told told) n h) Submit (text_or result t.recorded.line.text) (stage_of t i2 r2 q2 feed2.coming) (turn.goes told)
+        goes = λ told n h. turned m2 i2 r2 q2 feed2 (turn.told told) n (so_far.goes (turn.told told) n h) Submit (result_and result (Ok t.recorded.line.text)) (stage_of t i2 r2 q2 feed2.coming) (turn.goes told)
             (λ k enough. closes s m2 t i2 r2 q2 feed2.coming result (stays_both s m m2 (so_far.stays (turn.told told)) (turn.stays told)) close);
         stays = λ told. stays_both s m t (so_far.stays (turn.told told)) (stays_both m m2 t (turn.stays told) close.stays);
         told = λ h. so_far.told (turn.told h);
@@ -229,10 +227,10 @@ module _ {Out H Hi K T : Type 0} {renderer : renderers.Renderer.Ghosts Out} {com
     not_drawn {B} n t e refused = unmade s s t (stays_same s) line_begun i r q feed.coming (λ v. turns_script n custom) {A = B} e refused
 
     pub draws : {A B : Type 0} (x : B) (m t : State Out H Hi K T renderer completer candidate hinter hint highlighter validator history) (i2 : Input) (r2 : Ring) (q2 : Modal) (feed2 : KeyFeed) (result : Result A ReadlineError)
-        → Does refresh_effect s m (Ok x) → Takes turns_script custom m i r q feed t i2 r2 q2 feed2 (text_or result t.recorded.line.text)
-        → Takes line_script custom s i r q feed t i2 r2 q2 feed2 (text_or result t.recorded.line.text)
+        → Does refresh_effect s m (Ok x) → Takes turns_script custom m i r q feed t i2 r2 q2 feed2 (result_and result (Ok t.recorded.line.text))
+        → Takes line_script custom s i r q feed t i2 r2 q2 feed2 (result_and result (Ok t.recorded.line.text))
     draws x m t i2 r2 q2 feed2 result drawn read = record {
-      goes = λ told n h. drawn_on n x m (text_or result t.recorded.line.text) (stage_of t i2 r2 q2 feed2.coming) (begun s m (Ok x) drawn) (read.goes told n h);
+      goes = λ told n h. drawn_on n x m (result_and result (Ok t.recorded.line.text)) (stage_of t i2 r2 q2 feed2.coming) (begun s m (Ok x) drawn) (read.goes told n h);
       stays = λ told. stays_both s m t drawn.stays (read.stays told);
       told = read.told;
       keeps = read.keeps;
@@ -242,8 +240,8 @@ module _ {Out H Hi K T : Type 0} {renderer : renderers.Renderer.Ghosts Out} {com
     }
 
     pub undrawn : {A B : Type 0} (t : State Out H Hi K T renderer completer candidate hinter hint highlighter validator history) (e : ReadlineError) (result : Result A ReadlineError)
-        → IsErrAnd result (λ x. x ≡ e) → Does {A = B} refresh_effect s t (Err e) → Takes line_script custom s i r q feed t i r q feed (text_or result t.recorded.line.text)
-    undrawn {A} {B} t e result is refused = subst (λ x. Takes line_script custom s i r q feed t i r q feed (text_or x t.recorded.line.text)) (sym (is_err e result is)) (record {
+        → IsErrAnd result (λ x. x ≡ e) → Does {A = B} refresh_effect s t (Err e) → Takes line_script custom s i r q feed t i r q feed (result_and result (Ok t.recorded.line.text))
+    undrawn {A} {B} t e result is refused = subst (λ x. Takes line_script custom s i r q feed t i r q feed (result_and x (Ok t.recorded.line.text))) (sym (is_err e result is)) (record {
       goes = λ told n h. not_drawn {B = B} n t e (begun {A = B} s t (Err e) refused);
       stays = λ told. refused.stays;
       told = λ h. h;

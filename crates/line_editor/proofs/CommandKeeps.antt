@@ -1,9 +1,10 @@
 -- What the edits of commands keep is kept by each command that shows no other entry of the history.
 use Rattle.std.proofs.Common.{◌≡◌, ℕ, ◌==◌, ◌||◌, not, Bool, true, false, List, length, Option, Some, None, is_some, slice_get, if◌then◌else◌}
+use Rattle.std.specs.Prelude.{unwrap_or}
 use Rattle.line_buffer.specs.Columns.{line_up, line_down}
 use Rattle.line_buffer.specs.Insertions.{can_take_before, insert as insertion, yank as yanked_in}
 use Rattle.line_buffer.specs.Clusters.{place_forward, place_backward}
-use Rattle.line_buffer.specs.LetterCase.{word_to_edit}
+use Rattle.line_buffer.specs.LetterCase.{edit_word as recased_in}
 use Rattle.line_buffer.specs.Range.{range_of, copied_range}
 use Rattle.line_buffer.specs.Transpositions.{transposes_chars, transposes_words}
 use Rattle.line_buffer.specs.declared.types.Anchor.{Anchor}
@@ -17,7 +18,7 @@ use Rattle.line_buffer.specs.declared.types.At.TheVariants.{Start}
 use Rattle.line_buffer.specs.declared.types.Word.TheVariants.{Big}
 use Rattle.line_buffer.specs.declared.types.WordAction.{WordAction}
 use Rattle.line_buffer.specs.declared.types.WordAction.TheVariants.{Capitalize, Lowercase, Uppercase}
-use Rattle.line_edits.specs.WriteSteps.{effect_of_edit, with_answer, no_steps}
+use Rattle.line_edits.specs.WriteSteps.{effect_of_steps, with_answer, no_steps}
 use Rattle.line_edits.specs.Edits.{replace_group, by, yank_steps, text_steps, overwrite_steps, transpose_chars_group, transpose_words_group, word_group, char_steps, pop_group, kill_steps, indent_steps}
 use Rattle.line_edits.specs.Written.{group_opened, group_closed}
 use Rattle.line_help.specs.Hints.{Hinted}
@@ -32,14 +33,14 @@ use Rattle.line_keys.specs.declared.command.CmdKind.{CmdKind}
 use Rattle.line_keys.specs.declared.command.CmdKind.TheVariants.{ForcedRefresh, MoveCursor, Other}
 use Rattle.line_record.specs.Held.{closes}
 use Rattle.line_record.specs.Ring.{yank_exchange}
-use Rattle.line_editor.specs.Accepting.{message_effect_if, verdict_told, verdict_given, validate_by, verdict, bare, accept, accepts, newline_if}
+use Rattle.line_editor.specs.Accepting.{message_effect_if, verdict_told, validate_by, verdict, bare, accept, accepts, newline_if}
 use Rattle.line_editor.specs.Commands.{Means, in_vi_command, effect}
 use Rattle.line_editor.specs.Hinting.{at_row_end, complete_hint_effect, complete_by}
 use Rattle.line_editor.specs.Inserting.{insert_char, replace_char, overwrite_char}
 use Rattle.line_editor.specs.Killing.{kill_effect, insert_text_if}
 use Rattle.line_editor.specs.Moving.{to_found, to_place, move_home, move_to_next_word, move_to_first_print, move_by}
 use Rattle.line_editor.specs.Transforms.{edit_word_effect, undo, transpose_chars_effect, transpose_words_effect}
-use Rattle.line_editor.specs.Values.{Value, Setting, Effect, then_do, verdict_reply, completion_reply, value_with_edit, line_and_record_of, at_line}
+use Rattle.line_editor.specs.Values.{Value, Setting, Effect, then_do, verdict_reply, value_with_edit, line_and_record_of, at_line}
 use Rattle.line_editor.specs.Yanking.{line_at_anchor, steps_over, behind_yank, value_after_yank, yank_text, yank_lent, pop_lent}
 use Rattle.line_editor.proofs.MeetKeeps.{Fact, KeptByEdits, complete_keeps, Holds}
 
@@ -149,7 +150,7 @@ module _ (fact : Fact) (sound : Value → Type 0) (s : Setting) (edits : KeptByE
   popping (Some lent) v ok h = either_holds fact (can_take_before lent.0 v.line) _ _ (k.popped lent.0 lent.1 v ok h) h
 
   replaced_if : (b : Bool) (c n : ℕ) (v : Value) → Holds fact v → Holds fact (value_with_edit (by (replace_group c n)) v)
-      → (let w = effect_of_edit (if b then with_answer true (replace_group c n v.line) else no_steps false) (line_and_record_of v) in Holds fact (record v { line = w.line; held = w.held }))
+      → (let w = effect_of_steps (if b then with_answer true (replace_group c n v.line) else no_steps false).steps (line_and_record_of v) in Holds fact (record v { line = w.line; held = w.held }))
   replaced_if true c n v h made = made
   replaced_if false c n v h made = h
 
@@ -163,7 +164,7 @@ module _ (fact : Fact) (sound : Value → Type 0) (s : Setting) (edits : KeptByE
   overwriting c v ok h = let made = k.overwritten c v ok h in either_holds fact (is_some (place_forward 1 v.line)) _ _ made made
 
   recasing : (action : WordAction) (v : Value) → sound v → Holds fact v → Holds fact (edit_word_effect action s v).value
-  recasing action v ok h = let made = k.recased action v ok h in either_holds fact (is_some (word_to_edit v.line)) _ _ made made
+  recasing action v ok h = let made = k.recased action v ok h in either_holds fact (recased_in action v.line).answer _ _ made made
 
   transposing : (v : Value) → sound v → Holds fact v → Holds fact (transpose_chars_effect s v).value
   transposing v ok h = let made = k.transposed v ok h in either_holds fact (transposes_chars v.line) _ _ made made
@@ -188,7 +189,7 @@ module _ (fact : Fact) (sound : Value → Type 0) (s : Setting) (edits : KeptByE
   validated None v h = h
   validated (Some reply) v h =
       let w = value_with_edit group_opened v in
-      judged (verdict_given reply.answer) (closes w.held || is_some w.hint) (value_with_edit group_closed w) (k.grouped v h)
+      judged (unwrap_or reply.answer Incomplete) (closes w.held || is_some w.hint) (value_with_edit group_closed w) (k.grouped v h)
 
   accepted : (v : Value) → Holds fact v → Holds fact (accept s v).value
   accepted v h = validated (verdict_reply s (bare s v).value) (bare s v).value h
@@ -221,7 +222,7 @@ module _ (fact : Fact) (sound : Value → Type 0) (s : Setting) (edits : KeptByE
   command_keeps m CapitalizeWord v other ok h = recasing Capitalize v ok h
   command_keeps m DowncaseWord v other ok h = recasing Lowercase v ok h
   command_keeps m UpcaseWord v other ok h = recasing Uppercase v ok h
-  command_keeps m Complete v other ok h = complete_keeps fact s edits (completion_reply s v) v h
+  command_keeps m Complete v other ok h = complete_keeps fact s edits (is_some s.hooks) v h
   command_keeps m CompleteHint v other ok h = hint_completed v.hint v h
   command_keeps m (Indent movement) v other ok h = k.indented movement s.config.indent_size false v h
   command_keeps m (Dedent movement) v other ok h = k.indented movement s.config.indent_size true v h

@@ -11,11 +11,9 @@ use Rattle.line_help.specs.declared.helpers.highlight as highlights
 use Rattle.line_help.specs.declared.helpers.validate as verdicts
 use Rattle.line_help.specs.declared.history as histories
 use Rattle.line_keys.specs.CustomBindings.{Custom}
-use Rattle.line_keys.specs.Coming.{Coming}
-use Rattle.line_keys.specs.KeyFeeds.{KeyFeed}
-use Rattle.line_keys.specs.Follows.{Follows, Because, Happens, stage as key_stage}
-use Rattle.line_keys.specs.Modes.{is_emacs}
-use Rattle.line_keys.specs.PhraseScripts.{Input, steps}
+use Rattle.line_keys.specs.KeyFeeds.{KeyFeed, Coming}
+use Rattle.line_keys.specs.InputStates.{Follows, Because, Happens, stage as key_stage}
+use Rattle.line_keys.specs.PhraseScripts.{Input, steps, is_emacs}
 use Rattle.line_keys.specs.declared.command.Cmd.{Cmd}
 use Rattle.line_keys.specs.declared.command.Cmd.TheVariants.{EndOfFile, AcceptOrInsertLine}
 use Rattle.line_record.specs.Ring.{Ring}
@@ -100,7 +98,7 @@ module _ {Out H Hi K T : Type 0} {renderer : renderers.Renderer.Ghosts Out} {com
 
       -- what a search makes of the command
       module _ (cmd : Cmd) (w : State Out H Hi K T renderer completer candidate hinter hint highlighter validator history) (modal' : Modal) (stays : Stays s m) where
-        met : (next : Cmd) (result : Result Status ReadlineError) (y : LineStage Out) → Meets cmd m modal w modal' (Ok next)
+        met : (next : Cmd) (result : Result Status ReadlineError) (y : LineStage Out) → Meets (meeting modal cmd) (λ (c : Cmd). c) m w modal' (Ok next)
             → Goes (world_of s) (obey_script next) (stage_of w i1 r modal' c1) result y → Goes (world_of s) (meet_script cmd) (stage_of m i1 r modal c1) result y
         met next result y meets goes =
             let value = edit_value s m w stays (meeting_effect modal cmd) next meets.does in
@@ -117,7 +115,7 @@ module _ {Out H Hi K T : Type 0} {renderer : renderers.Renderer.Ghosts Out} {com
               goes,
             )
 
-        unmet : (e : ReadlineError) → Meets cmd m modal w modal' (Err e) → Goes (world_of s) (meet_script cmd) (stage_of m i1 r modal c1) (Err e) (stage_of w i1 r modal' c1)
+        unmet : (e : ReadlineError) → Meets (meeting modal cmd) (λ (c : Cmd). c) m w modal' (Err e) → Goes (world_of s) (meet_script cmd) (stage_of m i1 r modal c1) (Err e) (stage_of w i1 r modal' c1)
         unmet e meets = inr (e, inr (inl (edit_stops s m w stays (meeting_effect modal cmd) e meets.does, refl)), refl)
 
       module _ (cmd : Cmd) (w t : State Out H Hi K T renderer completer candidate hinter hint highlighter validator history) (modal' : Modal) (ring' : Ring) (stays : Stays s w) where
@@ -147,7 +145,7 @@ module _ {Out H Hi K T : Type 0} {renderer : renderers.Renderer.Ghosts Out} {com
 
       turn_goes : (cmd next : Cmd) (w t : State Out H Hi K T renderer completer candidate hinter hint highlighter validator history) (modal' : Modal) (ring' : Ring) (result : Result Status ReadlineError)
           → Happens display_of b (line_phrase custom i (shown_in (value_of s))) (key_stage s i c) (Ok cmd) (key_stage m i1 c1)
-          → Meets cmd m modal w modal' (Ok next) → Executes next i1 w (ring_after_reset next r) t ring' result → Turns result (stage_of t i1 ring' modal' c1)
+          → Meets (meeting modal cmd) (λ (c : Cmd). c) m w modal' (Ok next) → Executes next i1 w (ring_after_reset next r) t ring' result → Turns result (stage_of t i1 ring' modal' c1)
       turn_goes cmd next w t modal' ring' result h meets k =
           let stays = (phrased (Ok cmd) h).1 in
           spoken cmd result (stage_of t i1 ring' modal' c1) h
@@ -155,7 +153,7 @@ module _ {Out H Hi K T : Type 0} {renderer : renderers.Renderer.Ghosts Out} {com
           (commanded next w t modal' ring' (stays_both s m w stays meets.does.stays) result k))
 
       turn_unmet : (cmd : Cmd) (w : State Out H Hi K T renderer completer candidate hinter hint highlighter validator history) (modal' : Modal) (e : ReadlineError) → Happens display_of b (line_phrase custom i (shown_in (value_of s))) (key_stage s i c) (Ok cmd) (key_stage m i1 c1)
-          → Meets cmd m modal w modal' (Err e) → Turns (Err e) (stage_of w i1 r modal' c1)
+          → Meets (meeting modal cmd) (λ (c : Cmd). c) m w modal' (Err e) → Turns (Err e) (stage_of w i1 r modal' c1)
       turn_unmet cmd w modal' e h meets = spoken cmd (Err e) (stage_of w i1 r modal' c1) h (unmet cmd w modal' (phrased (Ok cmd) h).1 e meets)
 
       turn_stays : (q : Result Cmd ReadlineError) → Happens display_of b (line_phrase custom i (shown_in (value_of s))) (key_stage s i c) q (key_stage m i1 c1) → Stays s m
@@ -190,7 +188,7 @@ module _ {Out H Hi K T : Type 0} {renderer : renderers.Renderer.Ghosts Out} {com
 
   -- a command came, and what a search made of it failed
   pub turn_unmade : (custom : Custom) (s m w : State Out H Hi K T renderer completer candidate hinter hint highlighter validator history) (i i1 : Input) (r : Ring) (modal modal' : Modal) (f f1 : KeyFeed) (cmd : Cmd) (e : ReadlineError) (q : Result Status ReadlineError)
-      → IsErrAnd q (λ x. x ≡ e) → Follows display_of custom (line_phrase custom i (shown_in (value_of s))) s i m i1 f f1 (Ok cmd) → Meets cmd m modal w modal' (Err e)
+      → IsErrAnd q (λ x. x ≡ e) → Follows display_of custom (line_phrase custom i (shown_in (value_of s))) s i m i1 f f1 (Ok cmd) → Meets (meeting modal cmd) (λ (c : Cmd). c) m w modal' (Err e)
       → Takes turn_script custom s i r modal f w i1 r modal' f1 q
   turn_unmade custom s m w i i1 r modal modal' f f1 cmd e q is h meets =
       subst (λ x. Takes turn_script custom s i r modal f w i1 r modal' f1 x) (sym (is_err e q is)) (record {
@@ -205,7 +203,7 @@ module _ {Out H Hi K T : Type 0} {renderer : renderers.Renderer.Ghosts Out} {com
 
   -- a command came
   pub turn_commanded : (custom : Custom) (s m w t : State Out H Hi K T renderer completer candidate hinter hint highlighter validator history) (i i1 : Input) (r q ring' : Ring) (modal modal' : Modal) (f f1 : KeyFeed) (cmd next : Cmd) (result : Result Status ReadlineError)
-      → Follows display_of custom (line_phrase custom i (shown_in (value_of s))) s i m i1 f f1 (Ok cmd) → f1.bound < f.bound → Meets cmd m modal w modal' (Ok next) → q ≡ ring_after_reset next r
+      → Follows display_of custom (line_phrase custom i (shown_in (value_of s))) s i m i1 f f1 (Ok cmd) → f1.bound < f.bound → Meets (meeting modal cmd) (λ (c : Cmd). c) m w modal' (Ok next) → q ≡ ring_after_reset next r
       → Executes next i1 w q t ring' result → Takes turn_script custom s i r modal f t i1 ring' modal' f1 result
   turn_commanded custom s m w t i i1 r q ring' modal modal' f f1 cmd next result h falls meets reset k =
       let done = subst (λ x. Executes next i1 w x t ring' result) reset k in

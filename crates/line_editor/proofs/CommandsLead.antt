@@ -1,23 +1,23 @@
 -- Each command leads from its value to the next.
-use Rattle.std.proofs.Common.{◌≡◌, ℕ, ◌+◌, ◌-◌, ◌==◌, ◌≤◌, ◌||◌, arith, not, max, Bool, true, false, List, [], ◌∷◌, ◌++◌, length, Option, Some, None, is_some, slice_get, refl, sym, ap, ◌∙◌, subst, if◌then◌else◌}
-use Rattle.std.specs.Prelude.{⊤}
+use Rattle.std.proofs.Common.{◌≡◌, ℕ, ◌+◌, ◌-◌, ◌==◌, ◌≤◌, ◌||◌, arith, not, max, Bool, true, false, List, [], ◌∷◌, ◌++◌, length, Option, Some, None, is_some, slice_get, drop, refl, sym, ap, ◌∙◌, subst, if◌then◌else◌}
+use Rattle.std.specs.Prelude.{⊤, unwrap_or}
 use Rattle.std.proofs.lemmas.Bool.{eqb-true, cond-false, not-false}
 use Rattle.line_buffer.specs.Clusters.{place_forward}
 use Rattle.line_buffer.specs.Columns.{line_up, line_down}
 use Rattle.line_buffer.specs.Insertions.{no_insertion, insertion_of, can_take_before, yank as yanked_in}
-use Rattle.line_buffer.specs.LetterCase.{word_to_edit, recase_line}
+use Rattle.line_buffer.specs.LetterCase.{word_to_edit, recase}
 use Rattle.line_buffer.specs.Line.{Line, with_cursor_at}
 use Rattle.line_buffer.specs.Range.{copied_range}
-use Rattle.line_buffer.specs.Transpositions.{transposes_words, transpose_words_line, after_words, before_words, first_word, swap_line, words_around}
+use Rattle.line_buffer.specs.Transpositions.{transposes_words, transpose_words as exchanged_in, after_words, before_words, first_word, swap as swapped_in, words_around}
 use Rattle.line_buffer.specs.declared.types.Anchor.{Anchor}
 use Rattle.line_buffer.specs.declared.types.Anchor.TheVariants.{After, Before}
 use Rattle.line_buffer.specs.declared.types.Movement.{Movement}
 use Rattle.line_buffer.specs.declared.types.WordAction.{WordAction}
 use Rattle.line_buffer.specs.declared.types.WordAction.TheVariants.{Capitalize, Lowercase, Uppercase}
-use Rattle.line_edits.specs.Edits.{yank_steps, pop_group, update_steps, update_group, overwrite_steps, replace_group, replace_group_if_any, indent_steps, transpose_words_group, word_group, after_undo, by, overwrite_steps_to}
-use Rattle.line_edits.specs.WriteSteps.{WriteSteps, effect_of_edit, with_answer, no_steps}
+use Rattle.line_edits.specs.Edits.{yank_steps, pop_group, update_steps, update_group, overwrite_steps, replace_group, replace_group_if_any, indent_steps, transpose_words_group, word_group, after_undo, by}
+use Rattle.line_edits.proofs.StepLemmas.{overwrite_steps_to}
+use Rattle.line_edits.specs.WriteSteps.{WriteSteps, effect_of_steps, with_answer, no_steps}
 use Rattle.line_edits.specs.Written.{Written, group_opened, group_closed}
-use Rattle.line_help.specs.Completion.{Completion}
 use Rattle.line_help.specs.Hints.{Hinted}
 use Rattle.line_keys.specs.Replies.{Reply}
 use Rattle.line_help.specs.Search.{Hit, entry_at}
@@ -32,9 +32,9 @@ use Rattle.line_keys.specs.declared.command.CmdKind.{CmdKind}
 use Rattle.line_keys.specs.declared.command.CmdKind.TheVariants.{ForcedRefresh, Other}
 use Rattle.line_record.specs.Held.{has_step, closes}
 use Rattle.line_record.specs.Ring.{yank_exchange}
-use Rattle.line_editor.specs.Accepting.{bare_value, bare, verdict, message_effect_if, verdict_told, verdict_effect, verdict_given, verdict_asked, group_and_verdict_effect, validate_by, validate, newline, accept, accepts, newline_if, accept_or_insert}
+use Rattle.line_editor.specs.Accepting.{bare, verdict, message_effect_if, verdict_told, verdict_effect, group_and_verdict_effect, validate_by, validate, newline, accept, accepts, newline_if, accept_or_insert}
 use Rattle.line_editor.specs.Commands.{in_vi_command, line_up_or_previous, line_down_or_next}
-use Rattle.line_editor.specs.Completing.{common_text, word_replaced, updates, complete_effect_with, complete_effect, candidates_given, candidates_asked, complete_if}
+use Rattle.line_editor.specs.Completing.{common_text, word_replaced, updates, complete_effect_with, complete_effect, candidates_given, candidates_asked, complete}
 use Rattle.line_editor.specs.Drawing.{since, draw_effect_behind, repaint_effect, ask_anew_effect, refresh_effect, refresh_effect_since, cursor_end_effect}
 use Rattle.line_editor.specs.Hinting.{at_row_end, complete_hint_effect, complete_by}
 use Rattle.line_editor.specs.Inserting.{insert_char}
@@ -43,9 +43,9 @@ use Rattle.line_editor.specs.Leads.{Leads, CommandsLead, SubmittingLeads, AsksLe
 use Rattle.line_editor.specs.Moving.{move_buffer_end}
 use Rattle.line_editor.specs.Redraws.Redraw.{Drawn, Bared, Beeped}
 use Rattle.line_editor.specs.History.{with_saved_line, at_place, value_on_leaving, leave_effect, recall, recall_earlier_effect, history_step, history_end, hit_effect, history_search}
-use Rattle.line_editor.specs.Transforms.{transpose_words_effect, edit_word_effect, value_without_marks, undo}
+use Rattle.line_editor.specs.Transforms.{transpose_words_effect, edit_word_effect, undo}
 use Rattle.line_editor.specs.Sights.{sight_with, sight_of, ended_sight, Turns, info_after}
-use Rattle.line_editor.specs.Values.{Value, Setting, Effect, hint_reply, verdict_reply, completion_reply, update_reply, shown_hint, shown_marks, no_effect, value_with_edit, line_and_record_of, at_line}
+use Rattle.line_editor.specs.Values.{Value, Setting, Effect, without_hint, with_mark, help_steps, hint_reply, verdict_reply, completion_reply, update_reply, shown_hint, shown_marks, no_effect, value_with_edit, line_and_record_of, at_line}
 use Rattle.line_editor.specs.Values.EditStep.{Draws, Takes}
 use Rattle.line_editor.specs.Yanking.{line_at_anchor, steps_over, behind_yank, value_after_yank, yank_text, yank_lent, pop_lent}
 use Rattle.line_editor.proofs.KnownLemmas.{Begins, yank_begins, pop_begins, over_begins, replaced_begins}
@@ -111,10 +111,10 @@ pop_leads (Some lent) s v = either s v (can_take_before lent.0 v.line) _ _ (λ e
 
 -- ---- words
 
-words_rest : (n : ℕ) (l : Line) → transposes_words n l ≡ false → (transpose_words_line n l).place ≡ l.place → transpose_words_line n l ≡ l
+words_rest : (n : ℕ) (l : Line) → transposes_words n l ≡ false → (exchanged_in n l).line.place ≡ l.place → (exchanged_in n l).line ≡ l
 unfolding after_words before_words
 words_rest n l h k =
-    let stays : transpose_words_line n l ≡ after_words 1 (first_word n l) = cond-false (transposes_words n l) (swap_line (words_around n l) l) (after_words 1 (first_word n l)) h in
+    let stays : (exchanged_in n l).line ≡ after_words 1 (first_word n l) = cond-false (transposes_words n l) (swapped_in (words_around n l) l).line (after_words 1 (first_word n l)) h in
     stays ∙ ap (λ place. record l { place = place }) (sym (ap (λ (x : Line). x.place) stays) ∙ k)
 
 words_lead : (n : ℕ) (s : Setting) (v : Value) → Leads s v (transpose_words_effect n s v)
@@ -124,12 +124,12 @@ words_lead n s v =
     let parts = or_none (transposes_words n v.line) _ e in
     words_rest n v.line parts.0 (eqb-true w.line.place v.line.place (not-false _ parts.1)))
 
-recase_rests : (action : WordAction) (o : Option (ℕ × ℕ)) (l : Line) → is_some o ≡ false → recase_line action o l ≡ l
+recase_rests : (action : WordAction) (o : Option (ℕ × ℕ)) (l : Line) → (recase action o l).answer ≡ false → (recase action o l).line ≡ l
 recase_rests action None l h = refl
 recase_rests action (Some word) l h = cc
 
 word_leads : (action : WordAction) (s : Setting) (v : Value) → Leads s v (edit_word_effect action s v)
-word_leads action s v = refresh_if_leads (word_group action) s v (is_some (word_to_edit v.line)) (recase_rests action (word_to_edit v.line) v.line)
+word_leads action s v = refresh_if_leads (word_group action) s v (recase action (word_to_edit v.line) v.line).answer (recase_rests action (word_to_edit v.line) v.line)
 
 over_rests : (c : ℕ) (o : Option ℕ) (w : Written) → is_some o ≡ false → (by (overwrite_steps_to c o) w).line ≡ w.line
 over_rests c None w h = refl
@@ -138,7 +138,7 @@ over_rests c (Some end) w h = cc
 -- ---- undo
 
 undo_leads : (n : ℕ) (s : Setting) (v : Value) → Leads s v (undo n s v)
-undo_leads n s v = either s v (has_step (max n 1) v.held) _ _ (λ e. back_leads s v v (max n 1) (refresh_effect s (value_with_edit (after_undo n) v)) (refresh_leads s v (value_with_edit (after_undo n) v))) (λ e. back_leads s v v (max n 1) (no_effect s (value_without_marks n v)) (rest_leads s v (value_without_marks n v) (refl, refl, refl)))
+undo_leads n s v = either s v (has_step (max n 1) v.held) _ _ (λ e. back_leads s v v (max n 1) (refresh_effect s (value_with_edit (after_undo n) v)) (refresh_leads s v (value_with_edit (after_undo n) v))) (λ e. let w : Value = record v { held = drop (max n 1) v.held } in back_leads s v v (max n 1) (no_effect s w) (rest_leads s v w (refl, refl, refl)))
 
 -- ---- history
 
@@ -188,7 +188,7 @@ bared_by s v w false e h none info =
     record { fits = (refl, tt); leads = alike_sight s v w info (h, marks.1 ∙ sym marks.0, none ∙ sym hint.0) }
 
 bare_leads : (s : Setting) (v : Value) → Leads s v (bare s v)
-bare_leads s v = bared_by s v (bare_value v s) (is_some v.hint || (v.marked || (bare_value v s).marked)) refl refl refl
+bare_leads s v = let w = with_mark ForcedRefresh s (without_hint v) in bared_by s v w (is_some v.hint || (v.marked || w.marked)) refl refl refl
 
 told_if_leads : (draws : Bool) (text : Option (List ℕ)) (kind : CmdKind) (s : Setting) (v w : Value) → Alike v w → Leads s v (message_effect_if draws text kind s w)
 told_if_leads draws text kind s v w h = either s v (draws || is_some text) _ _ (λ e. told_leads text kind s v w) (λ e. rest_leads s v w h)
@@ -201,10 +201,10 @@ verdict_leads (Valid text) draws s v w h = told_if_leads draws text ForcedRefres
 validate_leads : (reply : Option (Reply ValidationResult)) (s : Setting) (v : Value) → Leads s v (validate_by reply s v)
 validate_leads None s v = rest_leads s v v (refl, refl, refl)
 validate_leads (Some reply) s v =
-    let found = verdict_given reply.answer in
+    let found = unwrap_or reply.answer Incomplete in
     let w = value_with_edit group_opened v in
     let draws = closes w.held || is_some w.hint in
-    both_lead s v group_and_verdict_effect (verdict_effect found) (take_leads s v v (verdict_asked s w) (asking_leads w (verdict_reply s w) s v w (refl, refl, refl)))
+    both_lead s v group_and_verdict_effect (verdict_effect found) (take_leads s v v (record { value = w; steps = help_steps w (verdict_reply s w) }) (asking_leads w (verdict_reply s w) s v w (refl, refl, refl)))
     (verdict_leads found draws s w (value_with_edit group_closed w) (refl, refl, refl))
 
 accept_leads : (s : Setting) (v : Value) → Leads s v (accept s v)
@@ -246,11 +246,12 @@ elected_leads start (Some text) s v =
     let w = value_with_edit (word_replaced start text) v in
     updating_leads (update_reply start text s v) s v (refresh_effect s w) (refresh_leads s v w)
 
-complete_leads : (reply : Option (Reply Completion)) (s : Setting) (v : Value) → Leads s v (complete_if reply s v)
-complete_leads None s v = rest_leads s v v (refl, refl, refl)
-complete_leads (Some reply) s v =
-    let found = candidates_given (Some reply) in
-    both_lead s v candidates_asked (complete_effect found) (asking_leads v (completion_reply s v) s v v (refl, refl, refl)) (elected_leads found.start (common_text found v.line) s v)
+complete_leads : (s : Setting) (v : Value) → Leads s v (complete s v)
+complete_leads s v =
+    let found = candidates_given (completion_reply s v) in
+    either s v (is_some s.hooks) _ _
+    (λ e. both_lead s v candidates_asked (complete_effect found) (asking_leads v (completion_reply s v) s v v (refl, refl, refl)) (elected_leads found.start (common_text found v.line) s v))
+    (λ e. rest_leads s v v (refl, refl, refl))
 
 -- ---- rows, or the history
 
@@ -272,7 +273,7 @@ commands_lead m AcceptLine s v = accept_leads s v
 commands_lead m BeginningOfHistory s v = end_leads true s v
 commands_lead m CapitalizeWord s v = word_leads Capitalize s v
 commands_lead m ClearScreen s v = clear_leads s v
-commands_lead m Complete s v = complete_leads (completion_reply s v) s v
+commands_lead m Complete s v = complete_leads s v
 commands_lead m CompleteHint s v = hint_leads v.hint s v
 commands_lead m (Dedent movement) s v = redraw_leads (indent_steps movement s.config.indent_size true) s v v
 commands_lead m DowncaseWord s v = word_leads Lowercase s v
@@ -291,7 +292,7 @@ commands_lead m (Overwrite c) s v = refresh_since_if_leads (overwrite_steps c) s
     (over_begins c (place_forward 1 v.line) v.line.place (line_and_record_of v) (omega arith))
 commands_lead m PreviousHistory s v = step_back_leads true s v
 commands_lead m (ReplaceChar n c) s v = refresh_since_if_leads (replace_group_if_any c n) s v (is_some (place_forward n v.line))
-    (λ e. ap (λ (steps : WriteSteps Bool). (effect_of_edit steps (line_and_record_of v)).line) (cond-false (is_some (place_forward n v.line)) (with_answer true (replace_group c n v.line)) (no_steps false) e))
+    (λ e. ap (λ (steps : WriteSteps Bool). (effect_of_steps steps.steps (line_and_record_of v)).line) (cond-false (is_some (place_forward n v.line)) (with_answer true (replace_group c n v.line)) (no_steps false) e))
     (replaced_begins c n v.line.place (line_and_record_of v) (omega arith))
 commands_lead m (Replace movement text) s v = replace_leads movement text s v
 commands_lead m (SelfInsert n c) s v = insertion_leads c n s v
@@ -327,5 +328,5 @@ asks_lead (Prompted prompt) s v x =
     let w = (ask_anew_effect s v).value in
     help_turns v (hint_reply s v) s.prompt x (sight_with (shown_marks w s.marks) false prompt w.line.text w.line.place (shown_hint w)) (draw_effect_behind prompt false s w).steps
     (record { fits = ((λ e. cc), tt); leads = refl })
-asks_lead DoingInsert s v x = refl
-asks_lead DoneInserting s v x = refl
+asks_lead DoingInsert s v x = λ r l. refl
+asks_lead DoneInserting s v x = λ r l. refl

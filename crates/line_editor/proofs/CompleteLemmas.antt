@@ -1,6 +1,6 @@
 -- What is put in place of a word, and what a state makes of completing one.
 use Rattle.std.specs.Prelude.{⊤, Option, Some, None, is_some, option_map, Result, Ok, Err, OnErr, IfErr, IsErrAnd, IsFalse, IsUtf8}
-use Rattle.std.proofs.Common.{◌≡◌, ◌⊎◌, inl, inr, ℕ, true, true≢false, List, map, refl, sym, ap, subst, ◌∙◌}
+use Rattle.std.proofs.Common.{◌≡◌, ◌⊎◌, inl, inr, ℕ, true, List, map, refl, sym, ap, subst, ◌∙◌}
 use Rattle.std.proofs.lemmas.Simd.{map-map}
 use Rattle.line_buffer.specs.Line.{Line}
 use Rattle.line_buffer.specs.Replay.{replacement}
@@ -18,7 +18,8 @@ use Rattle.line_help.specs.declared.helpers.validate as verdicts
 use Rattle.line_help.specs.declared.history as histories
 use Rattle.line_keys.specs.Replies.{Reply, IsFaultOf}
 use Rattle.line_record.specs.Items.{Items, ItemsStand, RecordsEventIn, record_refuses, record_on, items_with_mark}
-use Rattle.line_editor.specs.Completing.{common_text, word_put, CutWord, word_updated, complete_effect_with, complete_effect, candidates_given, candidates_asked, complete_if, complete}
+use Rattle.line_editor.specs.Drawing.{effect_if}
+use Rattle.line_editor.specs.Completing.{common_text, word_put, CutWord, word_updated, complete_effect_with, complete_effect, candidates_given, candidates_asked, complete}
 use Rattle.line_editor.specs.States.{hooks_of, value_of, setting_of, fails_by, IsHelpFault, error_of, surface_of, Stays, Does}
 use Rattle.line_editor.specs.Values.{Value, Setting, Hooks, then_do, completion_reply, update_reply}
 use Rattle.line_editor.specs.declared.renderer as renderers
@@ -77,9 +78,9 @@ pub some_mapped : {A B C : Type 0} (f : B → C) (g : A → B) (o : Option A) �
 some_mapped f g None = refl
 some_mapped f g (Some x) = refl
 
-completed_by_reply : (reply : Option (Reply Completion)) (s : Setting) (v : Value) → is_some reply ≡ true → then_do candidates_asked (complete_effect (candidates_given reply)) s v ≡ complete_if reply s v
-completed_by_reply None s v some = absurd (true≢false (sym some))
-completed_by_reply (Some reply) s v some = refl
+has_hooks : {A B : Type 0} (f : A → B) (o : Option A) → is_some (option_map f o) ≡ is_some o
+has_hooks f None = refl
+has_hooks f (Some x) = refl
 
 completed_is : (found given : Completion) (o : Option (List ℕ)) (s : Setting) (v : Value) → found ≡ given → common_text found v.line ≡ o → complete_effect_with found.start o s v ≡ complete_effect given s v
 completed_is found given o s v same is = ap (λ x. complete_effect_with found.start x s v) (sym is) ∙ ap (λ f. complete_effect f s v) same
@@ -154,8 +155,9 @@ module _ {Out H Hi K T : Type 0} {renderer : renderers.Renderer.Ghosts Out} {com
 
   complete_is : (s : State Out H Hi K T renderer completer candidate hinter hint highlighter validator history) → is_some s.helper ≡ true
       → then_do candidates_asked (complete_effect (candidates_given (completion_reply (setting_of s) (value_of s)))) (setting_of s) (value_of s) ≡ complete (setting_of s) (value_of s)
-  complete_is s some = completed_by_reply (completion_reply (setting_of s) (value_of s)) (setting_of s) (value_of s)
-      (some_mapped (λ (h : Hooks). h.completes s.recorded.line.text s.recorded.line.place (setting_of s).entries (value_of s).history) (hooks_of completer hinter validator) s.helper ∙ some)
+  complete_is s some =
+      ap (λ b. effect_if b (then_do candidates_asked (complete_effect (candidates_given (completion_reply (setting_of s) (value_of s))))) (setting_of s) (value_of s))
+      (sym (has_hooks (hooks_of completer hinter validator) s.helper ∙ some))
 
   pub complete_refused : {A : Type 0} (s : State Out H Hi K T renderer completer candidate hinter hint highlighter validator history) (e : ReadlineError) (result : Result A ReadlineError) → is_some s.helper ≡ true
       → IsErrAnd result (λ x. x ≡ e) → IsHelpFault (completion_reply (setting_of s) (value_of s)) e → Does complete s s result

@@ -9,8 +9,9 @@ use Rattle.line_buffer.specs.Transpositions.{transposes_chars, transposes_words}
 use Rattle.line_buffer.specs.declared.types.Movement.{Movement}
 use Rattle.line_config.specs.declared.errors.ReadlineError.{ReadlineError}
 use Rattle.line_config.specs.declared.errors.ReadlineError.TheVariants.{Memory}
-use Rattle.line_edits.specs.Edits.{transpose_chars_group, transpose_words_group, char_steps, kill_steps, text_steps, pop_group, replace_group, replace_group_if_any, overwrite_steps_to, overwrite_steps, by}
-use Rattle.line_edits.specs.WriteSteps.{WriteSteps, with_answer, no_steps, CutEdit, Edits as EditsRecorded}
+use Rattle.line_edits.specs.Edits.{transpose_chars_group, transpose_words_group, char_steps, kill_steps, text_steps, pop_group, replace_group, replace_group_if_any, overwrite_steps, by}
+use Rattle.line_edits.proofs.StepLemmas.{overwrite_steps_to}
+use Rattle.line_edits.specs.WriteSteps.{WriteSteps, with_answer, no_steps, CutAlong, Edits as EditsRecorded}
 use Rattle.line_edits.specs.Written.{Written, line_and_record_in}
 use Rattle.line_edits.specs.declared.recorded_line.RecordedLine.{RecordedLine}
 use Rattle.line_record.specs.Items.{record_on}
@@ -19,10 +20,10 @@ use Rattle.line_help.specs.declared.helpers.hint as hints
 use Rattle.line_help.specs.declared.helpers.highlight as highlights
 use Rattle.line_help.specs.declared.helpers.validate as verdicts
 use Rattle.line_help.specs.declared.history as histories
-use Rattle.line_editor.specs.Drawing.{Since, since, refresh_effect, refresh_effect_if, refresh_effect_since, refresh_effect_since_if}
+use Rattle.line_editor.specs.Drawing.{Since, since, refresh_effect, refresh_effect_since, effect_if}
 use Rattle.line_editor.specs.Inserting.{has_printable_rest, insertion_way, show_inserted_effect, insert_char, insert_text}
 use Rattle.line_editor.specs.Killing.{may_be_taken, may_be_taken_out, text_gone, last_of_bare, way_erased, kill_way, show_killed_effect, show_taken, kill_effect}
-use Rattle.line_editor.specs.Rewriting.{may_be_rewritten, refresh_over_effect, refresh_over_if}
+use Rattle.line_editor.specs.Rewriting.{may_be_rewritten, refresh_over_effect}
 use Rattle.line_editor.specs.Transforms.{pair_end, transpose_chars_effect}
 use Rattle.line_editor.specs.States.{value_of, setting_of, surface_of, Stays, Does}
 use Rattle.line_editor.specs.EditSteps.{Surface, CutEditSteps, SameBeside}
@@ -83,13 +84,13 @@ char_put_by c n way from s v some is stays =
 
 -- words were exchanged, or the cursor moved
 abbrev pub words_drawn : ℕ → Value → Transition
-words_drawn n v = refresh_effect_if (transposes_words n v.line || not ((value_with_edit (by (transpose_words_group n)) v).line.place == v.line.place))
+words_drawn n v = effect_if (transposes_words n v.line || not ((value_with_edit (by (transpose_words_group n)) v).line.place == v.line.place)) refresh_effect
 
 -- characters were exchanged, and written over if they may
 pub chars_over : (over : Bool) (from end : ℕ) (s : Setting) (v : Value) → end ≡ pair_end v.line → from ≡ end - 2 → over ≡ may_be_rewritten s from end v
-    → then_do (edit_effect transpose_chars_group) (refresh_over_if over from end (transposes_chars v.line)) s v ≡ transpose_chars_effect s v
+    → then_do (edit_effect transpose_chars_group) (effect_if (transposes_chars v.line) (refresh_over_effect over from end)) s v ≡ transpose_chars_effect s v
 chars_over over from end s v end_is from_is over_is =
-    let drawn : Bool → ℕ → ℕ → Effect = λ b x y. then_do (edit_effect transpose_chars_group) (refresh_over_if b x y (transposes_chars v.line)) s v in
+    let drawn : Bool → ℕ → ℕ → Effect = λ b x y. then_do (edit_effect transpose_chars_group) (effect_if (transposes_chars v.line) (refresh_over_effect b x y)) s v in
     ap (λ b. drawn b from end) over_is
     ∙ ap (λ x. drawn (may_be_rewritten s x end v) x end) from_is
     ∙ ap (λ y. drawn (may_be_rewritten s (y - 2) y v) (y - 2) y) end_is
@@ -149,37 +150,21 @@ module _ {Out H Hi K T : Type 0} {renderer : renderers.Renderer.Ghosts Out} {com
       (does_refused whole s t Memory stays tt
       (subst (λ (e : Effect). CutEditSteps canvas (canvas.ruler s.out) e.steps (surface_of s) Memory (value_of t) (surface_of t)) is
       (stops_editing canvas (canvas.ruler s.out) stands steps (second (setting_of s) (value_with_edit (by edit) stands)).steps (surface_of s) (surface_of t) Memory (value_of t) refl surface rest
-      (subst (λ (x : Written). CutEdit (with_answer tt (edit x.line)) x (line_and_record_of (value_of t))) same wrote.left))))
+      (subst (λ (x : Written). CutAlong (edit x.line).steps x (line_and_record_of (value_of t))) same wrote.left))))
 
-  -- the line is drawn where something changed
-  pub drawn_if : {A : Type 0} (b : Bool) (s t : State Out H Hi K T renderer completer candidate hinter hint highlighter validator history) (result : Result A ReadlineError)
-      → b ≡ true → Does refresh_effect s t result → Does (refresh_effect_if b) s t result
-  drawn_if {A} b s t result is h = subst (λ x. Does {A = A} (refresh_effect_if x) s t result) (sym is) (does_as refresh_effect (refresh_effect_if true) s t result refl h)
+  -- what follows a change is made if there was one
+  pub drawn_if : {A : Type 0} (edit : Transition) (b : Bool) (s t : State Out H Hi K T renderer completer candidate hinter hint highlighter validator history) (result : Result A ReadlineError)
+      → b ≡ true → Does edit s t result → Does (effect_if b edit) s t result
+  drawn_if {A} edit b s t result is h = subst (λ x. Does {A = A} (effect_if x edit) s t result) (sym is) (does_as edit (effect_if true edit) s t result refl h)
 
-  pub undrawn_if : {A : Type 0} (b : Bool) (s : State Out H Hi K T renderer completer candidate hinter hint highlighter validator history) (x : A) → b ≡ false → Does (refresh_effect_if b) s s (Ok x)
-  undrawn_if {A} b s x is =
-      subst (λ y. Does {A = A} (refresh_effect_if y) s s (Ok x)) (sym is) (record { value = refl; calls = refl; layout = refl; stays = stays_same s; reason = tt; stops = tt })
+  pub undrawn_if : {A : Type 0} (edit : Transition) (b : Bool) (s : State Out H Hi K T renderer completer candidate hinter hint highlighter validator history) (x : A) → b ≡ false → Does (effect_if b edit) s s (Ok x)
+  undrawn_if {A} edit b s x is =
+      subst (λ y. Does {A = A} (effect_if y edit) s s (Ok x)) (sym is) (record { value = refl; calls = refl; layout = refl; stays = stays_same s; reason = tt; stops = tt })
 
-  -- from a place on, if the line may be drawn so
+  -- the line is drawn from a place on, if it may be drawn so
   pub drawn_since_if : {A : Type 0} (from stays : Option Since) (b : Bool) (s t : State Out H Hi K T renderer completer candidate hinter hint highlighter validator history) (result : Result A ReadlineError)
-      → from ≡ stays → b ≡ true → Does (refresh_effect_since from) s t result → Does (refresh_effect_since_if stays b) s t result
-  drawn_since_if {A} from stays b s t result at is h =
-      subst (λ x. Does {A = A} (refresh_effect_since_if stays x) s t result) (sym is)
-      (subst (λ f. Does {A = A} (refresh_effect_since_if f true) s t result) at (does_as (refresh_effect_since from) (refresh_effect_since_if from true) s t result refl h))
-
-  pub undrawn_since_if : {A : Type 0} (stays : Option Since) (b : Bool) (s : State Out H Hi K T renderer completer candidate hinter hint highlighter validator history) (x : A) → b ≡ false → Does (refresh_effect_since_if stays b) s s (Ok x)
-  undrawn_since_if {A} stays b s x is =
-      subst (λ y. Does {A = A} (refresh_effect_since_if stays y) s s (Ok x)) (sym is) (record { value = refl; calls = refl; layout = refl; stays = stays_same s; reason = tt; stops = tt })
-
-  -- or new letters are written
-  pub over_if : {A : Type 0} (over : Bool) (from upto : ℕ) (b : Bool) (s t : State Out H Hi K T renderer completer candidate hinter hint highlighter validator history) (result : Result A ReadlineError)
-      → b ≡ true → Does (refresh_over_effect over from upto) s t result → Does (refresh_over_if over from upto b) s t result
-  over_if {A} over from upto b s t result is h =
-      subst (λ x. Does {A = A} (refresh_over_if over from upto x) s t result) (sym is) (does_as (refresh_over_effect over from upto) (refresh_over_if over from upto true) s t result refl h)
-
-  pub unwritten_if : {A : Type 0} (over : Bool) (from upto : ℕ) (b : Bool) (s : State Out H Hi K T renderer completer candidate hinter hint highlighter validator history) (x : A) → b ≡ false → Does (refresh_over_if over from upto b) s s (Ok x)
-  unwritten_if {A} over from upto b s x is =
-      subst (λ y. Does {A = A} (refresh_over_if over from upto y) s s (Ok x)) (sym is) (record { value = refl; calls = refl; layout = refl; stays = stays_same s; reason = tt; stops = tt })
+      → from ≡ stays → b ≡ true → Does (refresh_effect_since from) s t result → Does (effect_if b (refresh_effect_since stays)) s t result
+  drawn_since_if {A} from stays b s t result at is h = subst (λ f. Does {A = A} (effect_if b (refresh_effect_since f)) s t result) at (drawn_if (refresh_effect_since from) b s t result is h)
 
   -- it was made, and nothing follows
   edit_alone : {A B E : Type 0} (whole : Transition) (edit : Line → WriteSteps A) (s t : State Out H Hi K T renderer completer candidate hinter hint highlighter validator history) (answer : A) (x : B)

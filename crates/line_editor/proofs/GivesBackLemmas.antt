@@ -1,7 +1,7 @@
 -- A search, or candidates in turn, that are given up leave the line as it was.
 use Rattle.std.proofs.Common.{◌≡◌, ℕ, ◌==◌, ◌||◌, Bool, true, false, List, [], ◌∷◌, ◌++◌, length, drop, Option, Some, None, is_some, slice_get, ◌&&◌, refl, sym, ap, ◌∙◌, subst, arith, if◌then◌else◌}
 use Rattle.std.proofs.lemmas.Bool.Decides.{nat_tests}
-use Rattle.std.specs.Prelude.{◌≢◌, slice_range}
+use Rattle.std.specs.Prelude.{◌≢◌, slice_range, option_and_then, fold}
 use Rattle.line_buffer.specs.Event.{ChangeEvent}
 use Rattle.line_buffer.specs.Event.ChangeEvent.{Delete, InsertStr, Replace}
 use Rattle.line_buffer.specs.Insertions.{text_that_fits}
@@ -13,7 +13,6 @@ use Rattle.line_help.specs.Completion.{Offered, Completion, unless_empty}
 use Rattle.line_help.specs.Search.{Hit, TermAt}
 use Rattle.line_help.specs.declared.history.search.SearchDirection.{SearchDirection}
 use Rattle.line_help.proofs.FoundLemmas.{nearest_is_found}
-use Rattle.line_keys.specs.Replies.{Reply}
 use Rattle.line_keys.specs.declared.command.Cmd.TheVariants.{Complete}
 use Rattle.line_record.specs.Change.{Change, undo_place}
 use Rattle.line_record.specs.Change.Change.{Inserted, Replaced}
@@ -22,11 +21,11 @@ use Rattle.line_record.specs.Held.{HeldItem, change_of, steps_with_change_if, re
 use Rattle.line_record.specs.Held.HeldItem.{Opened, Stepped}
 use Rattle.line_record.proofs.GroupLaws.{unchanged}
 use Rattle.line_record.proofs.RecordLaws.{no_mark}
-use Rattle.line_editor.specs.Candidates.{text_at, candidate_at, turn_effect_with, turn_effect, cycle_at, cycle_back, cycle_by}
+use Rattle.line_editor.specs.Candidates.{cycle_begun, cycle_first, candidate_at, turn_effect_with, turn_effect, cycle_at, cycle_back, cycle_effect, modal_after_ask}
 use Rattle.line_editor.specs.Completing.{begins_word, word_replaced, candidates_given}
-use Rattle.line_editor.specs.Returns.{GivesBack, is_onward, AllOnward, Between, search_start, search_after_act, search_after_acts, GivesWordBack, cycle_start, cycle_after_turn, cycle_after_turns}
-use Rattle.line_editor.specs.Modal.{Modal}
-use Rattle.line_editor.specs.Searching.{hit_undo_effect, put_hit_effect, search_for, modal_after_look, looks, looks_again, search_drawn, onward, modal_with_query, modal_after_erase, modal_with_char, is_place, line_at_place}
+use Rattle.line_editor.specs.Returns.{GivesBack, is_onward, AllOnward, search_after, GivesWordBack, cycle_after}
+use Rattle.line_editor.specs.Modal.{Modal, Meeting, pass_meeting, takes}
+use Rattle.line_editor.specs.Searching.{begin_search, modal_at_search_start, hit_undo_effect, put_hit_effect, search_for, modal_after_look, looks, looks_again, search_drawn, onward, modal_with_query, modal_after_erase, modal_with_char, is_place, line_at_place}
 use Rattle.line_editor.specs.Values.{Value, Setting, value_with_edit, completion_reply}
 use Rattle.line_editor.specs.declared.modal_state.Act.{Act}
 use Rattle.line_editor.specs.declared.modal_state.Act.TheVariants.{Types, Erases, Goes, Leaves, Ends}
@@ -95,9 +94,9 @@ abbrev Standing : Value → Bool → Value → Type 0
 Standing v false u = (u.line ≡ v.line) × (u.held ≡ record_after_close v.held)
 Standing v true u = OneStep v.line.text (record_after_close v.held) u.held × (u.line.growth ≡ v.line.growth) × (u.line.limit ≡ v.line.limit)
 
-record Inside (v : Value) (x : Between) : Type 0 where
+record Inside (v : Value) (x : Meeting) : Type 0 where
   place : x.modal.place ≡ v.line.place
-  stands : Standing v x.modal.put x.value
+  stands : Standing v x.modal.put x.effect.value
 
 -- it is undone
 record Back (v w : Value) : Type 0 where
@@ -156,7 +155,7 @@ looked_inside dir None q s v u grows some place h = (place, h)
 looked_inside dir (Some hit) q s v u grows some place h = (place, put_stands q.put hit s v u grows (some hit refl) h)
 
 looks_inside : (dir : SearchDirection) (from : Option ℕ) (q : Modal) (s : Setting) (v u : Value) → v.line.growth ≡ true → q.place ≡ v.line.place → Standing v q.put u
-    → Inside v (let m = looks dir from q s u in record { modal = m.modal; value = m.effect.value })
+    → Inside v (looks dir from q s u)
 looks_inside dir from q s v u grows place h =
     let hit = search_for q.query dir from s.entries in
     let k = looked_inside dir hit q s v u grows (λ found is. found_some q.query dir from s.entries found is) place h in
@@ -179,32 +178,34 @@ placed_back place l m h at stands =
     ap (λ b. if b then record m { place = place } else m) test ∙ ap (λ p. record m { place = p }) at ∙ same_line l m h
 
 again_inside : (empty : Bool) (q : Modal) (s : Setting) (v u : Value) → v.line.growth ≡ true → is_place v.line.place v.line ≡ true → q.place ≡ v.line.place → Standing v q.put u
-    → Inside v (let m = looks_again empty q s u in record { modal = m.modal; value = m.effect.value })
+    → Inside v (looks_again empty q s u)
 again_inside true q s v u grows stands place h =
     let b = taken_back q.put s v u h in
     record { place = place; stands = (placed_back q.place v.line (hit_undo_effect q.put s u).value.line b.line place stands, b.held) }
 again_inside false q s v u grows stands place h = looks_inside q.dir (Some q.start) q s v u grows place h
 
-goes_on : (act : Act) (s : Setting) (v : Value) (x : Between) → v.line.growth ≡ true → is_place v.line.place v.line ≡ true → is_onward act ≡ true → Inside v x → Inside v (search_after_act s act x)
-goes_on (Types c) s v x grows stands on h = looks_inside x.modal.dir (Some x.modal.at) (modal_with_char c x.modal) s v x.value grows h.place h.stands
-goes_on Erases s v x grows stands on h = again_inside (length (modal_after_erase x.modal).query == 0) (modal_after_erase x.modal) s v x.value grows stands h.place h.stands
-goes_on (Goes dir) s v x grows stands on h = looks_inside dir (onward dir x.modal (length s.entries)) (modal_with_query x.modal.query x.modal) s v x.value grows h.place h.stands
+goes_on : (act : Act) (s : Setting) (v : Value) (x : Meeting) → v.line.growth ≡ true → is_place v.line.place v.line ≡ true → is_onward act ≡ true → Inside v x → Inside v (search_after s x act)
+goes_on (Types c) s v x grows stands on h =
+    let typed = looks_inside x.modal.dir (Some x.modal.at) (modal_with_char c x.modal) s v x.effect.value grows h.place h.stands in
+    record { place = typed.place; stands = typed.stands }
+goes_on Erases s v x grows stands on h = again_inside (length (modal_after_erase x.modal).query == 0) (modal_after_erase x.modal) s v x.effect.value grows stands h.place h.stands
+goes_on (Goes dir) s v x grows stands on h = looks_inside dir (onward dir x.modal (length s.entries)) (modal_with_query x.modal.query x.modal) s v x.effect.value grows h.place h.stands
 goes_on Leaves s v x grows stands on h = cc
 goes_on Ends s v x grows stands on h = cc
 
-all_go_on : (acts : List Act) (s : Setting) (v : Value) (x : Between) → v.line.growth ≡ true → is_place v.line.place v.line ≡ true → AllOnward acts → Inside v x → Inside v (search_after_acts s acts x)
+all_go_on : (acts : List Act) (s : Setting) (v : Value) (x : Meeting) → v.line.growth ≡ true → is_place v.line.place v.line ≡ true → AllOnward acts → Inside v x → Inside v (fold (search_after s) x acts)
 all_go_on [] s v x grows stands on h = h
-all_go_on (act ∷ acts) s v x grows stands on h = all_go_on acts s v (search_after_act s act x) grows stands on.1 (goes_on act s v x grows stands on.0 h)
+all_go_on (act ∷ acts) s v x grows stands on h = all_go_on acts s v (search_after s x act) grows stands on.1 (goes_on act s v x grows stands on.0 h)
 
 -- ---- given up
 
 pub gives_back : GivesBack
 gives_back s dir q v acts grows stands on =
-    let first = search_start s dir q v in
-    let x = search_after_acts s acts first in
+    let first = takes (begin_search dir q) (modal_at_search_start dir (length s.entries) v q) s v in
+    let x = fold (search_after s) first acts in
     let h = all_go_on acts s v first grows stands on (record { place = refl; stands = (refl, refl) }) in
-    let b = taken_back x.modal.put s v x.value h.stands in
-    (placed_back x.modal.place v.line (hit_undo_effect x.modal.put s x.value).value.line b.line h.place stands, b.held)
+    let b = taken_back x.modal.put s v x.effect.value h.stands in
+    (placed_back x.modal.place v.line (hit_undo_effect x.modal.put s x.effect.value).value.line b.line h.place stands, b.held)
 
 -- ---- a candidate put in place of a word is one step
 
@@ -234,7 +235,7 @@ some_text (b ∷ bs) text is = ap (λ o. length (given o) == 0) (sym is) ∙ fir
     given None = []
     given (Some t) = t
 
-begun_some : (begins : Bool) (o : Option Offered) (text : List ℕ) → (if begins then text_at o else None) ≡ Some text → (length text == 0) ≡ false
+begun_some : (begins : Bool) (o : Option Offered) (text : List ℕ) → (if begins then option_and_then (λ (p : Offered). unless_empty p.replacement) o else None) ≡ Some text → (length text == 0) ≡ false
 begun_some true None text is = cc
 begun_some true (Some o) text is = some_text o.replacement text is
 begun_some false o text is = cc
@@ -256,28 +257,28 @@ candidate_stands at found s v w h =
 
 -- ---- candidates in turn, given up
 
-cycles_on : (reply : Option (Reply Completion)) (dir : SearchDirection) (s : Setting) (v : Value) (x : Between) → is_place v.line.place v.line ≡ true → Inside v x
-    → Inside v (let m = cycle_by reply dir x.modal Complete s x.value in record { modal = m.modal; value = m.effect.value })
-cycles_on None dir s v x stands h = record { place = h.place; stands = h.stands }
-cycles_on (Some reply) dir s v x stands h =
-    let b = taken_back x.modal.put s v x.value h.stands in
-    let w = (cycle_back x.modal s x.value).value in
+cycles_on : (some : Bool) (dir : SearchDirection) (s : Setting) (v : Value) (x : Meeting) → is_place v.line.place v.line ≡ true → Inside v x
+    → Inside v (if some then takes (cycle_effect dir x.modal) (modal_after_ask dir x.modal s (cycle_back x.modal s x.effect.value).value) s x.effect.value else pass_meeting x.modal Complete x.effect.value)
+cycles_on false dir s v x stands h = record { place = h.place; stands = h.stands }
+cycles_on true dir s v x stands h =
+    let b = taken_back x.modal.put s v x.effect.value h.stands in
+    let w = (cycle_back x.modal s x.effect.value).value in
     let found = candidates_given (completion_reply s w) in
     record {
       place = h.place;
       stands = candidate_stands (cycle_at dir x.modal.candidate (length found.candidates)) found s v w
-          (placed_back x.modal.place v.line (hit_undo_effect x.modal.put s x.value).value.line b.line h.place stands, b.held);
+          (placed_back x.modal.place v.line (hit_undo_effect x.modal.put s x.effect.value).value.line b.line h.place stands, b.held);
     }
 
-all_cycle : (dirs : List SearchDirection) (s : Setting) (v : Value) (x : Between) → is_place v.line.place v.line ≡ true → Inside v x → Inside v (cycle_after_turns s dirs x)
+all_cycle : (dirs : List SearchDirection) (s : Setting) (v : Value) (x : Meeting) → is_place v.line.place v.line ≡ true → Inside v x → Inside v (fold (cycle_after s) x dirs)
 all_cycle [] s v x stands h = h
-all_cycle (dir ∷ dirs) s v x stands h = all_cycle dirs s v (cycle_after_turn s dir x) stands (cycles_on (completion_reply s x.value) dir s v x stands h)
+all_cycle (dir ∷ dirs) s v x stands h = all_cycle dirs s v (cycle_after s x dir) stands (cycles_on (is_some s.hooks) dir s v x stands h)
 
 pub gives_word_back : GivesWordBack
 gives_word_back s found q v dirs stands =
-    let first = cycle_start s found q v in
-    let x = cycle_after_turns s dirs first in
+    let first = takes (cycle_begun found) (cycle_first found v.line q) s v in
+    let x = fold (cycle_after s) first dirs in
     let begun : Value = record v { held = record_after_close v.held } in
     let h = all_cycle dirs s v first stands (record { place = refl; stands = candidate_stands 0 found s v begun (refl, refl) }) in
-    let b = taken_back x.modal.put s v x.value h.stands in
-    (placed_back x.modal.place v.line (hit_undo_effect x.modal.put s x.value).value.line b.line h.place stands, b.held)
+    let b = taken_back x.modal.put s v x.effect.value h.stands in
+    (placed_back x.modal.place v.line (hit_undo_effect x.modal.put s x.effect.value).value.line b.line h.place stands, b.held)

@@ -3,19 +3,20 @@ use Rattle.std.proofs.Common.{◌≡◌, ℕ, zero, suc, ◌==◌, Bool, true, f
 use Rattle.std.specs.Prelude.{encode_utf8}
 use Rattle.std.specs.List.{repeat}
 use Rattle.line_buffer.specs.Event.{ChangeEvent}
-use Rattle.line_buffer.specs.Indent.{indent_line, indent_events}
+use Rattle.line_buffer.specs.Indent.{indent as indented_in}
 use Rattle.line_buffer.specs.Insertions.{Insertion, insertion_by, insertion_of, insert, no_insertion, yank, yank_pop, without_before, has_room}
-use Rattle.line_buffer.specs.LetterCase.{word_to_edit, recase_line, edit_word_line}
+use Rattle.line_buffer.specs.LetterCase.{word_to_edit, recase, edit_word as recased_in}
 use Rattle.line_buffer.specs.Line.{Line}
-use Rattle.line_buffer.specs.Range.{range_of, deletion_line, kill_line}
+use Rattle.line_buffer.specs.Range.{range_of, deletion_line, kill as killed_in}
 use Rattle.line_buffer.specs.Replay.{line_after_event, line_after_events}
-use Rattle.line_buffer.specs.Transpositions.{transposes_chars, transpose_chars_line, transposes_words, transpose_words_line, after_words, before_words, first_word}
+use Rattle.line_buffer.specs.Transpositions.{transposes_chars, transpose_chars as transposed_in, transposes_words, transpose_words as exchanged_in, after_words, before_words, first_word}
 use Rattle.line_buffer.specs.declared.range.TextSpan.{TextSpan}
 use Rattle.line_buffer.specs.declared.types.Movement.{Movement}
 use Rattle.line_buffer.specs.declared.types.WordAction.{WordAction}
 use Rattle.line_record.specs.Held.{HeldItem, line_back, line_before_item}
 use Rattle.line_record.specs.Held.HeldItem.{Opened, Stepped}
-use Rattle.line_edits.specs.Edits.{by, overwrite_steps_to}
+use Rattle.line_edits.specs.Edits.{by}
+use Rattle.line_edits.proofs.StepLemmas.{overwrite_steps_to}
 use Rattle.line_edits.specs.Written.{Written}
 
 either_line : (g b : Bool) (l m : Line) → l.growth ≡ g → m.growth ≡ g → (if b then l else m).growth ≡ g
@@ -45,7 +46,7 @@ pub deletion_grows : (o : Option TextSpan) (l : Line) → (deletion_line o l).gr
 deletion_grows None l = refl
 deletion_grows (Some span) l = refl
 
-pub kill_grows : (m : Movement) (l : Line) → (kill_line m l).growth ≡ l.growth
+pub kill_grows : (m : Movement) (l : Line) → (killed_in m l).line.growth ≡ l.growth
 kill_grows m l = deletion_grows (range_of m l) l
 
 carried_grows : (events : List ChangeEvent) (l : Line) → (line_after_events events l).growth ≡ l.growth
@@ -53,24 +54,24 @@ unfolding line_after_events
 carried_grows [] l = refl
 carried_grows (e ∷ events) l = carried_grows events (line_after_event e l)
 
-pub indent_grows : (m : Movement) (amount : ℕ) (dedent : Bool) (l : Line) → (indent_line m amount dedent l).growth ≡ l.growth
-indent_grows m amount dedent l = carried_grows (indent_events m amount dedent l) l
+pub indent_grows : (m : Movement) (amount : ℕ) (dedent : Bool) (l : Line) → (indented_in m amount dedent l).line.growth ≡ l.growth
+indent_grows m amount dedent l = carried_grows (indented_in m amount dedent l).events l
 
-recase_grows : (action : WordAction) (o : Option (ℕ × ℕ)) (l : Line) → (recase_line action o l).growth ≡ l.growth
+recase_grows : (action : WordAction) (o : Option (ℕ × ℕ)) (l : Line) → (recase action o l).line.growth ≡ l.growth
 recase_grows action None l = refl
 recase_grows action (Some word) l = refl
 
-pub word_grows : (action : WordAction) (l : Line) → (edit_word_line action l).growth ≡ l.growth
+pub word_grows : (action : WordAction) (l : Line) → (recased_in action l).line.growth ≡ l.growth
 word_grows action l = recase_grows action (word_to_edit l) l
 
-pub chars_grow : (l : Line) → (transpose_chars_line l).growth ≡ l.growth
+pub chars_grow : (l : Line) → (transposed_in l).line.growth ≡ l.growth
 chars_grow l = either_line l.growth (transposes_chars l) _ _ refl refl
 
 between_grows : (n : ℕ) (l : Line) → (after_words 1 (first_word n l)).growth ≡ l.growth
 unfolding after_words before_words
 between_grows n l = refl
 
-pub words_grow : (n : ℕ) (l : Line) → (transpose_words_line n l).growth ≡ l.growth
+pub words_grow : (n : ℕ) (l : Line) → (exchanged_in n l).line.growth ≡ l.growth
 words_grow n l = either_line l.growth (transposes_words n l) _ _ refl (between_grows n l)
 
 pub over_grows : (c : ℕ) (o : Option ℕ) (w : Written) → (by (overwrite_steps_to c o) w).line.growth ≡ w.line.growth

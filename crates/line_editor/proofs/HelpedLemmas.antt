@@ -1,6 +1,7 @@
 -- What a state makes of asking its helper.
 use Rattle.std.proofs.Common.{◌≡◌, ◌⊎◌, inl, inr, ℕ, Bool, true, false, true≢false, List, [], refl, sym, ap, subst, ◌∙◌, if◌then◌else◌, ◌&&◌}
-use Rattle.std.specs.Prelude.{Option, Some, None, is_some, option_map, Result, Ok, Err, IsErrAnd, IsTrue}
+use Rattle.std.specs.Prelude.{Option, Some, None, is_some, option_map, Result, Ok, Err, IsErrAnd, IsTrue, unwrap_or}
+use Rattle.std.specs.Option.{option_map_or}
 use Rattle.std.specs.List.{FoldsTo}
 use Rattle.line_buffer.specs.Line.{Line}
 use Rattle.line_config.specs.declared.errors.ReadlineError.{ReadlineError}
@@ -14,9 +15,10 @@ use Rattle.line_help.specs.declared.helpers.hint as hints
 use Rattle.line_help.specs.declared.helpers.highlight as highlights
 use Rattle.line_help.specs.declared.helpers.validate as verdicts
 use Rattle.line_help.specs.declared.helpers.validate.ValidationResult.{ValidationResult}
+use Rattle.line_help.specs.declared.helpers.validate.ValidationResult.TheVariants.{Incomplete, Valid}
 use Rattle.line_help.specs.declared.history as histories
 use Rattle.line_keys.specs.declared.command.CmdKind.TheVariants.{Other}
-use Rattle.line_editor.specs.Accepting.{verdict, verdict_by, group_and_verdict_effect, verdict_effect, validate_by, validate}
+use Rattle.line_editor.specs.Accepting.{verdict, group_and_verdict_effect, verdict_effect, validate_by, validate}
 use Rattle.line_editor.specs.RenderCalls.{MadeIn}
 use Rattle.line_editor.specs.Drawing.{Since, draw_effect_since, repaint_effect, hint_asked, ask_anew_effect, redraw_of}
 use Rattle.line_editor.specs.Inserting.{way_if_bare, put_redraw, show_char_effect, show_inserted_effect}
@@ -80,7 +82,7 @@ some_mapped : {A B C : Type 0} (f : B → C) (g : A → B) (o : Option A) → is
 some_mapped f g None = refl
 some_mapped f g (Some x) = refl
 
-validated_by : (reply : Option (Reply ValidationResult)) (s : Setting) (v : Value) → is_some reply ≡ true → then_do group_and_verdict_effect (verdict_effect (verdict_by reply)) s v ≡ validate_by reply s v
+validated_by : (reply : Option (Reply ValidationResult)) (s : Setting) (v : Value) → is_some reply ≡ true → then_do group_and_verdict_effect (verdict_effect (option_map_or (λ r. unwrap_or r.answer Incomplete) reply (Valid None))) s v ≡ validate_by reply s v
 validated_by None s v some = absurd (true≢false (sym some))
 validated_by (Some reply) s v some = refl
 

@@ -7,8 +7,7 @@ use Rattle.std.proofs.lemmas.Bool.Decides.{nat_tests}
 use Rattle.std.proofs.lemmas.List.{drop_all, length-drop, length-take}
 use Rattle.std.proofs.lemmas.List.Folds.{list_all-append}
 use Rattle.std.proofs.lemmas.Str.{IsUtf8-from_ascii}
-use Rattle.line_buffer.specs.Clusters.{cluster_ends, nth_or_last}
-use Rattle.line_buffer.specs.Hits.{past_cluster}
+use Rattle.line_buffer.specs.Clusters.{cluster_ends, nth_or_last, place_forward}
 use Rattle.line_buffer.specs.Line.{Line, text_after}
 use Rattle.line_buffer.specs.Range.{IsSpanOf, up_to_cursor, from_cursor, around_cursor, to_row_end, from_row_start, search_range, range_of}
 use Rattle.line_buffer.specs.Rows.{behind_newlines, row_close, row_start, row_end}
@@ -100,7 +99,7 @@ module _ (l : Line) (far : length l.text < l.place) where
       by_tests false true = inr (omega (arith, far))
       by_tests false false = tt
 
-  past_far : length l.text ≤ past_cluster l
+  past_far : length l.text ≤ unwrap_or (place_forward 1 l) l.place
   past_far = by_found (nth_or_last 1 (cluster_ends (text_after l)))
     where
       by_found : (o : Option ℕ) → length l.text ≤ unwrap_or (option_map (λ e. l.place + e) o) l.place
@@ -108,8 +107,8 @@ module _ (l : Line) (far : length l.text < l.place) where
       by_found (Some e) = omega (arith, far)
 
   search_far : (n : ℕ) (to : CharSearch) → IsLow l (search_range to n l)
-  search_far n (Onto c) = behind_low l _ (λ i. past_cluster l + i) (λ i. from_cursor (i + length (encode_utf8 c)) l) (λ i. omega (arith, past_far))
-  search_far n (ForwardBefore c) = behind_low l _ (λ i. past_cluster l + i) (λ i. from_cursor i l) (λ i. omega (arith, past_far))
+  search_far n (Onto c) = behind_low l _ (λ i. unwrap_or (place_forward 1 l) l.place + i) (λ i. from_cursor (i + length (encode_utf8 c)) l) (λ i. omega (arith, past_far))
+  search_far n (ForwardBefore c) = behind_low l _ (λ i. unwrap_or (place_forward 1 l) l.place + i) (λ i. from_cursor i l) (λ i. omega (arith, past_far))
   search_far n (BackOnto c) = found_low l _ (λ i. up_to_cursor i l) (λ i. omega (arith, far))
   search_far n (BackwardAfter c) = found_low l _ (λ i. up_to_cursor (i + length (encode_utf8 c)) l) (λ i. omega (arith, far))
 

@@ -17,8 +17,9 @@ use Rattle.line_buffer.specs.Clusters.{place_forward}
 use Rattle.line_buffer.specs.Insertions.{no_insertion, has_room, with_text_at_cursor, insertion_by, insertion_of, without_before, insert as insertion, yank as yanked_in}
 use Rattle.line_buffer.specs.Line.{Line, without_range, with_text_at}
 use Rattle.line_buffer.specs.Range.{deletion_line, from_cursor}
-use Rattle.line_edits.specs.Edits.{overwrite_steps_to, clusters_after, replace_group, replace_group_if_any, by}
-use Rattle.line_edits.specs.WriteSteps.{with_answer, no_steps, effect_of_edit}
+use Rattle.line_edits.specs.Edits.{clusters_after, replace_group, replace_group_if_any, by}
+use Rattle.line_edits.proofs.StepLemmas.{overwrite_steps_to}
+use Rattle.line_edits.specs.WriteSteps.{with_answer, no_steps, effect_of_steps}
 use Rattle.line_edits.specs.Written.{Written}
 use Rattle.line_buffer.specs.Replay.{insertion as told_insertion}
 use Rattle.line_buffer.specs.Printable.{is_plain_byte, is_plain}
@@ -100,7 +101,7 @@ replaced_by c n (Some end) k l near low =
 pub replaced_begins : (c n k : ℕ) (w : Written) → k ≤ w.line.place → k ≤ length w.line.text → Begins k w.line.text (by (replace_group_if_any c n) w).line.text
 replaced_begins c n k w near low = by_test (is_some (place_forward n w.line))
   where
-    by_test : (b : Bool) → Begins k w.line.text (effect_of_edit (if b then with_answer true (replace_group c n w.line) else no_steps false) w).line.text
+    by_test : (b : Bool) → Begins k w.line.text (effect_of_steps (if b then with_answer true (replace_group c n w.line) else no_steps false).steps w).line.text
     by_test true = replaced_by c (clusters_after n w.line) (place_forward n w.line) k w.line near low
     by_test false = record { low = low; same = refl }
 

@@ -31,7 +31,7 @@ use Rattle.line_keys.specs.declared.command.CmdKind.{CmdKind}
 use Rattle.line_keys.specs.declared.command.CmdKind.TheVariants.{MoveCursor}
 use Rattle.line_record.specs.Held.{HeldItem}
 use Rattle.line_editor.specs.Characters.{stands_apart, begins_apart, begins_apart_at}
-use Rattle.line_editor.specs.Drawing.{Since, redraw_of, line_spans, kept_upto, may_begin_at, since, redraw_since, draw_effect_since, repaint_effect, ask_anew_effect, refresh_effect, refresh_effect_if, refresh_effect_since, refresh_effect_since_if, message_effect, cursor_moved, beep_effect, clear_and_draw_effect}
+use Rattle.line_editor.specs.Drawing.{Since, redraw_of, line_spans, kept_upto, may_begin_at, since, redraw_since, draw_effect_since, repaint_effect, ask_anew_effect, refresh_effect, refresh_effect_since, effect_if, message_effect, cursor_moved, beep_effect, clear_and_draw_effect}
 use Rattle.line_editor.specs.Inserting.{is_bare, has_printable_rest, may_be_typed, may_be_appended, may_be_put_in, insertion_way, way_if_bare, put_redraw, show_char_effect, show_inserted_effect, insert_char, insert_text}
 use Rattle.line_editor.specs.declared.way.Way.{Way}
 use Rattle.line_editor.specs.declared.way.Way.TheVariants.{AtEnd, Alone, Back, Inside, Whole}
@@ -42,7 +42,7 @@ use Rattle.line_editor.specs.RenderCalls.{Marks}
 use Rattle.line_editor.specs.Redraws.{Redraw, info_text}
 use Rattle.line_editor.specs.Redraws.Redraw.{Drawn, DrawnFrom, Moved, Typed, Appended, Taken, Erased, PutIn, TakenOut, Cleared}
 use Rattle.line_editor.specs.SharedStyles.{styles_to, told_styles}
-use Rattle.line_editor.specs.Sights.{PartSpans, drawn_spans, Sight, SameStyles, sight_as, sight, sight_all, Fits, FitsAll, Turns, info_one, info_after, sight_of}
+use Rattle.line_editor.specs.Sights.{PartSpans, drawn_spans, Sight, InPart, sight_as, sight, sight_all, Fits, FitsAll, Turns, info_one, info_after, sight_of}
 use Rattle.line_editor.specs.Values.{Value, Setting, EditStep, Effect, Transition, no_effect, then_do, hint_reply, help_steps, value_with_edit, edit_effect, at_line, with_mark, marks_seen, shown_marks, shown_hint, line_and_record_of}
 use Rattle.line_editor.specs.Values.EditStep.{Draws, Edits, TakesBack, Takes}
 use Rattle.line_editor.proofs.ApartLemmas.{apart_before}
@@ -118,13 +118,16 @@ same_prompt None marked told was_marked was_told prompt text other place at info
 same_prompt (Some m) marked told was_marked was_told prompt text other place at info gone = refl
 
 -- a bare value's spans are those of another
-pub bare_styles : (s : Setting) (v w : Value) (info : Option (List ℕ)) → is_bare v ≡ true → is_bare w ≡ true → SameStyles (sight_of s v info) (shown_marks w s.marks) s.prompt w.line.text w.line.place
+pub bare_styles : (s : Setting) (v w : Value) (info : Option (List ℕ)) → is_bare v ≡ true → is_bare w ≡ true → InPart s.prompt (sight_of s v info) (shown_marks w s.marks) s.prompt w.line.text w.line.place
 bare_styles s v w info a b =
     let first = and_parts (not (is_some v.hint)) (not v.marked) a in
     let later = and_parts (not (is_some w.hint)) (not w.marked) b in
     let before = not-true v.marked first.1 in
     let after = not-true w.marked later.1 in
     record {
+      given = refl;
+      own_is = refl;
+      prompt_is = refl;
       unstyled = ap (λ x. (drawn_spans (marks_seen x (not (is_some v.hint)) s.marks) true s.prompt v.line.text v.line.place (info_text info)).line) before
           ∙ unmarked_line s.marks (not (is_some v.hint)) s.prompt v.line.text v.line.place (info_text info);
       still = ap (λ x. (drawn_spans (marks_seen x (not (is_some w.hint)) s.marks) true s.prompt w.line.text w.line.place []).line) after
@@ -204,10 +207,10 @@ beep_leads s v w h info = record { fits = (tt, tt); leads = alike_sight s v w in
 pub clear_leads : (s : Setting) (v : Value) → Leads s v (clear_and_draw_effect s v)
 clear_leads s v = redrawn_leads Cleared v (hint_reply s v) s v (ask_anew_effect s v).value (λ y. tt)
 
-pub refresh_if_leads : {A : Type 0} (edit : Line → WriteSteps A) (s : Setting) (v : Value) (b : Bool) → (b ≡ false → (value_with_edit (by edit) v).line ≡ v.line) → Leads s v (then_do (edit_effect edit) (refresh_effect_if b) s v)
+pub refresh_if_leads : {A : Type 0} (edit : Line → WriteSteps A) (s : Setting) (v : Value) (b : Bool) → (b ≡ false → (value_with_edit (by edit) v).line ≡ v.line) → Leads s v (then_do (edit_effect edit) (effect_if b refresh_effect) s v)
 refresh_if_leads edit s v b h =
     let w = value_with_edit (by edit) v in
-    edit_leads (with_answer tt (edit v.line)) s v v (refresh_effect_if b s w) (either s v b (refresh_effect s w) (no_effect s w) (λ e. refresh_leads s v w) (λ e. rest_leads s v w (h e, refl, refl)))
+    edit_leads (with_answer tt (edit v.line)) s v v (effect_if b refresh_effect s w) (either s v b (refresh_effect s w) (no_effect s w) (λ e. refresh_leads s v w) (λ e. rest_leads s v w (h e, refl, refl)))
 
 -- drawn in full
 pub whole_leads : (s : Setting) (v w : Value) → Leads s v (record { value = w; steps = Draws w s.marks (redraw_of s w) ∷ [] })
@@ -300,11 +303,11 @@ redraw_since_leads edit from s v w stays =
 
 pub refresh_since_if_leads : {A : Type 0} (edit : Line → WriteSteps A) (s : Setting) (v : Value) (b : Bool)
     → (b ≡ false → (value_with_edit (by edit) v).line ≡ v.line) → (v.line.place ≤ length v.line.text → Begins v.line.place v.line.text (by edit (line_and_record_of v)).line.text)
-    → Leads s v (then_do (edit_effect edit) (refresh_effect_since_if (since s v.line.place v) b) s v)
+    → Leads s v (then_do (edit_effect edit) (effect_if b (refresh_effect_since (since s v.line.place v))) s v)
 refresh_since_if_leads edit s v b h stays =
     let w = value_with_edit (by edit) v in
     let from = since s v.line.place v in
-    edit_leads (with_answer tt (edit v.line)) s v v (refresh_effect_since_if from b s w)
+    edit_leads (with_answer tt (edit v.line)) s v v (effect_if b (refresh_effect_since from) s w)
     (either s v b (refresh_effect_since from s w) (no_effect s w) (λ e. refresh_since_leads v.line.place s v w stays) (λ e. rest_leads s v w (h e, refl, refl)))
 
 -- ---- the cursor
@@ -407,16 +410,13 @@ module _ (s : Setting) (c n : ℕ) (v w : Value) (put : (n == 1) ≡ true → w.
       record {
         fits = (
           (
-            refl,
-            refl,
+            bare_styles s v w info (and_parts (is_bare v) _ b.1).0 bare,
             refl,
             record {
               typed = typed_at_any (is_some s.tabs) c v.line.text v.line.place typed;
-              prompt_is = refl;
               text_is = text ∙ put_at_end v.line.text v.line.place (encode_utf8 c) end ∙ ap (λ x. v.line.text ++ x) one;
               behind = place ∙ ap (λ x. v.line.place + length x) one;
             },
-            bare_styles s v w info (and_parts (is_bare v) _ b.1).0 bare,
           ),
           tt,
         );
@@ -436,17 +436,14 @@ module _ (s : Setting) (c n : ℕ) (v w : Value) (put : (n == 1) ≡ true → w.
       record {
         fits = (
           (
-            refl,
-            refl,
+            bare_styles s v w info d.0 bare,
             refl,
             record {
               at = end;
               apart = e.1;
-              prompt_is = refl;
               text_is = new ∙ put_at_end text v.line.place (encode_utf8 c) end;
               behind = place ∙ ap (λ k. k + length (encode_utf8 c)) end ∙ sym (length-append text (encode_utf8 c));
             },
-            bare_styles s v w info d.0 bare,
           ),
           tt,
         );
@@ -471,8 +468,7 @@ module _ (s : Setting) (c n : ℕ) (v w : Value) (put : (n == 1) ≡ true → w.
       record {
         fits = (
           (
-            refl,
-            refl,
+            bare_styles s v w info d.0 bare,
             refl,
             record {
               before = take at text;
@@ -483,9 +479,7 @@ module _ (s : Setting) (c n : ℕ) (v w : Value) (put : (n == 1) ≡ true → w.
               behind = place ∙ ap (λ x. at + length x) one ∙ ap (λ n. n + 1) (sym size);
               plain = kept.0;
               printable = e.0;
-              prompt_is = refl;
             },
-            bare_styles s v w info d.0 bare,
           ),
           tt,
         );
@@ -569,17 +563,14 @@ module _ (s : Setting) (v w : Value) (from upto : ℕ) (text : w.line.text ≡ r
       record {
         fits = (
           (
-            refl,
-            refl,
+            bare_styles s v w info b.0 bare,
             record {
               killed = drop (length now) before;
               whole = whole;
               count_is = sym (length-drop (length now) before);
               end = stands;
               printable = b.1;
-              prompt_is = refl;
             },
-            bare_styles s v w info b.0 bare,
           ),
           tt,
         );
@@ -613,8 +604,7 @@ module _ (s : Setting) (v w : Value) (from upto : ℕ) (text : w.line.text ≡ r
       record {
         fits = (
           (
-            refl,
-            refl,
+            bare_styles s v w info d.0 bare,
             record {
               before = take from before;
               killed = killed;
@@ -627,9 +617,7 @@ module _ (s : Setting) (v w : Value) (from upto : ℕ) (text : w.line.text ≡ r
               at = at;
               plain = p.0;
               printable = ap (λ n. list_all is_printable (take n (drop from before))) many ∙ ap (λ n. list_all is_printable (take count (drop n before))) (sym place) ∙ p.1;
-              prompt_is = refl;
             },
-            bare_styles s v w info d.0 bare,
           ),
           tt,
         );
@@ -659,10 +647,8 @@ module _ (s : Setting) (v w : Value) (from upto : ℕ) (text : w.line.text ≡ r
       record {
         fits = (
           (
-            refl,
-            refl,
-            record { whole = whole ∙ ap (λ xs. now ++ xs) killed; apart = b.1; end = end; prompt_is = refl },
             bare_styles s v w info d.0 bare,
+            record { whole = whole ∙ ap (λ xs. now ++ xs) killed; apart = b.1; end = end },
           ),
           tt,
         );

@@ -5,22 +5,21 @@ use Rattle.line_keys.specs.CustomBindings.{Custom}
 use Rattle.script.specs.Scripts.{Ends, Asks, then}
 use Rattle.script.specs.Played.{play_after_answer}
 use Rattle.line_keys.specs.KeyFeeds.{item_at}
-use Rattle.line_keys.specs.NextPhrase.{phrase}
-use Rattle.line_keys.specs.PhraseScripts.{Answer, KeyScript, steps, answer_part, show_then, Needs, Shows, Reads, Becomes, Refuses, and_then}
+use Rattle.line_keys.specs.InputStates.{phrase}
+use Rattle.line_keys.specs.PhraseScripts.{Answer, KeyScript, steps, answer_part, show_then, Needs, Shows, Reads, Becomes, Refuses, and_then, own_by, Settles}
 use Rattle.line_keys.specs.Refreshing.{Ask}
 use Rattle.line_keys.specs.Refreshing.Ask.{Line, Message, Prompted, DoingInsert, DoneInserting}
-use Rattle.line_keys.specs.Settled.{own_by, Settles}
 use Rattle.line_keys.specs.declared.command.Cmd.{Cmd}
 use Rattle.line_keys.specs.declared.command.Cmd.TheVariants.{Interrupt, Unknown}
 use Rattle.line_keys.proofs.Settling.{phrase_settles, then_settles}
 use Rattle.line_editor.specs.Accepting.{submit_effect}
 use Rattle.line_editor.specs.Asks.{shown_in, ask_effect}
-use Rattle.line_editor.specs.Commands.{Means, effect, outcome}
+use Rattle.line_editor.specs.Commands.{Means, means_of, effect, outcome}
 use Rattle.line_editor.specs.Leads.{Leads, CommandLeads, EachTurnLeads, LeadsAlong, LinesLead}
-use Rattle.line_editor.specs.NextCommand.{begins_group, with_group_begun, line_phrase}
-use Rattle.line_editor.specs.LineScripts.{line_begun, LineAsk, LineScript, Keys, Meets, Obeys, Makes, LineState, line_state, script_of_keys, obey_script, meet_script, turn_script, line_script_after, turns_script, line_script, means_at, effect_at, answer_at, left_at, line_plan, steps_along, played_from}
+use Rattle.line_editor.specs.NextCommand.{begins_group, with_group_begun, line_phrase, ring_after_reset}
+use Rattle.line_editor.specs.LineScripts.{line_begun, LineAsk, LineScript, Keys, Meets, Obeys, Makes, LineState, line_state, script_of_keys, obey_script, meet_script, turn_script, line_script_after, turns_script, line_script, effect_at, answer_at, left_at, line_plan, steps_along, played_from}
 use Rattle.line_editor.specs.ModalCommands.{meeting, modal_seen}
-use Rattle.line_editor.specs.Modal.{Modal, Meeting, modal_first, shows_own}
+use Rattle.line_editor.specs.Modal.{Modal, Meeting, modal_first}
 use Rattle.line_editor.specs.Sights.{Sight, no_sight, sight_with, sight_of, sight, sight_all, FitsAll, info_after}
 use Rattle.line_editor.specs.Values.{Value, Setting, EditStep, Effect, first_value, shown_marks, memory_effect}
 use Rattle.line_editor.specs.declared.commands.Status.{Status}
@@ -28,7 +27,7 @@ use Rattle.line_editor.specs.declared.commands.Status.TheVariants.{Proceed, Subm
 use Rattle.line_editor.proofs.CommandsLead.{asks_lead, commands_lead, submitting_leads}
 use Rattle.line_editor.proofs.ToldLemmas.{PlayedOf, played_each, joined_on, follows, played_then}
 use Rattle.line_editor.proofs.LeadLemmas.{fits_both, sight_both, info_both}
-use Rattle.line_editor.proofs.MeetLeads.{hint_stands, seen_resting, seen_info, first_seen, meeting_leads}
+use Rattle.line_editor.proofs.MeetLeads.{shows_own, hint_stands, seen_resting, seen_info, first_seen, meeting_leads}
 
 -- ---- a phrase
 
@@ -46,7 +45,7 @@ ask_fits DoingInsert s v x = (tt, tt)
 ask_fits DoneInserting s v x = tt
 
 ask_leads : (ask : Ask) (s : Setting) (v : Value) (info : Option (List ℕ)) (own : Bool) (x : Sight) → Behind s v info own x
-    → (let e = ask_effect ask s v in Behind s e.value (info_after e.steps info) (own_by own ask) (sight_all x e.steps))
+    → (let e = ask_effect ask s v in Behind s e.value (info_after e.steps info) (own_by own (Shows ask)) (sight_all x e.steps))
 ask_leads Line s v info own x h = record {
   prompt = s.prompt;
   is = (asks_lead Line s v x).leads ∙ ap (sight_of s (ask_effect Line s v).value) (sym (hint_stands s v true s.prompt info));
@@ -107,7 +106,7 @@ module _ (s : Setting) where
 
   command_leads : (cmd : Cmd) (k : LineState) (info : Option (List ℕ)) → shows_own k.modal.standing ≡ true → PlayLeads info (sight_of s k.value info) k (played_from s (obey_script cmd) k)
   command_leads cmd k info rests =
-      let m = means_at s k cmd in
+      let m = means_of k.input (ring_after_reset cmd k.ring) in
       let v = k.value in
       let e = effect m cmd s v in
       let made = commands_lead m cmd s v in
@@ -117,7 +116,7 @@ module _ (s : Setting) where
         closes = λ is. rests;
       }))
     where
-      by : (q : Result Status ReadlineError) → (let e = effect (means_at s k cmd) cmd s k.value in LeadOn s info (sight_of s k.value info) q k.modal (record { value = e.value; steps = e.steps ++ [] }))
+      by : (q : Result Status ReadlineError) → (let e = effect (means_of k.input (ring_after_reset cmd k.ring)) cmd s k.value in LeadOn s info (sight_of s k.value info) q k.modal (record { value = e.value; steps = e.steps ++ [] }))
           → PlayLeads info (sight_of s k.value info) k (play_after_answer (on_command k cmd) (Obeys cmd) (left_at s k (Obeys cmd)) q)
       by (Ok status) h = record { fits = h.fits; leads = h.leads; closes = h.closes }
       by (Err e) h = record { fits = h.fits; leads = h.leads; closes = h.closes }
@@ -158,7 +157,7 @@ module _ (s : Setting) where
       let left = record k { value = e.value } in
       let p = played_from s (spoken (later shown)) left in
       lead_behind s info x e.steps p.answer p.rest.modal (made_of_play left p) (ask_fits ask s k.value x)
-      (phrase_leads (own_by own ask) (later shown) left (info_after e.steps info) (sight_all x e.steps) (λ rests. settles rests shown) (λ rests. ask_leads ask s k.value info own x (h rests)))
+      (phrase_leads (own_by own (Shows ask)) (later shown) left (info_after e.steps info) (sight_all x e.steps) (λ rests. settles rests shown) (λ rests. ask_leads ask s k.value info own x (h rests)))
   phrase_leads own (Asks (Reads item) later) k info x settles h =
       let left = left_at s k (Keys (Reads item)) in
       played_each (PlayLeads info x k) (λ y. played_from s (spoken (later y)) left) (Keys (Reads item)) left

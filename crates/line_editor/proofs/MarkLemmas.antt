@@ -12,7 +12,7 @@ use Rattle.line_keys.specs.declared.command.CmdKind.{CmdKind}
 use Rattle.line_keys.specs.declared.command.CmdKind.TheVariants.{ForcedRefresh}
 use Rattle.line_buffer.specs.Line.{Line, with_cursor_at}
 use Rattle.line_record.specs.Items.{record_on}
-use Rattle.line_editor.specs.Accepting.{bare, bare_value}
+use Rattle.line_editor.specs.Accepting.{bare}
 use Rattle.line_editor.specs.Moving.{cursor_moved_if, cursor_follows}
 use Rattle.line_editor.specs.Drawing.{draw_effect_with, cursor_moved}
 use Rattle.line_editor.specs.Redraws.Redraw.{Drawn, Moved, Bared}
@@ -68,9 +68,9 @@ module _ {Out H Hi K T : Type 0} {renderer : renderers.Renderer.Ghosts Out} {com
 
   -- a line that is to be accepted: drawn, or left as it is
   bare_if : (s m : State Out H Hi K T renderer completer candidate hinter hint highlighter validator history) (b : Bool) → value_of m ≡ with_mark ForcedRefresh (setting_of s) (without_hint (value_of s)) → (is_some (value_of s).hint || (s.highlight_char || m.highlight_char)) ≡ b
-      → (let w = bare_value (value_of s) (setting_of s) in draw_effect (if b then Drawn s.prompt.now true w.line.text w.line.place None else Bared s.prompt.now w.line.text w.line.place) (setting_of s) w ≡ bare (setting_of s) (value_of s))
+      → (let w = with_mark ForcedRefresh (setting_of s) (without_hint (value_of s)) in draw_effect (if b then Drawn s.prompt.now true w.line.text w.line.place None else Bared s.prompt.now w.line.text w.line.place) (setting_of s) w ≡ bare (setting_of s) (value_of s))
   bare_if s m b value is =
-      let w = bare_value (value_of s) (setting_of s) in
+      let w = with_mark ForcedRefresh (setting_of s) (without_hint (value_of s)) in
       let cond : (is_some (value_of s).hint || (s.highlight_char || w.marked)) ≡ b = ap (λ x. is_some (value_of s).hint || (s.highlight_char || x)) (sym (ap (λ (v : Value). v.marked) value)) ∙ is in
       ap (λ x. draw_effect (if x then Drawn s.prompt.now true w.line.text w.line.place None else Bared s.prompt.now w.line.text w.line.place) (setting_of s) w) (sym cond)
 

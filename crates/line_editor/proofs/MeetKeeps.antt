@@ -1,28 +1,28 @@
 -- What the edits of a search and of candidates keep is kept by whatever they make of a command.
-use Rattle.std.proofs.Common.{◌≡◌, ℕ, ◌-◌, ◌≤◌, ◌==◌, ◌&&◌, not, map, Bool, true, false, List, length, Option, Some, None, slice_get, refl, if◌then◌else◌}
-use Rattle.std.specs.Prelude.{nat_le}
+use Rattle.std.proofs.Common.{◌≡◌, ℕ, ◌-◌, ◌≤◌, ◌==◌, ◌&&◌, not, map, Bool, true, false, List, length, Option, Some, None, slice_get, is_some, refl, if◌then◌else◌}
+use Rattle.std.specs.Prelude.{nat_le, option_and_then}
 use Rattle.std.proofs.lemmas.Bool.{leb-true}
 use Rattle.line_buffer.specs.Insertions.{is_inside_char}
 use Rattle.line_buffer.specs.Line.{Line}
 use Rattle.line_config.specs.declared.settings.CompletionType.{CompletionType}
 use Rattle.line_config.specs.declared.settings.CompletionType.TheVariants as completion_type
 use Rattle.line_edits.specs.Edits.{update_group}
-use Rattle.line_help.specs.Completion.{Completion}
+use Rattle.line_help.specs.Completion.{Offered, Completion, unless_empty}
 use Rattle.line_help.specs.Search.{Hit}
 use Rattle.line_help.specs.declared.history.search.SearchDirection.{SearchDirection}
 use Rattle.line_help.specs.declared.history.search.SearchDirection.TheVariants.{Forward, Reverse}
-use Rattle.line_keys.specs.Replies.{Reply}
 use Rattle.line_keys.specs.declared.command.Cmd.{Cmd}
+use Rattle.line_keys.specs.declared.command.Cmd.TheVariants.{EndOfHistory, HistorySearchBackward, HistorySearchForward}
 use Rattle.line_record.specs.Held.{HeldItem}
-use Rattle.line_editor.specs.Candidates.{only_text, text_at, list_effect_with, candidate_at, turn_effect_with, several, offer_effect_if, is_ambiguous, tab_by, cycle_at, cycle_by}
-use Rattle.line_editor.specs.Completing.{begins_word, common_text_among, common_text, word_updated, complete_effect_with, candidates_given, complete_if}
-use Rattle.line_editor.specs.Drawing.{refresh_effect}
-use Rattle.line_editor.specs.History.{value_on_leaving}
+use Rattle.line_editor.specs.Candidates.{only_text, only_completed, list_effect_with, candidate_at, turn_effect_with, several, is_ambiguous, modal_after_offer, tab_effect, cycle_at, cycle_back, cycle_effect, modal_after_ask}
+use Rattle.line_editor.specs.Completing.{begins_word, common_text_among, common_text, word_updated, complete_effect_with, complete_effect, candidates_given, candidates_asked}
+use Rattle.line_editor.specs.Drawing.{refresh_effect, beep_effect, effect_if}
+use Rattle.line_editor.specs.History.{value_on_leaving, leave_effect}
 use Rattle.line_editor.specs.ModalCommands.{meeting_effect, meeting_at_rest, meeting_in_prefixes, meeting_after_tab, meeting_anew, meeting_in_list, meeting_in_cycle, meeting_in, meeting_in_search}
-use Rattle.line_editor.specs.Modal.{Modal, modal_at_rest, wish_of}
-use Rattle.line_editor.specs.Prefixes.{is_prefix, is_own, earlier, later, rise_meeting, rises_if, fall_meeting}
+use Rattle.line_editor.specs.Modal.{Modal, modal_at_rest, pass_meeting, takes, goes, wish_of}
+use Rattle.line_editor.specs.Prefixes.{is_prefix, is_own, earlier, later, rises_if}
 use Rattle.line_editor.specs.Searching.{modal_after_erase, looks_again, modal_with_char, search_for, onward, hit_undo_effect, put_hit_effect, is_place, place_effect, give_up_effect, search_start_if, hit_again, search_again_meeting, act_of}
-use Rattle.line_editor.specs.Values.{Value, Setting, Saved, then_do, completion_reply, edit_effect, at_line, close_groups}
+use Rattle.line_editor.specs.Values.{Value, Setting, Saved, no_effect, then_do, completion_reply, edit_effect, at_line, close_groups}
 use Rattle.line_editor.specs.declared.modal_state.Act.{Act}
 use Rattle.line_editor.specs.declared.modal_state.Act.TheVariants.{Types, Erases, Goes, Leaves, Ends}
 use Rattle.line_editor.specs.declared.modal_state.Standing.{Standing}
@@ -89,17 +89,17 @@ module _ (fact : Fact) (s : Setting) (k : KeptByEdits fact s) where
 
   -- ---- entries that begin with the line
 
-  risen : (hit : Option Hit) (q : Modal) (v : Value) → Holds fact v → Holds fact (rise_meeting hit q s v).effect.value
-  risen None q v h = h
-  risen (Some hit) q v h = k.left v h
+  risen : (some : Bool) (q : Modal) (v : Value) → Holds fact v → Holds fact (if some then goes leave_effect (record q { standing = Prefixes }) HistorySearchBackward s v else takes beep_effect q s v).effect.value
+  risen false q v h = h
+  risen true q v h = k.left v h
 
   rises : (own : Bool) (q : Modal) (cmd : Cmd) (v : Value) → Holds fact v → Holds fact (rises_if own q cmd s v).effect.value
-  rises true q cmd v h = risen (earlier s v) q v h
+  rises true q cmd v h = risen (is_some (earlier s v)) q v h
   rises false q cmd v h = h
 
-  fallen : (hit : Option Hit) (q : Modal) (v : Value) → Holds fact v → Holds fact (fall_meeting hit q s v).effect.value
-  fallen None q v h = h
-  fallen (Some hit) q v h = h
+  fallen : (some : Bool) (q : Modal) (v : Value) → Holds fact v → Holds fact (if some then goes no_effect q HistorySearchForward s v else goes no_effect (modal_at_rest q) EndOfHistory s v).effect.value
+  fallen false q v h = h
+  fallen true q v h = h
 
   -- ---- candidates
 
@@ -111,10 +111,10 @@ module _ (fact : Fact) (s : Setting) (k : KeptByEdits fact s) where
   word_completed o found v h =
       completed found.start (if begins_word found.start v.line then o else None) v (λ text is. begun_before found.start v.line (not (is_inside_char v.line.text found.start)) o text is) h
 
-  pub complete_keeps : (reply : Option (Reply Completion)) (v : Value) → Holds fact v → Holds fact (complete_if reply s v).value
-  complete_keeps None v h = h
-  complete_keeps (Some reply) v h =
-      let found = candidates_given (Some reply) in
+  pub complete_keeps : (some : Bool) (v : Value) → Holds fact v → Holds fact (effect_if some (then_do candidates_asked (complete_effect (candidates_given (completion_reply s v)))) s v).value
+  complete_keeps false v h = h
+  complete_keeps true v h =
+      let found = candidates_given (completion_reply s v) in
       word_completed (common_text_among (v.line.place - found.start) (map (λ o. o.replacement) found.candidates)) found v h
 
   turned_if : (start : ℕ) (o : Option (List ℕ)) (v : Value) → ((text : List ℕ) → o ≡ Some text → start ≤ v.line.place) → Holds fact v → Holds fact (turn_effect_with start o s v).value
@@ -123,7 +123,7 @@ module _ (fact : Fact) (s : Setting) (k : KeptByEdits fact s) where
 
   turned : (at : ℕ) (found : Completion) (v : Value) → Holds fact v → Holds fact (turn_effect_with found.start (candidate_at at found v.line) s v).value
   turned at found v h =
-      turned_if found.start (candidate_at at found v.line) v (λ text is. begun_before found.start v.line (not (is_inside_char v.line.text found.start)) (text_at (slice_get found.candidates at)) text is) h
+      turned_if found.start (candidate_at at found v.line) v (λ text is. begun_before found.start v.line (not (is_inside_char v.line.text found.start)) (option_and_then (λ (p : Offered). unless_empty p.replacement) (slice_get found.candidates at)) text is) h
 
   listed : (lists : Bool) (o : Option (List ℕ)) (limit : ℕ) (found : Completion) (v : Value) → Holds fact v → Holds fact (complete_effect_with found.start o s v).value → Holds fact (list_effect_with lists limit found o s v).value
   listed true (Some text) limit found v h done = done
@@ -136,17 +136,19 @@ module _ (fact : Fact) (s : Setting) (k : KeptByEdits fact s) where
   several_offered completion_type.List lists q found v h =
       listed lists (common_text found v.line) q.limit found v h (word_completed (common_text_among (v.line.place - found.start) (map (λ o. o.replacement) found.candidates)) found v h)
 
-  offered : (ambiguous lists : Bool) (q : Modal) (found : Completion) (v : Value) → Holds fact v → Holds fact (offer_effect_if ambiguous lists q found s v).value
+  offered : (ambiguous lists : Bool) (q : Modal) (found : Completion) (v : Value) → Holds fact v → Holds fact (if ambiguous then several q.completion_type lists q found s v else only_completed found s v).value
   offered false lists q found v h = word_completed (only_text found.candidates) found v h
   offered true lists q found v h = several_offered q.completion_type lists q found v h
 
-  tabbed : (reply : Option (Reply Completion)) (lists : Bool) (q : Modal) (cmd : Cmd) (v : Value) → Holds fact v → Holds fact (tab_by reply lists q cmd s v).effect.value
-  tabbed None lists q cmd v h = h
-  tabbed (Some reply) lists q cmd v h = let found = candidates_given (Some reply) in offered (is_ambiguous found v.line) lists q found v h
+  tabbed : (some lists : Bool) (q : Modal) (cmd : Cmd) (v : Value) → Holds fact v → (let found = candidates_given (completion_reply s v) in
+      Holds fact (if some then takes (tab_effect lists q found) (modal_after_offer lists found v.line q) s v else pass_meeting q cmd v).effect.value)
+  tabbed false lists q cmd v h = h
+  tabbed true lists q cmd v h = let found = candidates_given (completion_reply s v) in offered (is_ambiguous found v.line) lists q found v h
 
-  cycled : (reply : Option (Reply Completion)) (dir : SearchDirection) (q : Modal) (cmd : Cmd) (v : Value) → Holds fact v → Holds fact (cycle_by reply dir q cmd s v).effect.value
-  cycled None dir q cmd v h = h
-  cycled (Some reply) dir q cmd v h =
+  cycled : (some : Bool) (dir : SearchDirection) (q : Modal) (cmd : Cmd) (v : Value) → Holds fact v
+      → Holds fact (if some then takes (cycle_effect dir q) (modal_after_ask dir q s (cycle_back q s v).value) s v else pass_meeting q cmd v).effect.value
+  cycled false dir q cmd v h = h
+  cycled true dir q cmd v h =
       let w = (then_do (hit_undo_effect q.put) (place_effect q.place) s v).value in
       let found = candidates_given (completion_reply s w) in
       turned (cycle_at dir q.candidate (length found.candidates)) found w (placed q.put q.place v h)
@@ -156,29 +158,29 @@ module _ (fact : Fact) (s : Setting) (k : KeptByEdits fact s) where
   at_rest : (wish : Wish) (q : Modal) (cmd : Cmd) (v : Value) → Holds fact v → Holds fact (meeting_at_rest wish q cmd s v).effect.value
   at_rest (Search dir) q cmd v h = begun (length s.entries == 0) dir q cmd v h
   at_rest Up q cmd v h = rises (is_own s v && is_prefix v.line) q cmd v h
-  at_rest Tab q cmd v h = tabbed (completion_reply s v) q.lists_at_once q cmd v h
+  at_rest Tab q cmd v h = tabbed (is_some s.hooks) q.lists_at_once q cmd v h
   at_rest (Again way) q cmd v h = found_again (hit_again way q s v) q v h
   at_rest wish q cmd v h = h
 
   in_prefixes : (wish : Wish) (q : Modal) (cmd : Cmd) (v : Value) → Holds fact v → Holds fact (meeting_in_prefixes wish q cmd s v).effect.value
-  in_prefixes Up q cmd v h = risen (earlier s v) q v h
-  in_prefixes Down q cmd v h = fallen (later s v) q v h
+  in_prefixes Up q cmd v h = risen (is_some (earlier s v)) q v h
+  in_prefixes Down q cmd v h = fallen (is_some (later s v)) q v h
   in_prefixes wish q cmd v h = at_rest wish (modal_at_rest q) cmd v h
 
   after_tab : (wish : Wish) (q : Modal) (cmd : Cmd) (v : Value) → Holds fact v → Holds fact (meeting_after_tab wish q cmd s v).effect.value
-  after_tab Tab q cmd v h = tabbed (completion_reply s v) true q cmd v h
+  after_tab Tab q cmd v h = tabbed (is_some s.hooks) true q cmd v h
   after_tab wish q cmd v h = at_rest wish (modal_at_rest q) cmd v h
 
   anew : (wish : Wish) (q : Modal) (cmd : Cmd) (v : Value) → Holds fact v → Holds fact (meeting_anew wish q cmd s v).effect.value
   anew wish q cmd v h = at_rest wish (modal_at_rest q) cmd (refresh_effect s v).value h
 
   in_list : (wish : Wish) (q : Modal) (cmd : Cmd) (v : Value) → Holds fact v → Holds fact (meeting_in_list wish q cmd s v).effect.value
-  in_list Tab q cmd v h = tabbed (completion_reply s v) true q cmd v h
+  in_list Tab q cmd v h = tabbed (is_some s.hooks) true q cmd v h
   in_list wish q cmd v h = anew wish q cmd v h
 
   in_cycle : (wish : Wish) (q : Modal) (cmd : Cmd) (v : Value) → Holds fact v → Holds fact (meeting_in_cycle wish q cmd s v).effect.value
-  in_cycle Tab q cmd v h = cycled (completion_reply s v) Forward q cmd v h
-  in_cycle TabBack q cmd v h = cycled (completion_reply s v) Reverse q cmd v h
+  in_cycle Tab q cmd v h = cycled (is_some s.hooks) Forward q cmd v h
+  in_cycle TabBack q cmd v h = cycled (is_some s.hooks) Reverse q cmd v h
   in_cycle Leave q cmd v h = given_up q v h
   in_cycle wish q cmd v h = at_rest wish (modal_at_rest q) cmd v h
 

@@ -1,6 +1,6 @@
 -- What a search makes of a command leads to what is to be seen of the line then.
 use Rattle.std.specs.Prelude.{⊤}
-use Rattle.std.proofs.Common.{◌≡◌, ◌⊎◌, inl, inr, ℕ, ◌==◌, ◌&&◌, Bool, true, false, List, [], ◌∷◌, ◌++◌, length, Option, None, Some, refl, sym, ap, ◌∙◌, subst, if◌then◌else◌}
+use Rattle.std.proofs.Common.{◌≡◌, ◌⊎◌, inl, inr, ℕ, ◌==◌, ◌&&◌, Bool, true, false, List, [], ◌∷◌, ◌++◌, length, Option, None, Some, is_some, refl, sym, ap, ◌∙◌, subst, if◌then◌else◌}
 use Rattle.line_config.specs.declared.config.Config.{Config}
 use Rattle.line_config.specs.declared.settings.CompletionType.{CompletionType}
 use Rattle.line_config.specs.declared.settings.CompletionType.TheVariants as completion_type
@@ -12,18 +12,18 @@ use Rattle.line_keys.specs.Refreshing.Ask.{Line, Prompted}
 use Rattle.line_keys.specs.Replies.{Reply}
 use Rattle.line_keys.specs.declared.command.Cmd.{Cmd}
 use Rattle.line_keys.specs.declared.command.Cmd.TheVariants.{EndOfHistory, HistorySearchBackward, HistorySearchForward, Unknown}
-use Rattle.line_editor.specs.Candidates.{only_put, list_effect_with, list_standing, candidate_at, turn_effect_with, cycle_begun, cycle_first, cycle_back, cycle_at, cycle_effect, ask_and_turn_effect, modal_after_ask, several, several_modal, offer_effect, modal_after_offer, offer_effect_if, modal_after_offer_if, is_ambiguous, tab_by, cycle_by}
+use Rattle.line_editor.specs.Candidates.{only_put, only_completed, list_effect_with, list_standing, candidate_at, turn_effect_with, cycle_begun, cycle_first, cycle_back, cycle_at, cycle_effect, ask_and_turn_effect, modal_after_ask, several, several_modal, offer_effect, modal_after_offer, tab_effect, is_ambiguous}
 use Rattle.line_editor.specs.Completing.{common_text, updates, word_updated, word_completed, complete_effect_with, candidates_given}
 use Rattle.line_edits.specs.Edits.{update_group}
 use Rattle.line_editor.specs.Drawing.{draw_effect_behind, ask_anew_effect, refresh_effect, refresh_effect_behind, beep_effect}
-use Rattle.line_editor.specs.Leads.{redraws_of}
+use Rattle.line_editor.specs.Redraws.{Redraw}
 use Rattle.line_editor.specs.ModalCommands.{meeting_at_rest, meeting_in_prefixes, meeting_after_tab, meeting_anew, meeting_in_list, meeting_in_cycle, meeting_in, sight_in_mode, modal_seen, meeting_in_search}
-use Rattle.line_editor.specs.Modal.{Modal, Meeting, modal_first, first_standing, modal_at_rest, shows_own, takes, wish_of}
-use Rattle.line_editor.specs.Prefixes.{is_prefix, is_own, earlier, later, rise_meeting, rises_if, fall_meeting}
-use Rattle.line_editor.specs.History.{with_saved_line}
+use Rattle.line_editor.specs.Modal.{Modal, Meeting, modal_first, first_standing, modal_at_rest, pass_meeting, takes, goes, wish_of}
+use Rattle.line_editor.specs.Prefixes.{is_prefix, is_own, earlier, later, rises_if}
+use Rattle.line_editor.specs.History.{with_saved_line, leave_effect}
 use Rattle.line_editor.specs.Searching.{search_prompt, modal_with_query, modal_after_erase, search_for, modal_after_look, onward, hit_undo_effect, put_hit_effect, search_drawn, modal_with_char, looks, looks_typed, looks_again, modal_with_empty_query, empty_query_effect, place_effect, modal_at_search_start, begin_search, search_start_if, hit_again, search_again_meeting, act_of}
 use Rattle.line_editor.specs.Sights.{Sight, sight_with, sight_of, sight_all, FitsAll, info_after}
-use Rattle.line_editor.specs.Values.{Value, Setting, EditStep, then_do, hint_reply, help_steps, shown_hint, shown_marks, completion_reply, update_reply, edit_effect, close_groups}
+use Rattle.line_editor.specs.Values.{Value, Setting, EditStep, no_effect, then_do, hint_reply, help_steps, shown_hint, shown_marks, completion_reply, update_reply, edit_effect, close_groups}
 use Rattle.line_editor.specs.Values.EditStep.{Draws, Edits, TakesBack, Takes}
 use Rattle.line_editor.specs.declared.modal_state.Act.{Act}
 use Rattle.line_editor.specs.declared.modal_state.Act.TheVariants.{Types, Erases, Goes, Leaves, Ends}
@@ -42,6 +42,11 @@ hint_stands s v given prompt info =
     help_info v (hint_reply s v) (draw_effect_behind prompt given s w).steps info
 
 -- ---- what is to be seen if none stands
+
+-- the session's own prompt is before the line
+abbrev pub shows_own : Standing → Bool
+shows_own Searches = false
+shows_own standing = true
 
 pub seen_resting : (at : Standing) (x : Modal) (s : Setting) (v : Value) (info : Option (List ℕ)) → shows_own at ≡ true → sight_in_mode at x s v info ≡ sight_of s v info
 seen_resting Searches x s v info h = cc
@@ -65,6 +70,12 @@ record Drawn (own : List ℕ) (info : Option (List ℕ)) (x : Sight) (steps : Li
   fits : FitsAll own x steps
   leads : sight_all x steps ≡ y
   info_is : info_after steps info ≡ shown
+
+-- the drawings among steps
+abbrev redraws_of : List EditStep → List Redraw
+redraws_of [] = []
+redraws_of (Draws v marks x ∷ more) = x ∷ redraws_of more
+redraws_of (step ∷ more) = redraws_of more
 
 after_step : (step : EditStep) (own : List ℕ) (info : Option (List ℕ)) (x : Sight) (steps : List EditStep) (y : Sight) (shown : Option (List ℕ)) → redraws_of (step ∷ []) ≡ []
     → Drawn own info x steps y shown → Drawn own info x (step ∷ steps) y shown
@@ -185,17 +196,17 @@ beeped_met q s v info x own from = record { fits = (tt, tt); leads = from ∙ sy
 
 -- ---- entries that begin with the line
 
-risen_met : (hit : Option Hit) (q : Modal) (s : Setting) (v : Value) (info : Option (List ℕ)) (x : Sight) → shows_own q.standing ≡ true → x ≡ sight_of s v info → Met s info x (rise_meeting hit q s v)
-risen_met None q s v info x own from = beeped_met q s v info x own from
-risen_met (Some hit) q s v info x own from = saved_met (v.history == length s.entries) (record q { standing = Prefixes }) HistorySearchBackward s v info x refl from
+risen_met : (some : Bool) (q : Modal) (s : Setting) (v : Value) (info : Option (List ℕ)) (x : Sight) → shows_own q.standing ≡ true → x ≡ sight_of s v info → Met s info x (if some then goes leave_effect (record q { standing = Prefixes }) HistorySearchBackward s v else takes beep_effect q s v)
+risen_met false q s v info x own from = beeped_met q s v info x own from
+risen_met true q s v info x own from = saved_met (v.history == length s.entries) (record q { standing = Prefixes }) HistorySearchBackward s v info x refl from
 
 rises_met : (own : Bool) (q : Modal) (cmd : Cmd) (s : Setting) (v : Value) (info : Option (List ℕ)) (x : Sight) → shows_own q.standing ≡ true → x ≡ sight_of s v info → Met s info x (rises_if own q cmd s v)
-rises_met true q cmd s v info x own from = risen_met (earlier s v) q s v info x own from
+rises_met true q cmd s v info x own from = risen_met (is_some (earlier s v)) q s v info x own from
 rises_met false q cmd s v info x own from = passes_met q cmd s v info x own from
 
-fallen_met : (hit : Option Hit) (q : Modal) (s : Setting) (v : Value) (info : Option (List ℕ)) (x : Sight) → shows_own q.standing ≡ true → x ≡ sight_of s v info → Met s info x (fall_meeting hit q s v)
-fallen_met None q s v info x own from = passes_met (modal_at_rest q) EndOfHistory s v info x refl from
-fallen_met (Some hit) q s v info x own from = passes_met q HistorySearchForward s v info x own from
+fallen_met : (some : Bool) (q : Modal) (s : Setting) (v : Value) (info : Option (List ℕ)) (x : Sight) → shows_own q.standing ≡ true → x ≡ sight_of s v info → Met s info x (if some then goes no_effect q HistorySearchForward s v else goes no_effect (modal_at_rest q) EndOfHistory s v)
+fallen_met false q s v info x own from = passes_met (modal_at_rest q) EndOfHistory s v info x refl from
+fallen_met true q s v info x own from = passes_met q HistorySearchForward s v info x own from
 
 -- ---- candidates
 
@@ -273,15 +284,16 @@ several_met completion_type.Circular lists found q s v info x from =
 several_met completion_type.List lists found q s v info x from = listed_met lists (common_text found v.line) found q s v info x from
 
 offered_met : (ambiguous lists : Bool) (found : Completion) (q : Modal) (s : Setting) (v : Value) (info : Option (List ℕ)) (x : Sight) → x ≡ sight_of s v info
-    → Met s info x (takes (offer_effect_if ambiguous lists q found) (modal_after_offer_if ambiguous lists found v.line q) s v)
+    → Met s info x (takes (λ a w. if ambiguous then several q.completion_type lists q found a w else only_completed found a w)
+    (if ambiguous then several_modal q.completion_type lists found v.line q else modal_at_rest q) s v)
 offered_met false lists found q s v info x from = only_met found.start (only_put found v.line) (modal_at_rest q) s v info x refl from
 offered_met true lists found q s v info x from = several_met q.completion_type lists found q s v info x from
 
-tab_met : (reply : Option (Reply Completion)) (lists : Bool) (q : Modal) (cmd : Cmd) (s : Setting) (v : Value) (info : Option (List ℕ)) (x : Sight) → shows_own q.standing ≡ true → x ≡ sight_of s v info
-    → Met s info x (tab_by reply lists q cmd s v)
-tab_met None lists q cmd s v info x own from = passes_met q cmd s v info x own from
-tab_met (Some reply) lists q cmd s v info x own from =
-    let found = candidates_given (Some reply) in
+tab_met : (some lists : Bool) (q : Modal) (cmd : Cmd) (s : Setting) (v : Value) (info : Option (List ℕ)) (x : Sight) → shows_own q.standing ≡ true → x ≡ sight_of s v info
+    → (let found = candidates_given (completion_reply s v) in Met s info x (if some then takes (tab_effect lists q found) (modal_after_offer lists found v.line q) s v else pass_meeting q cmd v))
+tab_met false lists q cmd s v info x own from = passes_met q cmd s v info x own from
+tab_met true lists q cmd s v info x own from =
+    let found = candidates_given (completion_reply s v) in
     asked_met v (completion_reply s v) s info x (takes (offer_effect lists q found) (modal_after_offer lists found v.line q) s v) (offered_met (is_ambiguous found v.line) lists found q s v info x from)
 
 -- the next candidate, from any sight
@@ -300,10 +312,10 @@ next_drawn dir put q s v info x = by put
     by true = after_step (TakesBack v 1) s.prompt info x _ _ _ refl (on (then_do (hit_undo_effect true) (place_effect q.place) s v).value)
     by false = on (then_do (hit_undo_effect false) (place_effect q.place) s v).value
 
-cycle_met : (reply : Option (Reply Completion)) (dir : SearchDirection) (q : Modal) (cmd : Cmd) (s : Setting) (v : Value) (info : Option (List ℕ)) (x : Sight) → shows_own q.standing ≡ true → x ≡ sight_of s v info
-    → Met s info x (cycle_by reply dir q cmd s v)
-cycle_met None dir q cmd s v info x own from = passes_met q cmd s v info x own from
-cycle_met (Some reply) dir q cmd s v info x own from =
+cycle_met : (some : Bool) (dir : SearchDirection) (q : Modal) (cmd : Cmd) (s : Setting) (v : Value) (info : Option (List ℕ)) (x : Sight) → shows_own q.standing ≡ true → x ≡ sight_of s v info
+    → Met s info x (if some then takes (cycle_effect dir q) (modal_after_ask dir q s (cycle_back q s v).value) s v else pass_meeting q cmd v)
+cycle_met false dir q cmd s v info x own from = passes_met q cmd s v info x own from
+cycle_met true dir q cmd s v info x own from =
     own_met s info x (takes (cycle_effect dir q) (modal_after_ask dir q s (cycle_back q s v).value) s v) _ (next_drawn dir q.put q s v info x) own
 
 -- ---- the last query once more
@@ -319,17 +331,17 @@ again_found_met (Some hit) q s v info x own from =
 resting_met : (wish : Wish) (q : Modal) (cmd : Cmd) (s : Setting) (v : Value) (info : Option (List ℕ)) (x : Sight) → shows_own q.standing ≡ true → x ≡ sight_of s v info → Met s info x (meeting_at_rest wish q cmd s v)
 resting_met (Search dir) q cmd s v info x own from = begun_met (length s.entries == 0) dir q cmd s v info x own from
 resting_met Up q cmd s v info x own from = rises_met (is_own s v && is_prefix v.line) q cmd s v info x own from
-resting_met Tab q cmd s v info x own from = tab_met (completion_reply s v) q.lists_at_once q cmd s v info x own from
+resting_met Tab q cmd s v info x own from = tab_met (is_some s.hooks) q.lists_at_once q cmd s v info x own from
 resting_met (Again way) q cmd s v info x own from = again_found_met (hit_again way q s v) q s v info x own from
 resting_met wish q cmd s v info x own from = passes_met q cmd s v info x own from
 
 prefixes_met : (wish : Wish) (q : Modal) (cmd : Cmd) (s : Setting) (v : Value) (info : Option (List ℕ)) (x : Sight) → shows_own q.standing ≡ true → x ≡ sight_of s v info → Met s info x (meeting_in_prefixes wish q cmd s v)
-prefixes_met Up q cmd s v info x own from = risen_met (earlier s v) q s v info x own from
-prefixes_met Down q cmd s v info x own from = fallen_met (later s v) q s v info x own from
+prefixes_met Up q cmd s v info x own from = risen_met (is_some (earlier s v)) q s v info x own from
+prefixes_met Down q cmd s v info x own from = fallen_met (is_some (later s v)) q s v info x own from
 prefixes_met wish q cmd s v info x own from = resting_met wish (modal_at_rest q) cmd s v info x refl from
 
 tabbed_met : (wish : Wish) (q : Modal) (cmd : Cmd) (s : Setting) (v : Value) (info : Option (List ℕ)) (x : Sight) → shows_own q.standing ≡ true → x ≡ sight_of s v info → Met s info x (meeting_after_tab wish q cmd s v)
-tabbed_met Tab q cmd s v info x own from = tab_met (completion_reply s v) true q cmd s v info x own from
+tabbed_met Tab q cmd s v info x own from = tab_met (is_some s.hooks) true q cmd s v info x own from
 tabbed_met wish q cmd s v info x own from = resting_met wish (modal_at_rest q) cmd s v info x refl from
 
 -- the line is drawn without the list, and then the command is met
@@ -341,12 +353,12 @@ anew_met wish q cmd s v info x =
     (resting_met wish (modal_at_rest q) cmd s e.value (info_after e.steps info) (sight_all x e.steps) refl (first.leads ∙ ap (sight_of s e.value) (sym first.info_is)))
 
 lists_met : (wish : Wish) (q : Modal) (cmd : Cmd) (s : Setting) (v : Value) (info : Option (List ℕ)) (x : Sight) → shows_own q.standing ≡ true → x ≡ sight_of s v info → Met s info x (meeting_in_list wish q cmd s v)
-lists_met Tab q cmd s v info x own from = tab_met (completion_reply s v) true q cmd s v info x own from
+lists_met Tab q cmd s v info x own from = tab_met (is_some s.hooks) true q cmd s v info x own from
 lists_met wish q cmd s v info x own from = anew_met wish q cmd s v info x
 
 cycles_met : (wish : Wish) (q : Modal) (cmd : Cmd) (s : Setting) (v : Value) (info : Option (List ℕ)) (x : Sight) → shows_own q.standing ≡ true → x ≡ sight_of s v info → Met s info x (meeting_in_cycle wish q cmd s v)
-cycles_met Tab q cmd s v info x own from = cycle_met (completion_reply s v) Forward q cmd s v info x own from
-cycles_met TabBack q cmd s v info x own from = cycle_met (completion_reply s v) Reverse q cmd s v info x own from
+cycles_met Tab q cmd s v info x own from = cycle_met (is_some s.hooks) Forward q cmd s v info x own from
+cycles_met TabBack q cmd s v info x own from = cycle_met (is_some s.hooks) Reverse q cmd s v info x own from
 cycles_met Leave q cmd s v info x own from = own_met s info x (meeting_in_cycle Leave q cmd s v) _ (left_drawn q.put q.place s v info x) refl
 cycles_met wish q cmd s v info x own from = resting_met wish (modal_at_rest q) cmd s v info x refl from
 

@@ -15,11 +15,11 @@ use Rattle.line_help.specs.declared.history.search.SearchDirection.{SearchDirect
 use Rattle.line_edits.specs.Edits.{CutUndoItems}
 use Rattle.line_record.specs.Items.{record_on}
 use Rattle.line_editor.specs.Drawing.{refresh_effect_behind}
-use Rattle.line_editor.specs.Modal.{Modal, Meeting}
+use Rattle.line_editor.specs.Modal.{Modal, Meeting, next_of}
 use Rattle.line_editor.specs.Searching.{search_prompt, search_drawn, hit_undo_effect, put_hit_effect, search_shown_effect, look, modal_after_look, search_for, modal_with_char, type_effect, looks_again, modal_after_erase, act_of}
 use Rattle.line_editor.specs.ModalCommands.{meeting_in, meeting, meeting_effect, meeting_in_search}
 use Rattle.line_editor.specs.States.{value_of, setting_of, surface_of, Stays, Does}
-use Rattle.line_editor.specs.Turn.{MeetsBy}
+use Rattle.line_editor.specs.Turn.{Meets}
 use Rattle.line_editor.specs.Values.{Value, Setting, Transition, memory_effect, then_do}
 use Rattle.line_editor.specs.declared.modal_state.Act.TheVariants.{Erases}
 use Rattle.line_editor.specs.declared.modal_state.Next.TheVariants.{Nothing}
@@ -97,7 +97,7 @@ module _ {Out H Hi K T : Type 0} {renderer : renderers.Renderer.Ghosts Out} {com
   -- a character less
   pub erased_taken : {A : Type 0} (cmd : Cmd) (q q' : Modal) (s t : State Out H Hi K T renderer completer candidate hinter hint highlighter validator history) (x : A)
       → q.standing ≡ Searches → act_of cmd ≡ Erases → Does (λ a v. (meeting_in_search Erases q cmd a v).effect) s t (Ok x) → q' ≡ (meeting_in_search Erases q cmd (setting_of s) (value_of s)).modal
-      → MeetsBy cmd s q t q' (Ok Nothing)
+      → Meets (meeting q cmd) (next_of cmd) s t q' (Ok Nothing)
   erased_taken cmd q q' s t x standing act does modal_is =
       let a = setting_of s in
       let v = value_of s in

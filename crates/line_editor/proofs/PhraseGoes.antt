@@ -10,7 +10,7 @@ use Rattle.line_help.specs.declared.helpers.validate as verdicts
 use Rattle.line_help.specs.declared.history as histories
 use Rattle.script.specs.Scripts.{Ends, Asks, World, Goes}
 use Rattle.line_keys.specs.KeyFeeds.{behind}
-use Rattle.line_keys.specs.Follows.{key_world, Stage as KeyStage}
+use Rattle.line_keys.specs.InputStates.{key_world, Stage as KeyStage}
 use Rattle.line_keys.specs.PhraseScripts.{KeyScript, Needs, Shows, Reads, Becomes, Refuses}
 use Rattle.line_record.specs.Ring.{Ring}
 use Rattle.line_editor.specs.Asks.{shown_in, ask_effect}

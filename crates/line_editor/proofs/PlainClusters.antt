@@ -15,7 +15,7 @@ use Rattle.ucd_breaks.proofs.GraphemeClusterBreakLemmas.{grapheme_cluster_break_
 use Rattle.unicode_segmentation.specs.Grapheme.{graphemes, is_grapheme_break, break_by_pair, joins_conjunct, joins_emoji, joins_flag}
 use Rattle.unicode_segmentation.specs.Segments.{cut, segments, prepend, with_offsets}
 use Rattle.unicode_segmentation.proofs.GraphemeLemmas.{is_grapheme_break-inside, is_grapheme_break-others}
-use Rattle.line_buffer.specs.Clusters.{place_forward, place_backward, nth_or_last, cluster_starts_back}
+use Rattle.line_buffer.specs.Clusters.{clusters, place_forward, place_backward, nth_or_last}
 use Rattle.line_buffer.specs.Line.{Line}
 use Rattle.line_buffer.specs.Printable.{is_plain, is_plain_byte}
 use Rattle.line_editor.proofs.KillLemmas.{plain_low}
@@ -112,7 +112,7 @@ pub one_back : (l : Line) (m : ℕ) → is_plain l.text ≡ true → l.place ≡
 one_back l m plain is low =
     let first = take (suc m) l.text in
     let none : 0 + m ≡ m = omega arith in
-    ap (λ n. nth_or_last 1 (cluster_starts_back (take n l.text))) is
+    ap (λ n. nth_or_last 1 (map (λ x. x.0) (reverse (clusters (take n l.text))))) is
     ∙ ap (λ gs. nth_or_last 1 (map (λ x. x.0) (reverse (with_offsets 0 gs)))) (clusters_plain first (plain_split (suc m) l.text plain).0)
     ∙ ap (nth_or_last 1) (last_start m 0 l.text low).1 ∙ ap Some none
 

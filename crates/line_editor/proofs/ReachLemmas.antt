@@ -1,26 +1,28 @@
 -- Events, marks and undos leave a record that reaches the same text.
 use Rattle.std.proofs.Common.{◌≡◌, ℕ, zero, suc, Bool, true, false, List, [], ◌∷◌, drop, Option, Some, None, refl, sym, subst, if◌then◌else◌, IsUtf8, IsCharBoundary}
+use Rattle.std.specs.Prelude.{option_map, unwrap_or}
 use Rattle.line_buffer.specs.Event.{ChangeEvent}
-use Rattle.line_buffer.specs.Indent.{indent_events, indent_line}
-use Rattle.line_buffer.specs.Insertions.{update_events, update_line, insert as insertion, yank as yanked_in}
+use Rattle.line_buffer.specs.Indent.{indent as indented_in}
+use Rattle.line_buffer.specs.Insertions.{update as updated_in, insert as insertion, yank as yanked_in}
 use Rattle.line_buffer.specs.Line.{Line}
-use Rattle.line_buffer.specs.Range.{kill_events, kill_line}
+use Rattle.line_buffer.specs.Range.{kill_events, kill as killed_in}
 use Rattle.line_buffer.specs.Replay.{text_after_event, text_after_events}
-use Rattle.line_buffer.specs.Transpositions.{transpose_chars_events, transpose_chars_line}
+use Rattle.line_buffer.specs.Transpositions.{transpose_chars as transposed_in}
 use Rattle.line_buffer.specs.declared.types.Movement.{Movement}
 use Rattle.line_buffer.proofs.ReplayedLemmas.{update_replayed, insert_replayed, yank_replayed, indent_replayed}
 use Rattle.line_buffer.proofs.SpanLemmas as spans
-use Rattle.line_edits.specs.Edits.{by, char_steps, yank_steps, update_steps, kill_steps, transpose_chars_steps, indent_steps}
-use Rattle.line_edits.specs.Written.{Written, after_edit, group_opened, in_group}
+use Rattle.line_edits.specs.Edits.{by, char_steps, yank_steps, update_steps, kill_steps, indent_steps}
+use Rattle.line_edits.specs.Written.{Written, after_edit, group_opened, group_closed}
 use Rattle.line_record.specs.Change.{Change}
-use Rattle.line_record.specs.Held.{HeldItem, change_of, join_of, steps_with_change, steps_with_join, steps_with_change_if, has_mark, closes, group_with_change, record_after_close, line_back}
+use Rattle.line_record.specs.Held.{HeldItem, change_of, join_of, step_of, steps_with_change, steps_with_change_if, has_mark, closes, group_with_change, record_after_close, line_back}
 use Rattle.line_record.specs.Held.HeldItem.{Opened, Stepped}
 use Rattle.line_record.specs.RecordCourse.{record_after_events}
 use Rattle.line_record.proofs.GroupLaws.{unchanged}
 use Rattle.line_editor.specs.Leads.{Reaches}
+use Rattle.line_edits.specs.WriteSteps.{steps_of_edit}
 
 on_reaches : (o : Option Change) (c d : Change) (place : ℕ) (first text after earlier : List ℕ) (held : List HeldItem) → Reaches first held earlier
-    → Reaches first (steps_with_join o c text earlier (Stepped earlier place d true) held) after
+    → Reaches first (unwrap_or (option_map (λ j. step_of j earlier ∷ held) o) (step_of c text ∷ (Stepped earlier place d true ∷ held))) after
 on_reaches (Some g) c d place first text after earlier held r = r
 on_reaches None c d place first text after earlier held r = r
 
@@ -92,7 +94,7 @@ pub edit_reaches : (events : List ChangeEvent) (l : Line) (w : Written) (first :
 edit_reaches events l w first e r = subst (Reaches first (record_after_events events w.line.text w.held)) (sym e) (events_reach events first w.line.text w.held r)
 
 pub group_reaches : (edit : Written → Written) (w : Written) (first : List ℕ) → (Reaches first (group_opened w).held w.line.text → Reaches first (edit (group_opened w)).held (edit (group_opened w)).line.text)
-    → Reaches first w.held w.line.text → Reaches first (in_group edit w).held (in_group edit w).line.text
+    → Reaches first w.held w.line.text → Reaches first (group_closed (edit (group_opened w))).held (group_closed (edit (group_opened w))).line.text
 group_reaches edit w first h r = ended_reaches first (edit (group_opened w)).held (edit (group_opened w)).line.text (h (refl, r))
 
 pub typing_reaches : (c n : ℕ) (w : Written) (first : List ℕ) → Reaches first w.held w.line.text → Reaches first (by (char_steps c n) w).held (by (char_steps c n) w).line.text
@@ -102,17 +104,17 @@ pub yanking_reaches : (text : List ℕ) (n : ℕ) (w : Written) (first : List �
 yanking_reaches text n w first r = edit_reaches (yanked_in text n w.line).events (yanked_in text n w.line).line w first (sym (yank_replayed text n w.line)) r
 
 pub updating_reaches : (text : List ℕ) (place : ℕ) (w : Written) (first : List ℕ) → Reaches first w.held w.line.text → Reaches first (by (update_steps text place) w).held (by (update_steps text place) w).line.text
-updating_reaches text place w first r = edit_reaches (update_events text w.line) (update_line text place w.line) w first (sym (update_replayed text w.line)) r
+updating_reaches text place w first r = edit_reaches (updated_in text 0 w.line).events (updated_in text place w.line).line w first (sym (update_replayed text w.line)) r
 
 pub indenting_reaches : (movement : Movement) (amount : ℕ) (dedent : Bool) (w : Written) (first : List ℕ) → Reaches first w.held w.line.text
     → Reaches first (by (indent_steps movement amount dedent) w).held (by (indent_steps movement amount dedent) w).line.text
 indenting_reaches movement amount dedent w first r =
-    edit_reaches (indent_events movement amount dedent w.line) (indent_line movement amount dedent w.line) w first (sym (indent_replayed movement amount dedent w.line)) r
+    edit_reaches (indented_in movement amount dedent w.line).events (indented_in movement amount dedent w.line).line w first (sym (indent_replayed movement amount dedent w.line)) r
 
 pub killing_reaches : (movement : Movement) (w : Written) (first : List ℕ) → IsUtf8 w.line.text → IsCharBoundary w.line.text w.line.place → Reaches first w.held w.line.text
     → Reaches first (by (kill_steps movement) w).held (by (kill_steps movement) w).line.text
-killing_reaches movement w first u b r = edit_reaches (kill_events movement w.line) (kill_line movement w.line) w first (sym (spans.kill_replays w.line u b movement)) r
+killing_reaches movement w first u b r = edit_reaches (kill_events movement w.line) (killed_in movement w.line).line w first (sym (spans.kill_replays w.line u b movement)) r
 
 pub transposing_reaches : (w : Written) (first : List ℕ) → IsUtf8 w.line.text → IsCharBoundary w.line.text w.line.place → Reaches first w.held w.line.text
-    → Reaches first (by transpose_chars_steps w).held (by transpose_chars_steps w).line.text
-transposing_reaches w first u b r = edit_reaches (transpose_chars_events w.line) (transpose_chars_line w.line) w first (sym (spans.transpose_chars_replays w.line u b)) r
+    → Reaches first (by (λ l. steps_of_edit (transposed_in l)) w).held (by (λ l. steps_of_edit (transposed_in l)) w).line.text
+transposing_reaches w first u b r = edit_reaches (transposed_in w.line).events (transposed_in w.line).line w first (sym (spans.transpose_chars_replays w.line u b)) r

@@ -1,16 +1,16 @@
 -- What words in other letters, and words exchanged, tell leads to the text that they leave.
 use Rattle.std.proofs.Common.{◌≡◌, ℕ, ◌+◌, ◌≤◌, ◌==◌, not, nat_le, Bool, true, false, List, [], ◌∷◌, length, Option, None, Some, refl, ap, ◌∙◌, arith, cond, if◌then◌else◌}
-use Rattle.std.specs.Prelude.{IsUtf8, IsCharBoundary, IfSome, All, find, option_map, slice_range}
+use Rattle.std.specs.Prelude.{IsUtf8, IsCharBoundary, IfSome, All, find, option_map, slice_range, unwrap_or}
 use Rattle.std.specs.List.{replace_range}
 use Rattle.std.proofs.lemmas.Bool.{leb-true, and_parts}
 use Rattle.line_buffer.proofs.CutLemmas.{length-replace_range}
 use Rattle.std.proofs.lemmas.List.Elements.{All-head, All-tail}
 use Rattle.std.proofs.lemmas.Str.{IsUtf8-drop, IsCharBoundary-from_rest}
 use Rattle.line_buffer.specs.Clusters.{clusters}
-use Rattle.line_buffer.specs.LetterCase.{end_of_word, word_to_edit, word_in_case, recase_events, recase_line, edit_word_events, edit_word_line}
+use Rattle.line_buffer.specs.LetterCase.{word_to_edit, word_in_case, recase, edit_word as recased_in}
 use Rattle.line_buffer.specs.Line.{Line, text_after, with_cursor_at}
 use Rattle.line_buffer.specs.Replay.{replacement, text_after_event, text_after_events}
-use Rattle.line_buffer.specs.Transpositions.{WordPair, after_words, before_words, second_word, first_word, words_around, swap_events, swap_line, transposes_words, transpose_words_events, transpose_words_line}
+use Rattle.line_buffer.specs.Transpositions.{WordPair, after_words, before_words, second_word, first_word, words_around, swap as swapped_in, transposes_words, transpose_words as exchanged_in}
 use Rattle.line_buffer.specs.Words.{is_alphanumeric_cluster, prev_word, next_word}
 use Rattle.line_buffer.specs.declared.types.At.TheVariants.{AfterEnd}
 use Rattle.line_buffer.specs.declared.types.Word.TheVariants.{Emacs}
@@ -53,7 +53,7 @@ words_lie n l u b =
     let past = after_later 1 (first_word n l) u first.0 in
     record { first = past.1; second = second.1; inside = behind.0.0 }
 
-swap_replays : (p : WordPair) (l : Line) → Lies p l.text → p.first.1 ≤ p.second.0 → text_after_events (swap_events p l.text) l.text ≡ (swap_line p l).text
+swap_replays : (p : WordPair) (l : Line) → Lies p l.text → p.first.1 ≤ p.second.0 → text_after_events (swapped_in p l).events l.text ≡ (swapped_in p l).line.text
 swap_replays p l lies apart =
     let first : List ℕ = slice_range l.text p.first.0 p.first.1 in
     let second : List ℕ = slice_range l.text p.second.0 p.second.1 in
@@ -63,11 +63,11 @@ swap_replays p l lies apart =
     ∙ ap (text_after_event (replacement p.first.0 p.first.1 second between)) (replayed_replacement l.text p.second.0 p.second.1 first lies.second lies.inside)
     ∙ replayed_replacement between p.first.0 p.first.1 second lies.first (omega (arith, long, lies.second, lies.inside, apart))
 
-pub transpose_words_replays : (n : ℕ) (l : Line) → IsUtf8 l.text → IsCharBoundary l.text l.place → text_after_events (transpose_words_events n l) l.text ≡ (transpose_words_line n l).text
+pub transpose_words_replays : (n : ℕ) (l : Line) → IsUtf8 l.text → IsCharBoundary l.text l.place → text_after_events (exchanged_in n l).events l.text ≡ (exchanged_in n l).line.text
 unfolding after_words before_words
 transpose_words_replays n l u b = by_test (transposes_words n l) refl
   where
-    by_test : (t : Bool) → transposes_words n l ≡ t → text_after_events (if t then swap_events (words_around n l) l.text else []) l.text ≡ (if t then swap_line (words_around n l) l else after_words 1 (first_word n l)).text
+    by_test : (t : Bool) → transposes_words n l ≡ t → text_after_events (if t then (swapped_in (words_around n l) l).events else []) l.text ≡ (if t then (swapped_in (words_around n l) l).line else after_words 1 (first_word n l)).text
     by_test true e =
         let p : WordPair = words_around n l in
         swap_replays p l (words_lie n l u b) (leb-true p.first.1 p.second.0 (and_parts (not (p.first.0 == p.second.0)) (nat_le p.first.1 p.second.0) e).1)
@@ -86,21 +86,21 @@ found_one P p (x ∷ xs) h = by_test (p x) (found_one P p xs (All-tail P x xs h)
 abbrev IsWordIn : List ℕ → ℕ × ℕ → Type 0
 IsWordIn text word = (word.0 ≤ word.1) × (word.1 ≤ length text)
 
-end_lies : (l : Line) → IsUtf8 l.text → IsCharBoundary l.text l.place → IsLater l (end_of_word l)
+end_lies : (l : Line) → IsUtf8 l.text → IsCharBoundary l.text l.place → IsLater l (unwrap_or (next_word AfterEnd Emacs 1 l) l.place)
 end_lies l u b = moved_on (next_word AfterEnd Emacs 1 l) l b (next_word-later l u b AfterEnd Emacs 1)
 
 word_lies : (o : Option (ℕ × List ℕ)) (l : Line) → IsUtf8 l.text → IsCharBoundary l.text l.place → IfSome o (IsPartAt (text_after l))
-    → IfSome (option_map (λ start. (start, end_of_word (record l { place = start }))) (option_map (λ x. l.place + x.0) o)) (IsWordIn l.text)
+    → IfSome (option_map (λ i. (i, unwrap_or (next_word AfterEnd Emacs 1 (record l { place = i })) i)) (option_map (λ x. l.place + x.0) o)) (IsWordIn l.text)
 word_lies None l u b h = tt
 word_lies (Some x) l u b h =
     let end = end_lies (record l { place = l.place + x.0 }) u (IsCharBoundary-from_rest l.text l.place x.0 b.0 h.start) in
     (end.1, end.0.0)
 
-recase_replays : (action : WordAction) (o : Option (ℕ × ℕ)) (l : Line) → IfSome o (IsWordIn l.text) → text_after_events (recase_events action o l) l.text ≡ (recase_line action o l).text
+recase_replays : (action : WordAction) (o : Option (ℕ × ℕ)) (l : Line) → IfSome o (IsWordIn l.text) → text_after_events (recase action o l).events l.text ≡ (recase action o l).line.text
 recase_replays action None l h = replayed_all-none l.text
 recase_replays action (Some word) l h = replayed_all-one _ l.text ∙ replayed_replacement l.text word.0 word.1 (word_in_case action (slice_range l.text word.0 word.1)) h.0 h.1
 
-pub edit_word_replays : (action : WordAction) (l : Line) → IsUtf8 l.text → IsCharBoundary l.text l.place → text_after_events (edit_word_events action l) l.text ≡ (edit_word_line action l).text
+pub edit_word_replays : (action : WordAction) (l : Line) → IsUtf8 l.text → IsCharBoundary l.text l.place → text_after_events (recased_in action l).events l.text ≡ (recased_in action l).line.text
 edit_word_replays action l u b =
     recase_replays action (word_to_edit l) l (word_lies (find (λ x. is_alphanumeric_cluster x.1) (clusters (text_after l))) l u b
     (found_one (IsPartAt (text_after l)) (λ x. is_alphanumeric_cluster x.1) (clusters (text_after l)) (All-IsPartAt (text_after l) (IsUtf8-drop l.text l.place u b))))

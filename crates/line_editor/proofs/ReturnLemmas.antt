@@ -1,5 +1,6 @@
 -- Coming back to the history's end gives the line that was left there.
 use Rattle.std.proofs.Common.{◌≡◌, ℕ, ◌+◌, ◌-◌, ◌==◌, ◌||◌, ◌<◌, ◌≤◌, min, max, Bool, true, false, List, [], ◌∷◌, length, Option, Some, None, is_some, refl, sym, ap, ◌∙◌, subst, arith, if◌then◌else◌, ◌≢◌}
+use Rattle.std.specs.Prelude.{fold}
 use Rattle.std.proofs.lemmas.Bool.{eqb-false, cond-true, cond-false, eq-eqb, ne_eqb}
 use Rattle.line_buffer.specs.Columns.{line_up, line_down}
 use Rattle.line_buffer.specs.Insertions.{text_that_fits}
@@ -18,7 +19,7 @@ use Rattle.line_editor.specs.Asks.{ask_effect}
 use Rattle.line_editor.specs.Commands.{Means, effect}
 use Rattle.line_editor.specs.Moving.{to_found}
 use Rattle.line_editor.specs.History.{with_saved_line, value_on_leaving, recall, come_back_effect as back_at_end, history_step, history_end}
-use Rattle.line_editor.specs.Returns.{ValueStep, value_after, value_after_all, command_that_leaves, is_search, searches, StaysAway, ComesBack}
+use Rattle.line_editor.specs.Returns.{ValueStep, value_after, searches, StaysAway, ComesBack}
 use Rattle.line_editor.specs.Returns.ValueStep.{Done, Asked, Met}
 use Rattle.line_editor.specs.ModalCommands.{meeting_effect}
 use Rattle.line_editor.specs.Values.{Value, Setting, Effect, Saved, line_and_record_of}
@@ -144,7 +145,7 @@ command_alike_kept s v = record {
 
 -- ---- any step
 
-command_held : (m : Means) (cmd : Cmd) (s : Setting) (text : List ℕ) (at : ℕ) (v : Value) → is_search cmd ≡ false → at ≤ length text → Held s text at v → Away s v → Held s text at (effect m cmd s v).value
+command_held : (m : Means) (cmd : Cmd) (s : Setting) (text : List ℕ) (at : ℕ) (v : Value) → searches (Done m cmd) ≡ false → at ≤ length text → Held s text at v → Away s v → Held s text at (effect m cmd s v).value
 command_held m PreviousHistory s text at v quiet inside h away = previous_held s text at v h away
 command_held m BeginningOfHistory s text at v quiet inside h away = first_held s text at v h away
 command_held m NextHistory s text at v quiet inside h away = next_held s text at v inside h away
@@ -162,14 +163,14 @@ ask_keeps : (ask : Ask) (s : Setting) (v : Value) → Holds (alike v) (ask_effec
 ask_keeps LineAsked s v = (refl, refl, refl)
 ask_keeps ask s v = (refl, refl, refl)
 
-step_held : (step : ValueStep) (s : Setting) (text : List ℕ) (at : ℕ) (v : Value) → searches step ≡ false → at ≤ length text → Held s text at v → Away s v → Held s text at (value_after s step v)
+step_held : (step : ValueStep) (s : Setting) (text : List ℕ) (at : ℕ) (v : Value) → searches step ≡ false → at ≤ length text → Held s text at v → Away s v → Held s text at (value_after s v step)
 step_held (Done m cmd) s text at v quiet inside h away = command_held m cmd s text at v quiet inside h away
 step_held (Asked ask) s text at v quiet inside h away = keeps_held s text at v (ask_effect ask s v).value h away (ask_keeps ask s v)
 step_held (Met q cmd) s text at v quiet inside h away = keeps_held s text at v (meeting_effect q cmd s v).value h away (meeting_keeps (alike v) s (alike_kept s v away) q cmd v (refl, refl, refl))
 
-all_held : (steps : List ValueStep) (s : Setting) (text : List ℕ) (at : ℕ) (v : Value) → at ≤ length text → Held s text at v → StaysAway s steps v → Held s text at (value_after_all s steps v)
+all_held : (steps : List ValueStep) (s : Setting) (text : List ℕ) (at : ℕ) (v : Value) → at ≤ length text → Held s text at v → StaysAway s steps v → Held s text at (fold (value_after s) v steps)
 all_held [] s text at v inside h stays = h
-all_held (step ∷ steps) s text at v inside h stays = all_held steps s text at (value_after s step v) inside (step_held step s text at v stays.1 inside h stays.0) stays.2
+all_held (step ∷ steps) s text at v inside h stays = all_held steps s text at (value_after s v step) inside (step_held step s text at v stays.1 inside h stays.0) stays.2
 
 -- ---- leaving
 
@@ -186,7 +187,7 @@ leave_held : (place : ℕ) (o : Option Hit) (s : Setting) (v : Value) → v.hist
 leave_held place o s v there grows below =
     subst (λ w. Held s v.line.text v.line.place (recall place o s w).value) (sym (cond-true (v.history == length s.entries) (with_saved_line v) v (eq-eqb v.history (length s.entries) there))) (saved_held place o s v there grows below)
 
-by_leaving : (one : Bool) (m : Means) (s : Setting) (v : Value) → v.history ≡ length s.entries → v.line.growth ≡ true → Held s v.line.text v.line.place (effect m (command_that_leaves one) s v).value
+by_leaving : (one : Bool) (m : Means) (s : Setting) (v : Value) → v.history ≡ length s.entries → v.line.growth ≡ true → Held s v.line.text v.line.place (effect m (if one then PreviousHistory else BeginningOfHistory) s v).value
 by_leaving true m s v there grows = either_held s v.line.text v.line.place (v.history == 0) _ _ (λ e. start_held s v there grows)
     (λ e. leave_held (v.history - 1) _ s v there grows (let some : v.history ≢ 0 = eqb-false v.history 0 e in omega (arith, there, some)))
 by_leaving false m s v there grows = either_held s v.line.text v.line.place (v.history == 0) _ _ (λ e. start_held s v there grows)
@@ -194,4 +195,4 @@ by_leaving false m s v there grows = either_held s v.line.text v.line.place (v.h
 
 pub come_back : ComesBack
 come_back s m one steps v there inside grows stays back =
-    (all_held steps s v.line.text v.line.place (effect m (command_that_leaves one) s v).value inside (by_leaving one m s v there grows) stays).line back
+    (all_held steps s v.line.text v.line.place (effect m (if one then PreviousHistory else BeginningOfHistory) s v).value inside (by_leaving one m s v there grows) stays).line back

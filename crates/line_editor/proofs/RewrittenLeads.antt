@@ -8,14 +8,14 @@ use Rattle.std.proofs.lemmas.List.Folds.{drop_split}
 use Rattle.unicode_segmentation.proofs.TextLemmas.{length-slice_range}
 use Rattle.line_buffer.specs.Line.{Line}
 use Rattle.line_buffer.specs.Printable.{is_printable, is_plain}
-use Rattle.line_buffer.specs.Transpositions.{transposes_chars, transpose_chars_line}
+use Rattle.line_buffer.specs.Transpositions.{transposes_chars, transpose_chars as transposed_in}
 use Rattle.line_edits.specs.Edits.{transpose_chars_group, by}
 use Rattle.line_edits.specs.WriteSteps.{with_answer}
-use Rattle.line_editor.specs.Drawing.{redraw_of, ask_anew_effect}
+use Rattle.line_editor.specs.Drawing.{redraw_of, ask_anew_effect, effect_if}
 use Rattle.line_editor.specs.Inserting.{is_bare}
 use Rattle.line_editor.specs.Leads.{Leads}
 use Rattle.line_editor.specs.Redraws.Redraw.{Rewritten}
-use Rattle.line_editor.specs.Rewriting.{has_letters, may_be_rewritten, show_rewritten_effect, refresh_over_effect, refresh_over_if}
+use Rattle.line_editor.specs.Rewriting.{has_letters, may_be_rewritten, show_rewritten_effect, refresh_over_effect}
 use Rattle.line_editor.specs.Transforms.{pair_end, transpose_chars_effect}
 use Rattle.line_editor.specs.Values.{Value, Setting, no_effect, hint_reply, value_with_edit}
 use Rattle.line_editor.specs.Values.EditStep.{Draws}
@@ -39,8 +39,7 @@ module _ (s : Setting) (v w : Value) (from upto : ℕ) (letters : List ℕ) (tex
       record {
         fits = (
           (
-            refl,
-            refl,
+            bare_styles s v w info b.0 (and_parts (is_bare w) _ has).0,
             record {
               before = take from old;
               gone = gone;
@@ -54,9 +53,7 @@ module _ (s : Setting) (v w : Value) (from upto : ℕ) (letters : List ℕ) (tex
               plain = d.0;
               gone_printable = e.1;
               printable = printable e.1;
-              prompt_is = refl;
             },
-            bare_styles s v w info b.0 (and_parts (is_bare w) _ has).0,
           ),
           tt,
         );
@@ -64,7 +61,7 @@ module _ (s : Setting) (v w : Value) (from upto : ℕ) (letters : List ℕ) (tex
       }
 
 -- the transposed characters
-module _ (s : Setting) (v w : Value) (line : w.line ≡ transpose_chars_line v.line) (done : transposes_chars v.line ≡ true) where
+module _ (s : Setting) (v w : Value) (line : w.line ≡ (transposed_in v.line).line) (done : transposes_chars v.line ≡ true) where
   abbrev end : ℕ
   end = pair_end v.line
 
@@ -94,7 +91,7 @@ chars_lead s v =
     let w = value_with_edit (by transpose_chars_group) v in
     let end = pair_end v.line in
     let over = may_be_rewritten s (end - 2) end v in
-    edit_leads (with_answer tt (transpose_chars_group v.line)) s v v (refresh_over_if over (end - 2) end (transposes_chars v.line) s w)
+    edit_leads (with_answer tt (transpose_chars_group v.line)) s v v (effect_if (transposes_chars v.line) (refresh_over_effect over (end - 2) end) s w)
     (either s v (transposes_chars v.line) (refresh_over_effect over (end - 2) end s w) (no_effect s w)
     (λ e. help_leads w (hint_reply s w) s v (show_rewritten_effect over (end - 2) end s (ask_anew_effect s w).value) (shown_leads s v (ask_anew_effect s w).value refl e))
     (λ e. rest_leads s v w (cond-false (transposes_chars v.line) _ v.line e, refl, refl)))

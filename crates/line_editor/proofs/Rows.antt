@@ -15,15 +15,14 @@ use Rattle.line_config.specs.declared.errors.ReadlineError.TheVariants.{Eof}
 use Rattle.line_config.specs.declared.settings.EditMode.TheVariants.{Emacs}
 use Rattle.line_keys.specs.CustomBindings.{Custom}
 use Rattle.line_keys.specs.Replies.{gives_at_once}
-use Rattle.line_keys.specs.Coming.{Coming, Pressed, Ends, End}
+use Rattle.line_keys.specs.KeyFeeds.{Coming, Pressed, Ends, End}
 use Rattle.line_keys.specs.Common.{common_action}
 use Rattle.line_keys.specs.Counts.{rest_of_count}
 use Rattle.line_keys.specs.CustomKeys.{key_sequence, rest_of_sequence}
 use Rattle.line_keys.specs.Emacs.{emacs_action}
-use Rattle.line_keys.specs.Events.{begins_with, single}
+use Rattle.line_keys.specs.Events.{begins_with, single, same_event}
 use Rattle.line_keys.specs.Keys.{key_with, none, ctrl, alt}
 use Rattle.line_keys.specs.PhraseScripts.{Input, answer_part, memory_then, with_read, from_key, show_then, keep_then, reply_then, and_then}
-use Rattle.line_keys.specs.Bound.{same_event}
 use Rattle.line_keys.specs.declared.command.Cmd.TheVariants.{HistorySearchBackward, Noop}
 use Rattle.line_keys.specs.declared.command.InputMode.TheVariants.{Insert as Inserting}
 use Rattle.line_keys.specs.declared.key.KeyCode.TheVariants.{Backspace, Char, Down, Enter, Left, Up}

@@ -2,6 +2,7 @@
 use Rattle.std.proofs.Common.{◌≡◌, inl, inr, ℕ, ◌<◌, Bool, List, refl, sym, ap, subst, ◌∙◌, IsTrue, le_refl}
 use Rattle.std.specs.Prelude.{Option, None, option_map, Result, Ok, Err, length, string_bytes, IfErr, OnOk}
 use Rattle.script.specs.Scripts.{Goes}
+use Rattle.std.specs.Result.{result_and}
 use Rattle.line_config.specs.declared.config.Config.{Config}
 use Rattle.line_config.specs.declared.errors.ReadlineError.{ReadlineError}
 use Rattle.line_config.specs.declared.errors.ReadlineError.TheVariants.{Display, Helper, Memory}
@@ -12,15 +13,14 @@ use Rattle.line_help.specs.declared.helpers.highlight as highlights
 use Rattle.line_help.specs.declared.helpers.validate as verdicts
 use Rattle.line_help.specs.declared.history as histories
 use Rattle.line_keys.specs.CustomBindings.{Custom}
-use Rattle.line_keys.specs.Coming.{Coming, answer_map}
-use Rattle.line_keys.specs.KeyFeeds.{KeyFeed}
+use Rattle.line_keys.specs.KeyFeeds.{KeyFeed, Coming, answer_map}
 use Rattle.line_keys.specs.InputStates.{new_input}
 use Rattle.line_keys.specs.PhraseScripts.{Input}
 use Rattle.line_record.specs.Ring.{Ring}
 use Rattle.line_editor.specs.RenderCalls.{Canvas, Marks, Ruler}
 use Rattle.line_editor.specs.LineScripts.{LineStage, line_state, line_script, line_world, line_stage}
 use Rattle.line_editor.specs.Redraws.{fresh}
-use Rattle.line_editor.specs.LineRun.{Helping, helper_from_hooks, setting_by, stage_first, text_or, outcome_of, open_or, IsOpen, Runs}
+use Rattle.line_editor.specs.LineRun.{Helping, helper_from_hooks, setting_by, stage_first, outcome_of, open_or, IsOpen, Runs}
 use Rattle.line_editor.specs.Modal.{Modal, modal_first}
 use Rattle.line_editor.specs.States.{hooks_of, value_of, setting_of, Stays, Starts}
 use Rattle.line_editor.specs.EditSteps.{surface}
@@ -76,7 +76,7 @@ same_fall P f (Ok x) (Ok y) is h = h
 same_fall P f (Ok x) (Err e) is h = ok_not_err (f x) e is
 
 -- a line that isn't accepted is the one that stands
-line_left : {A X : Type 0} (f : X → List ℕ) (o : Result X ReadlineError) (read : Result A ReadlineError) (text : List ℕ) (first v : Value) → answer_map f o ≡ text_or read text → IsOpen o first v (open_or read v.line)
+line_left : {A X : Type 0} (f : X → List ℕ) (o : Result X ReadlineError) (read : Result A ReadlineError) (text : List ℕ) (first v : Value) → answer_map f o ≡ result_and read (Ok text) → IsOpen o first v (open_or read v.line)
 line_left f (Ok x) (Ok y) text first v is = refl
 line_left f (Ok x) (Err e) text first v is = ok_not_err (f x) e is
 line_left f (Err e) (Ok y) text first v is = ok_not_err text e (sym is)
@@ -116,8 +116,8 @@ module _ {Out H Hi K T : Type 0} {renderer : renderers.Renderer.Ghosts Out} {com
   module _ {A : Type 0} (prompt : List ℕ) (helper : Option H) (hist : Hi) (config : Config) (out : Out) (s t : State Out H Hi K T renderer completer candidate hinter hint highlighter validator history)
       (shown : Hi) (place : ℕ) (starts : Starts out prompt helper shown place config s) (shown_is : shown ≡ hist) (place_is : place ≡ length (history.entries hist))
       (custom : Custom) (i i' : Input) (input_is : i ≡ new_input config) (ring ring' : Ring) (modal modal' : Modal) (query query' : List ℕ) (modal_is : modal ≡ modal_first config query) (query_is : query' ≡ modal'.query) (feed feed' : KeyFeed) (result : Result A ReadlineError)
-      (reads : Takes line_script custom s i ring modal feed t i' ring' modal' feed' (text_or result t.recorded.line.text))
-      (ran : Ran Out H K T) (out_is : ran.out ≡ t.out) (helper_is : ran.helper ≡ t.helper) (outcome_is : outcome_of ran ≡ text_or result t.recorded.line.text)
+      (reads : Takes line_script custom s i ring modal feed t i' ring' modal' feed' (result_and result (Ok t.recorded.line.text)))
+      (ran : Ran Out H K T) (out_is : ran.out ≡ t.out) (helper_is : ran.helper ≡ t.helper) (outcome_is : outcome_of ran ≡ result_and result (Ok t.recorded.line.text))
       (line_is : ran.open_line ≡ open_or result t.recorded.line) where
     abbrev setting : Setting
     setting = setting_by (renderer.canvas.ruler out) prompt (helps s helper) (history.entries hist) config
@@ -144,7 +144,7 @@ module _ {Out H Hi K T : Type 0} {renderer : renderers.Renderer.Ghosts Out} {com
         ∙ ap (λ j. line_stage (surface out (fresh (renderer.canvas.ruler out).mode)) (line_state (first_value setting) j ring modal feed.coming)) input_is
         ∙ ap (λ x. line_stage (surface out (fresh (renderer.canvas.ruler out).mode)) (line_state (first_value setting) (new_input config) ring x feed.coming)) modal_is
 
-    goes_by : (n : ℕ) → Goes (world_of s) (line_script n custom) (stage_of s i ring modal feed.coming) (text_or result t.recorded.line.text) (stage_of t i' ring' modal' feed'.coming)
+    goes_by : (n : ℕ) → Goes (world_of s) (line_script n custom) (stage_of s i ring modal feed.coming) (result_and result (Ok t.recorded.line.text)) (stage_of t i' ring' modal' feed'.coming)
         → Goes (line_world renderer.canvas (renderer.canvas.ruler out) setting) (line_script n custom)
         (stage_first out (renderer.canvas.ruler out) setting ring query feed.coming) (outcome_of ran) (last ran.out)
     goes_by n goes =
@@ -153,9 +153,9 @@ module _ {Out H Hi K T : Type 0} {renderer : renderers.Renderer.Ghosts Out} {com
         let first = stage_first out (renderer.canvas.ruler out) setting ring query feed.coming in
         subst (P (renderer.canvas.ruler out) setting first (outcome_of ran)) (sym out_is)
         (subst (λ q. P (renderer.canvas.ruler out) setting first q t.out) (sym outcome_is)
-        (subst (λ x. P (renderer.canvas.ruler out) setting x (text_or result t.recorded.line.text) t.out) first_same
-        (subst (λ a. P (renderer.canvas.ruler out) a (stage_of s i ring modal feed.coming) (text_or result t.recorded.line.text) t.out) setting_same
-        (subst (λ o. P (renderer.canvas.ruler o) (setting_of s) (stage_of s i ring modal feed.coming) (text_or result t.recorded.line.text) t.out) starts.out_is goes))))
+        (subst (λ x. P (renderer.canvas.ruler out) setting x (result_and result (Ok t.recorded.line.text)) t.out) first_same
+        (subst (λ a. P (renderer.canvas.ruler out) a (stage_of s i ring modal feed.coming) (result_and result (Ok t.recorded.line.text)) t.out) setting_same
+        (subst (λ o. P (renderer.canvas.ruler o) (setting_of s) (stage_of s i ring modal feed.coming) (result_and result (Ok t.recorded.line.text)) t.out) starts.out_is goes))))
 
     pub runs_by : Runs renderer.canvas (helps s) custom prompt helper (history.entries hist) config out ring query feed ran ring' query' feed'
     runs_by = record {
@@ -167,11 +167,11 @@ module _ {Out H Hi K T : Type 0} {renderer : renderers.Renderer.Ghosts Out} {com
       last = query_is;
       told = reads.told;
       keeps = reads.keeps;
-      falls = same_fall (feed'.bound < feed.bound) string_bytes ran.outcome (text_or result t.recorded.line.text) outcome_is reads.falls;
+      falls = same_fall (feed'.bound < feed.bound) string_bytes ran.outcome (result_and result (Ok t.recorded.line.text)) outcome_is reads.falls;
       line_is = subst (IsOpen ran.outcome (first_value setting) (value_of t)) (sym line_is) (line_left string_bytes ran.outcome result t.recorded.line.text (first_value setting) (value_of t) outcome_is);
       helper_stays = λ told. helper_same_as (reads.stays told);
       ruler_stays = λ told. ap renderer.canvas.ruler out_is ∙ (reads.stays told).ruler ∙ ap renderer.canvas.ruler starts.out_is;
-      reason = same_reason string_bytes ran.outcome (text_or result t.recorded.line.text) (Cause custom t feed')
+      reason = same_reason string_bytes ran.outcome (result_and result (Ok t.recorded.line.text)) (Cause custom t feed')
           (cause_of custom (renderer.canvas.failed ran.out) (Failing (helps s ran.helper)) feed') outcome_is
           (λ e. cause_to custom (renderer.canvas.failed t.out) (renderer.canvas.failed ran.out) (Failing (helps s t.helper)) (Failing (helps s ran.helper)) feed' e
           (ap renderer.canvas.failed (sym out_is)) (λ fails. subst (λ h. Failing (helps s h)) (sym helper_is) fails))

@@ -5,7 +5,7 @@ use Rattle.std.specs.List.{FoldsTo}
 use Rattle.line_buffer.specs.declared.layout.Layout.{Layout}
 use Rattle.line_config.specs.declared.errors.ReadlineError.{ReadlineError}
 use Rattle.line_config.specs.declared.errors.ReadlineError.TheVariants.{Display, Helper, Memory}
-use Rattle.line_edits.specs.WriteSteps.{WriteSteps, CutEdit}
+use Rattle.line_edits.specs.WriteSteps.{WriteSteps, CutAlong}
 use Rattle.line_edits.specs.Written.{group_opened}
 use Rattle.line_keys.specs.Replies.{Reply, fails}
 use Rattle.line_editor.specs.RenderCalls.{Call, Canvas, Marks, Ruler, MadeIn, CutCall, CutCalls}
@@ -89,7 +89,7 @@ module _ {R : Type 0} (canvas : Canvas R) (r : Ruler) where
 
   -- at an edit of the line
   pub stops_editing : (stands : Value) (edit : WriteSteps ⊤) (more : List EditStep) (old new : Surface R) (fault : ReadlineError) (v : Value)
-      → fault ≡ Memory → new ≡ old → SameBeside stands v → CutEdit edit (line_and_record_of stands) (line_and_record_of v) → CutEditSteps canvas r (Edits stands edit ∷ more) old fault v new
+      → fault ≡ Memory → new ≡ old → SameBeside stands v → CutAlong edit.steps (line_and_record_of stands) (line_and_record_of v) → CutEditSteps canvas r (Edits stands edit ∷ more) old fault v new
   unfolding CutEditSteps
   stops_editing stands edit more old new fault v is same value left = inr (is, same, value, left)
 

@@ -9,7 +9,7 @@ use Rattle.line_buffer.specs.Clusters.{place_backward}
 use Rattle.line_buffer.specs.declared.layout.Position.{Position}
 use Rattle.line_buffer.specs.Line.{Line, text_before, text_after, with_cursor_at, with_replacement}
 use Rattle.line_buffer.specs.Printable.{is_printable, is_plain}
-use Rattle.line_buffer.specs.Transpositions.{between_clusters, clusters_at, clusters_around, later_first, transposes_chars, transpose_chars_line}
+use Rattle.line_buffer.specs.Transpositions.{between_clusters, clusters_at, clusters_around, later_first, transposes_chars, transpose_chars as transposed_in}
 use Rattle.line_editor.specs.Inserting.{is_bare}
 use Rattle.line_editor.specs.KnownPlaces.{IsKnown}
 use Rattle.line_editor.specs.Rewriting.{has_letters, may_be_rewritten}
@@ -39,7 +39,7 @@ two (suc k) (c ∷ text) room =
 -- exchanged
 pub record Exchanged (l : Line) (from upto : ℕ) : Type 0 where
   pub letters : List ℕ
-  pub line : transpose_chars_line l ≡ with_replacement from upto letters l
+  pub line : (transposed_in l).line ≡ with_replacement from upto letters l
   pub size : upto ≡ from + length letters
   pub printable : list_all is_printable (slice_range l.text from upto) ≡ true → list_all is_printable letters ≡ true
 
@@ -145,28 +145,28 @@ pair_over over from end s v end_is from_is over_is h =
 pub pair_boundary : (l : Line) → Pair l → IsCharBoundary l.text (pair_end l - 2)
 pair_boundary l p = plain_boundary l.text (pair_end l - 2) p.plain (let low = p.low in omega arith)
 
-pair_begins : (l : Line) → Pair l → Begins (pair_end l - 2) l.text (transpose_chars_line l).text
+pair_begins : (l : Line) → Pair l → Begins (pair_end l - 2) l.text (transposed_in l).line.text
 pair_begins l p = by_test (transposes_chars l) refl
   where
-    by_test : (b : Bool) → transposes_chars l ≡ b → Begins (pair_end l - 2) l.text (transpose_chars_line l).text
+    by_test : (b : Bool) → transposes_chars l ≡ b → Begins (pair_end l - 2) l.text (transposed_in l).line.text
     by_test true e =
         let x = exchanged l p.plain e p.low in
         subst (λ (m : Line). Begins (pair_end l - 2) l.text m.text) (sym x.line) (behind_place (pair_end l - 2) (pair_end l) l.text x.letters (let low = p.low in omega arith))
     by_test false e =
-        let same : transpose_chars_line l ≡ l = ap (λ b. let parts = clusters_at (between_clusters l) in if b then with_replacement parts.0 parts.2 (later_first parts l.text) l else l) e in
+        let same : (transposed_in l).line ≡ l = ap (λ b. let parts = clusters_at (between_clusters l) in if b then with_replacement parts.0 parts.2 (later_first parts l.text) l else l) e in
         subst (λ (m : Line). Begins (pair_end l - 2) l.text m.text) (sym same) (record { low = let low = p.low in omega arith; same = refl })
 
 module _ (measure : List ℕ → Position → Position) (start : Position) (l : Line) where
   abbrev before_pair : ℕ × Position
   before_pair = (pair_end l - 2, measure (take (pair_end l - 2) l.text) start)
 
-  pair_if : (after : Line) → after ≡ transpose_chars_line l → (b : Bool) → (b ≡ true → Pair l) → IsKnown measure start after.text (if b then Some before_pair else None)
+  pair_if : (after : Line) → after ≡ (transposed_in l).line → (b : Bool) → (b ≡ true → Pair l) → IsKnown measure start after.text (if b then Some before_pair else None)
   pair_if after made true has =
       let begins = subst (λ (m : Line). Begins (pair_end l - 2) l.text m.text) (sym made) (pair_begins l (has refl)) in
       known_at measure start after.text before_pair.0 before_pair.1 begins.low (ap (λ t. measure t start) (sym begins.same))
   pair_if after made false has = known_nothing measure start after.text
 
-  pub pair_known : (after : Line) (over : Bool) (from : ℕ) (kept : Option (ℕ × Position)) → after ≡ transpose_chars_line l → (over ≡ true → Pair l) → from ≡ pair_end l - 2
+  pub pair_known : (after : Line) (over : Bool) (from : ℕ) (kept : Option (ℕ × Position)) → after ≡ (transposed_in l).line → (over ≡ true → Pair l) → from ≡ pair_end l - 2
       → kept ≡ (if over then Some (from, measure (take from l.text) start) else None) → IsKnown measure start after.text kept
   pair_known after over from kept made has at is =
       subst (IsKnown measure start after.text) (sym (is ∙ ap (λ n. if over then Some (n, measure (take n l.text) start) else None) at)) (pair_if after made over has)

@@ -4,8 +4,7 @@ use Rattle.std.specs.Prelude.{Result, Ok, Err, IsErrAnd}
 use Rattle.line_config.specs.declared.errors.ReadlineError.{ReadlineError}
 use Rattle.line_keys.specs.CustomBindings.{Custom}
 use Rattle.line_keys.specs.KeyFeeds.{KeyFeed}
-use Rattle.line_keys.specs.Follows.{Follows}
-use Rattle.line_keys.specs.NextPhrase.{phrase}
+use Rattle.line_keys.specs.InputStates.{Follows, phrase}
 use Rattle.line_keys.specs.PhraseScripts.{Input, PhrasePart, answer_part, show_then}
 use Rattle.line_keys.specs.Refreshing.{KnownDisplay, Draws}
 use Rattle.line_keys.specs.Refreshing.Ask.{DoingInsert}

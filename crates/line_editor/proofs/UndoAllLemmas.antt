@@ -1,6 +1,6 @@
 -- Each step leaves a record that reaches the same text.
 use Rattle.std.proofs.Common.{◌≡◌, ℕ, ◌+◌, ◌-◌, ◌≤◌, min, ◌==◌, take, drop, ◌++◌, Bool, true, false, List, [], ◌∷◌, length, Option, Some, None, is_some, refl, sym, ap, ◌∙◌, subst, arith, if◌then◌else◌}
-use Rattle.std.specs.Prelude.{IsUtf8, IsCharBoundary, IfSome, nat_le, encode_utf8, slice_range}
+use Rattle.std.specs.Prelude.{IsUtf8, IsCharBoundary, IfSome, nat_le, encode_utf8, slice_range, fold}
 use Rattle.std.specs.List.{replace_range}
 use Rattle.std.proofs.lemmas.Bool.{leb-true, leb-false}
 use Rattle.std.proofs.lemmas.List.{drop_all, length-take, length-drop}
@@ -8,15 +8,16 @@ use Rattle.line_buffer.specs.Columns.{line_up, line_down}
 use Rattle.line_buffer.specs.Insertions.{yank_pop as popped_in}
 use Rattle.line_buffer.specs.Clusters.{place_forward}
 use Rattle.line_buffer.specs.Line.{with_text_at, with_replacement}
-use Rattle.line_buffer.specs.LetterCase.{edit_word_events, edit_word_line}
+use Rattle.line_buffer.specs.LetterCase.{edit_word as recased_in}
 use Rattle.line_buffer.specs.Range.{range_of, deletion_events, deletion_line}
 use Rattle.line_buffer.specs.Replay.{insertion as told_insertion, replacement, text_after_event}
-use Rattle.line_buffer.specs.Transpositions.{transpose_words_events, transpose_words_line}
+use Rattle.line_buffer.specs.Transpositions.{transpose_chars as transposed_in, transpose_words as exchanged_in}
 use Rattle.line_buffer.specs.declared.types.Movement.TheVariants.{ForwardChar}
 use Rattle.line_buffer.specs.declared.types.WordAction.{WordAction}
 use Rattle.line_buffer.proofs.ReplayedLemmas.{replayed_all-one, replayed_insertion, replayed_replacement, yank_pop_replayed}
 use Rattle.line_buffer.proofs.SpanLemmas.{IsLater, place_forward-later, deletion_replays}
-use Rattle.line_edits.specs.Edits.{clusters_after, by, text_steps, update_steps, pop_steps, delete_steps, exchange_steps, overwrite_steps_to, overwrite_steps, transpose_chars_steps, transpose_words_steps, word_steps, update_group}
+use Rattle.line_edits.specs.Edits.{clusters_after, by, text_steps, update_steps, delete_steps, exchange_steps, overwrite_steps, transpose_words_steps, update_group}
+use Rattle.line_edits.proofs.StepLemmas.{overwrite_steps_to}
 use Rattle.line_edits.specs.Written.{Written, group_opened}
 use Rattle.line_help.specs.Search.{Hit}
 use Rattle.line_help.specs.declared.history.search.SearchDirection.{SearchDirection}
@@ -30,7 +31,7 @@ use Rattle.line_editor.specs.Commands.{Means, effect}
 use Rattle.line_editor.specs.Completing.{word_put}
 use Rattle.line_editor.specs.Leads.{Reaches, Sound}
 use Rattle.line_editor.specs.History.{with_saved_line, at_place, value_on_leaving, recall, hit_effect, history_step, history_end, history_search}
-use Rattle.line_editor.specs.Returns.{ValueStep, value_after, value_after_all, BegunSound, UndoesAll}
+use Rattle.line_editor.specs.Returns.{ValueStep, value_after, BegunSound, UndoesAll}
 use Rattle.line_editor.specs.Returns.ValueStep.{Done, Asked, Met}
 use Rattle.line_editor.specs.Values.{Value, Setting, value_with_edit, line_and_record_of}
 use Rattle.line_editor.proofs.CommandKeeps.{KeptByCommands, either_holds, found_holds, command_keeps}
@@ -38,6 +39,7 @@ use Rattle.line_editor.proofs.MeetKeeps.{Fact, KeptByEdits, meeting_keeps}
 use Rattle.line_editor.proofs.ReachLemmas.{undo_reached, ended_reaches, edit_reaches, group_reaches, typing_reaches, yanking_reaches, updating_reaches, indenting_reaches, killing_reaches, transposing_reaches}
 use Rattle.line_editor.proofs.ReplaysLemmas.{transpose_words_replays, edit_word_replays}
 use Rattle.line_editor.proofs.UndoLemmas.{undo_reaches, unmade_reached}
+use Rattle.line_edits.specs.WriteSteps.{with_answer, steps_of_edit}
 
 -- ---- edits of a line with its record
 
@@ -55,14 +57,14 @@ module _ (first : List ℕ) (w : Written) (u : IsUtf8 w.line.text) (b : IsCharBo
   overwriting_reaches : (c : ℕ) → Reaches first (by (overwrite_steps c) w).held (by (overwrite_steps c) w).line.text
   overwriting_reaches c = writing_reaches c (place_forward 1 w.line) (place_forward-later w.line u b 1)
 
-  popping_reaches : (size : ℕ) (text : List ℕ) → Reaches first (by (pop_steps size text) w).held (by (pop_steps size text) w).line.text
+  popping_reaches : (size : ℕ) (text : List ℕ) → Reaches first (by (λ l. with_answer (tt {0}) (steps_of_edit (popped_in size text l))) w).held (by (λ l. with_answer (tt {0}) (steps_of_edit (popped_in size text l))) w).line.text
   popping_reaches size text = edit_reaches (popped_in size text w.line).events (popped_in size text w.line).line w first (sym (yank_pop_replayed size text w.line b.0)) r
 
   words_reach : (n : ℕ) → Reaches first (by (transpose_words_steps n) w).held (by (transpose_words_steps n) w).line.text
-  words_reach n = edit_reaches (transpose_words_events n w.line) (transpose_words_line n w.line) w first (sym (transpose_words_replays n w.line u b)) r
+  words_reach n = edit_reaches (exchanged_in n w.line).events (exchanged_in n w.line).line w first (sym (transpose_words_replays n w.line u b)) r
 
-  word_reaches : (action : WordAction) → Reaches first (by (word_steps action) w).held (by (word_steps action) w).line.text
-  word_reaches action = edit_reaches (edit_word_events action w.line) (edit_word_line action w.line) w first (sym (edit_word_replays action w.line u b)) r
+  word_reaches : (action : WordAction) → Reaches first (by (λ l. steps_of_edit (recased_in action l)) w).held (by (λ l. steps_of_edit (recased_in action l)) w).line.text
+  word_reaches action = edit_reaches (recased_in action w.line).events (recased_in action w.line).line w first (sym (edit_word_replays action w.line u b)) r
 
 -- a cursor behind the text's end replaces to the end
 far_replaced : (text : List ℕ) (from upto : ℕ) (added : List ℕ) → from ≤ upto → text_after_event (replacement from upto added text) text ≡ replace_range text from upto added
@@ -147,16 +149,16 @@ command_reach_kept first s = record {
   typed = λ c n v r. typing_reaches c n (line_and_record_of v) first r;
   inserted = λ text v r. putting_reaches text (line_and_record_of v) first r;
   yanked = λ text n v r. yanking_reaches text n (line_and_record_of v) first r;
-  popped = λ size text v ok r. group_reaches (by (pop_steps size text)) (line_and_record_of v) first (λ k. popping_reaches first (group_opened (line_and_record_of v)) ok.utf8 ok.boundary k size text) r;
+  popped = λ size text v ok r. group_reaches (by (λ l. with_answer (tt {0}) (steps_of_edit (popped_in size text l)))) (line_and_record_of v) first (λ k. popping_reaches first (group_opened (line_and_record_of v)) ok.utf8 ok.boundary k size text) r;
   killed = λ m v ok r. killing_reaches m (line_and_record_of v) first ok.utf8 ok.boundary r;
   replaced = λ c n v ok r.
       let w = line_and_record_of v in
       let count = clusters_after n v.line in
       group_reaches (by (exchange_steps c n count)) w first (λ k. typing_reaches c count (by (delete_steps n) (group_opened w)) first (deleting_reaches first (group_opened w) ok.utf8 ok.boundary k n)) r;
   overwritten = λ c v ok r. overwriting_reaches first (line_and_record_of v) ok.utf8 ok.boundary r c;
-  transposed = λ v ok r. group_reaches (by transpose_chars_steps) (line_and_record_of v) first (λ k. transposing_reaches (group_opened (line_and_record_of v)) first ok.utf8 ok.boundary k) r;
+  transposed = λ v ok r. group_reaches (by (λ l. steps_of_edit (transposed_in l))) (line_and_record_of v) first (λ k. transposing_reaches (group_opened (line_and_record_of v)) first ok.utf8 ok.boundary k) r;
   swapped = λ n v ok r. group_reaches (by (transpose_words_steps n)) (line_and_record_of v) first (λ k. words_reach first (group_opened (line_and_record_of v)) ok.utf8 ok.boundary k n) r;
-  recased = λ action v ok r. group_reaches (by (word_steps action)) (line_and_record_of v) first (λ k. word_reaches first (group_opened (line_and_record_of v)) ok.utf8 ok.boundary k action) r;
+  recased = λ action v ok r. group_reaches (by (λ l. steps_of_edit (recased_in action l))) (line_and_record_of v) first (λ k. word_reaches first (group_opened (line_and_record_of v)) ok.utf8 ok.boundary k action) r;
   indented = λ m amount dedent v r. indenting_reaches m amount dedent (line_and_record_of v) first r;
   grouped = λ v r. group_reaches (λ w. w) (line_and_record_of v) first (λ k. k) r;
   undone = λ n v r. unmade_reached n s v first r;
@@ -184,15 +186,15 @@ ask_reached DoingInsert s v first r = (refl, r)
 ask_reached DoneInserting s v first r = ended_reaches first v.held v.line.text r
 ask_reached ask s v first r = r
 
-one_reached : (step : ValueStep) (s : Setting) (v : Value) (first : List ℕ) → Sound v → Reached first v → Reached first (value_after s step v)
+one_reached : (step : ValueStep) (s : Setting) (v : Value) (first : List ℕ) → Sound v → Reached first v → Reached first (value_after s v step)
 one_reached (Done m cmd) s v first ok r = command_reached m cmd s v first ok r
 one_reached (Asked ask) s v first ok r = ask_reached ask s v first r
 one_reached (Met q cmd) s v first ok r = meeting_keeps (reaching first) s (reach_kept first s) q cmd v r
 
-all_reached : (steps : List ValueStep) (s : Setting) (v : Value) (first : List ℕ) → BegunSound s steps v → Reached first v → Reached first (value_after_all s steps v)
+all_reached : (steps : List ValueStep) (s : Setting) (v : Value) (first : List ℕ) → BegunSound s steps v → Reached first v → Reached first (fold (value_after s) v steps)
 all_reached [] s v first ok r = r
-all_reached (step ∷ steps) s v first ok r = all_reached steps s (value_after s step v) first ok.1 (one_reached step s v first ok.0 r)
+all_reached (step ∷ steps) s v first ok r = all_reached steps s (value_after s v step) first ok.1 (one_reached step s v first ok.0 r)
 
 pub undo_all : UndoesAll
 undo_all s steps v m n none ok enough =
-    undo_reaches s m (value_after_all s steps v) n v.line.text (all_reached steps s v v.line.text ok (subst (λ held. Reaches v.line.text held v.line.text) (sym none) refl)) enough
+    undo_reaches s m (fold (value_after s) v steps) n v.line.text (all_reached steps s v v.line.text ok (subst (λ held. Reaches v.line.text held v.line.text) (sym none) refl)) enough

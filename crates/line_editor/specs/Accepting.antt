@@ -1,7 +1,8 @@
 -- How lines are accepted.
-use Rattle.std.specs.Prelude.{ℕ, ◌&&◌, ◌||◌, not, Bool, true, if◌then◌else◌, List, Option, Some, None, is_some, chars}
+use Rattle.std.specs.Prelude.{ℕ, ◌&&◌, ◌||◌, not, Bool, true, if◌then◌else◌, List, Option, Some, None, is_some, unwrap_or, chars}
 use Rattle.std.specs.Char.{is_whitespace}
 use Rattle.std.specs.List.{list_all}
+use Rattle.std.specs.Option.{option_map_or}
 use Rattle.line_buffer.specs.Line.{Line, text_after}
 use Rattle.line_keys.specs.Replies.{Reply}
 use Rattle.line_help.specs.Validation.{is_valid, has_message}
@@ -13,37 +14,23 @@ use Rattle.line_record.specs.Held.{closes}
 use Rattle.line_editor.specs.Drawing.{message_effect, cursor_end_effect}
 use Rattle.line_editor.specs.Inserting.{insert_char}
 use Rattle.line_editor.specs.Moving.{move_buffer_end}
-use Rattle.line_editor.specs.Redraws.{Redraw}
 use Rattle.line_editor.specs.Redraws.Redraw.{Drawn, Bared}
 use Rattle.line_editor.specs.Values.{Value, Setting, Transition, no_effect, then_do, draw_effect, open_group, close_groups, verdict_reply, help_steps, without_hint, with_mark}
 
 -- ---- before a line is accepted: no hint, no highlighted character, no count's prompt
 
-abbrev pub bare_redraw : Setting → Value → Value → Redraw
-bare_redraw s before v =
-    if is_some before.hint || (before.marked || v.marked)
-    then Drawn s.prompt true v.line.text v.line.place None
-    else Bared s.prompt v.line.text v.line.place
-
-abbrev pub bare_value : Value → Setting → Value
-bare_value v s = with_mark ForcedRefresh s (without_hint v)
-
 abbrev pub bare : Transition
-bare s v = draw_effect (bare_redraw s v (bare_value v s)) s (bare_value v s)
+bare s v = let w = with_mark ForcedRefresh s (without_hint v) in
+    draw_effect (if is_some v.hint || (v.marked || w.marked)
+    then Drawn s.prompt true v.line.text v.line.place None
+    else Bared s.prompt v.line.text v.line.place) s w
 
 -- ---- the helper's verdict
 
--- without a verdict the line is incomplete
-abbrev pub verdict_given : Option ValidationResult → ValidationResult
-verdict_given None = Incomplete
-verdict_given (Some found) = found
-
-abbrev pub verdict_by : Option (Reply ValidationResult) → ValidationResult
-verdict_by None = Valid None
-verdict_by (Some reply) = verdict_given reply.answer
-
+-- without a verdict the line is incomplete; without a helper it is valid
 abbrev pub verdict : Setting → Value → ValidationResult
-verdict s v = verdict_by (verdict_reply s v)
+verdict s v =
+    option_map_or (λ reply. unwrap_or reply.answer Incomplete) (verdict_reply s v) (Valid None)
 
 abbrev pub message_effect_if : Bool → Option (List ℕ) → CmdKind → Transition
 message_effect_if draws text kind s v = if draws || is_some text then message_effect text kind s v
@@ -59,18 +46,16 @@ abbrev pub verdict_effect : ValidationResult → Transition
 verdict_effect found s v =
     then_do close_groups (verdict_told found (closes v.held || is_some v.hint)) s v
 
-abbrev pub verdict_asked : Transition
-verdict_asked s v = record { value = v; steps = help_steps v (verdict_reply s v) }
-
 -- a group is opened, and the helper is called
 abbrev pub group_and_verdict_effect : Transition
-group_and_verdict_effect = then_do open_group verdict_asked
+group_and_verdict_effect = then_do open_group
+    (λ s v. record { value = v; steps = help_steps v (verdict_reply s v) })
 
 -- the groups are closed as well
 abbrev pub validate_by : Option (Reply ValidationResult) → Transition
 validate_by None = no_effect
 validate_by (Some reply) =
-    then_do group_and_verdict_effect (verdict_effect (verdict_given reply.answer))
+    then_do group_and_verdict_effect (verdict_effect (unwrap_or reply.answer Incomplete))
 
 abbrev pub validate : Transition
 validate s v = validate_by (verdict_reply s v) s v

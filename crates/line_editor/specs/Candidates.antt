@@ -1,12 +1,11 @@
 -- What Tab makes of a line: its only candidate, one of several in turn, or a list of them.
-use Rattle.std.specs.Prelude.{ℕ, ◌+◌, ◌-◌, ◌==◌, ◌&&◌, nat_lt, min, Bool, true, false, if◌then◌else◌, List, [], ◌∷◌, ◌++◌, flat_map, take, length, codes, decimal, slice_get, is_some, Option, Some, None}
+use Rattle.std.specs.Prelude.{ℕ, ◌+◌, ◌-◌, ◌==◌, ◌&&◌, nat_lt, min, Bool, true, false, if◌then◌else◌, List, [], ◌∷◌, ◌++◌, flat_map, take, length, codes, decimal, slice_get, is_some, Option, Some, None, option_and_then}
 use Rattle.line_buffer.specs.Line.{Line}
 use Rattle.line_config.specs.declared.settings.CompletionType.{CompletionType}
 use Rattle.line_config.specs.declared.settings.CompletionType.TheVariants as completion_type
 use Rattle.line_help.specs.Completion.{Offered, Completion, unless_empty}
 use Rattle.line_help.specs.declared.history.search.SearchDirection.{SearchDirection}
 use Rattle.line_help.specs.declared.history.search.SearchDirection.TheVariants.{Forward, Reverse}
-use Rattle.line_keys.specs.Replies.{Reply}
 use Rattle.line_keys.specs.declared.command.Cmd.{Cmd}
 use Rattle.line_keys.specs.declared.command.CmdKind.TheVariants.{Other}
 use Rattle.line_editor.specs.Completing.{begins_word, common_text, word_completed, complete_effect_with, candidates_given, candidates_asked}
@@ -39,8 +38,7 @@ more_row limit count =
     if nat_lt limit count then codes "\n(" ++ (decimal (count - limit) ++ codes " more)") else []
 
 abbrev pub list_text : ℕ → List Offered → List ℕ
-list_text limit candidates =
-    rows_of (take limit candidates) ++ more_row limit (length candidates)
+list_text limit candidates = rows_of (take limit candidates) ++ more_row limit (length candidates)
 
 -- drawn below the line in place of the hint, which takes memory
 abbrev pub list_shown : ℕ → List Offered → Transition
@@ -69,13 +67,9 @@ cycle_at Forward at count = if nat_lt at count then at + 1 else 0
 cycle_at Reverse at count = if at == 0 then count else min at count - 1
 
 -- an empty candidate isn't put
-abbrev pub text_at : Option Offered → Option (List ℕ)
-text_at None = None
-text_at (Some o) = unless_empty o.replacement
-
 abbrev pub candidate_at : ℕ → Completion → Line → Option (List ℕ)
-candidate_at at found l =
-    if begins_word found.start l then text_at (slice_get found.candidates at) else None
+candidate_at at found l = if begins_word found.start l
+    then option_and_then (λ o. unless_empty o.replacement) (slice_get found.candidates at) else None
 
 -- put in place of the word; or the word as it was, and a beep
 abbrev pub turn_effect_with : ℕ → Option (List ℕ) → Transition
@@ -86,16 +80,14 @@ abbrev pub turn_effect : ℕ → Completion → Transition
 turn_effect at found s v = turn_effect_with found.start (candidate_at at found v.line) s v
 
 abbrev pub modal_after_turn : ℕ → Completion → Line → Modal → Modal
-modal_after_turn at found l x =
-    record x { candidate = at; put = is_some (candidate_at at found l) }
+modal_after_turn at found l x = record x { candidate = at; put = is_some (candidate_at at found l) }
 
 -- the first one of several
 abbrev pub cycle_begun : Completion → Transition
 cycle_begun found = then_do close_groups (turn_effect 0 found)
 
 abbrev pub cycle_first : Completion → Line → Modal → Modal
-cycle_first found l x =
-    record (modal_after_turn 0 found l x) { standing = Cycles; place = l.place }
+cycle_first found l x = record (modal_after_turn 0 found l x) { standing = Cycles; place = l.place }
 
 -- what was put is undone, and the cursor is where it was
 abbrev pub cycle_back : Modal → Transition
@@ -131,40 +123,32 @@ several_modal completion_type.Circular lists found l x = cycle_first found l x
 several_modal completion_type.List lists found l x =
     record x { standing = list_standing lists (common_text found l) }
 
-abbrev pub offer_effect_if : Bool → Bool → Modal → Completion → Transition
-offer_effect_if false lists x found = only_completed found
-offer_effect_if true lists x found = several x.completion_type lists x found
-
-abbrev pub modal_after_offer_if : Bool → Bool → Completion → Line → Modal → Modal
-modal_after_offer_if false lists found l x = modal_at_rest x
-modal_after_offer_if true lists found l x = several_modal x.completion_type lists found l x
-
 abbrev pub is_ambiguous : Completion → Line → Bool
 is_ambiguous found l = nat_lt 1 (length found.candidates) && begins_word found.start l
 
 abbrev pub offer_effect : Bool → Modal → Completion → Transition
-offer_effect lists x found s v = offer_effect_if (is_ambiguous found v.line) lists x found s v
+offer_effect lists x found s v =
+    if is_ambiguous found v.line then several x.completion_type lists x found s v
+    else only_completed found s v
 
 abbrev pub modal_after_offer : Bool → Completion → Line → Modal → Modal
-modal_after_offer lists found l x = modal_after_offer_if (is_ambiguous found l) lists found l x
+modal_after_offer lists found l x =
+    if is_ambiguous found l then several_modal x.completion_type lists found l x
+    else modal_at_rest x
 
 abbrev pub tab_effect : Bool → Modal → Completion → Transition
 tab_effect lists x found = then_do candidates_asked (offer_effect lists x found)
 
 -- without a helper a completion does nothing, as ever
-abbrev pub tab_by : Option (Reply Completion) → Bool → Modal → Cmd → Setting → Value → Meeting
-tab_by None lists x cmd s v = pass_meeting x cmd v
-tab_by (Some reply) lists x cmd s v = let found = candidates_given (Some reply) in
-    takes (tab_effect lists x found) (modal_after_offer lists found v.line x) s v
-
 abbrev pub tab : Bool → Modal → Cmd → Setting → Value → Meeting
-tab lists x cmd s v = tab_by (completion_reply s v) lists x cmd s v
-
-abbrev pub cycle_by : Option (Reply Completion) → SearchDirection → Modal → Cmd → Setting → Value
-    → Meeting
-cycle_by None dir x cmd s v = pass_meeting x cmd v
-cycle_by (Some reply) dir x cmd s v =
-    takes (cycle_effect dir x) (modal_after_ask dir x s (cycle_back x s v).value) s v
+tab lists x cmd s v =
+    let found = candidates_given (completion_reply s v) in
+    if is_some s.hooks
+    then takes (tab_effect lists x found) (modal_after_offer lists found v.line x) s v
+    else pass_meeting x cmd v
 
 abbrev pub cycle : SearchDirection → Modal → Cmd → Setting → Value → Meeting
-cycle dir x cmd s v = cycle_by (completion_reply s v) dir x cmd s v
+cycle dir x cmd s v =
+    if is_some s.hooks
+    then takes (cycle_effect dir x) (modal_after_ask dir x s (cycle_back x s v).value) s v
+    else pass_meeting x cmd v

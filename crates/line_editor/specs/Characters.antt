@@ -8,8 +8,7 @@ use Rattle.line_buffer.specs.Printable.{is_printable}
 -- None of these is a mark, a joiner, a part of a flag or a consonant that a mark before it takes
 -- in. These take one column: printable ASCII, Latin, Greek, Cyrillic and Armenian
 abbrev pub is_narrow : ℕ → Bool
-is_narrow c =
-    is_printable c || (is_in_range 0xA1 0xAC c || (is_in_range 0xAE 0x2FF c
+is_narrow c = is_printable c || (is_in_range 0xA1 0xAC c || (is_in_range 0xAE 0x2FF c
     || (is_in_range 0x370 0x482 c || is_in_range 0x48A 0x58F c)))
 
 -- these take two columns: kana, Chinese, Korean, their punctuation, and full-width letters
@@ -22,8 +21,7 @@ is_wide c =
 
 -- pictographs, without the tones of skin
 abbrev pub is_pictograph : ℕ → Bool
-is_pictograph c =
-    is_in_range 0x1F300 0x1F3FA c || (is_in_range 0x1F400 0x1F64F c
+is_pictograph c = is_in_range 0x1F300 0x1F3FA c || (is_in_range 0x1F400 0x1F64F c
     || (is_in_range 0x1F680 0x1F6FF c || is_in_range 0x1F900 0x1F9FF c))
 
 abbrev pub is_apart : ℕ → Bool

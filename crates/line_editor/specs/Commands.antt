@@ -7,8 +7,7 @@ use Rattle.line_config.specs.declared.errors.ReadlineError.{ReadlineError}
 use Rattle.line_config.specs.declared.errors.ReadlineError.TheVariants.{Interrupted, Eof, Memory}
 use Rattle.line_config.specs.declared.settings.EditMode.{EditMode}
 use Rattle.line_help.specs.declared.history.search.SearchDirection.TheVariants.{Forward, Reverse}
-use Rattle.line_keys.specs.PhraseScripts.{Input}
-use Rattle.line_keys.specs.Modes.{is_emacs, is_vi_command}
+use Rattle.line_keys.specs.PhraseScripts.{Input, is_emacs, is_vi_command}
 use Rattle.line_keys.specs.declared.command.Cmd.{Cmd}
 use Rattle.line_keys.specs.declared.command.Cmd.TheVariants.{AcceptLine, BeginningOfHistory, CapitalizeWord, ClearScreen, Complete, CompleteHint, Dedent, DowncaseWord, EndOfFile, EndOfHistory, HistorySearchBackward, HistorySearchForward, Indent, Insert, Interrupt, Kill, Move, NextHistory, Repaint, Overwrite, PreviousHistory, ReplaceChar, Replace, SelfInsert, TransposeChars, TransposeWords, Undo, UpcaseWord, ViYankTo, Yank, YankPop, LineUpOrPreviousHistory, LineDownOrNextHistory, Newline, AcceptOrInsertLine}
 use Rattle.line_keys.specs.declared.command.InputMode.{InputMode}
@@ -35,11 +34,7 @@ pub record Means : Type 0 where
   pub ring : Ring
 
 abbrev pub means_of : Input → Ring → Means
-means_of input r = record {
-  mode = input.mode;
-  input_mode = input.input_mode;
-  ring = r;
-}
+means_of input r = record { mode = input.mode; input_mode = input.input_mode; ring = r }
 
 abbrev pub in_vi_command : Means → Bool
 in_vi_command m = is_vi_command m.mode m.input_mode
@@ -109,11 +104,9 @@ ring_without_text (Replace movement text) v r = ring_without_kill movement r
 ring_without_text (ViYankTo movement) v r = r
 ring_without_text cmd v r = ring_after_command cmd v r
 
--- a command that fails leaves the ring that it makes, or, if memory ran out, the one without its
--- text
+-- a failed command leaves the ring that it makes or, if memory ran out, the one without its text
 abbrev pub CutRing : Cmd → Value → Ring → Ring → ReadlineError → Type 0
-CutRing cmd v old new e =
-    (new ≡ ring_after_command cmd v old)
+CutRing cmd v old new e = (new ≡ ring_after_command cmd v old)
     ⊎ ((e ≡ Memory) × (new ≡ ring_without_text cmd v old))
 
 -- an empty line ends the session; in Vi mode any other line is accepted

@@ -1,17 +1,16 @@
 -- Completion: the word before the cursor replaced by the common prefix of its candidates.
-use Rattle.std.specs.Prelude.{◌≡◌, ◌⊎◌, ⊤, ℕ, Bool, ◌-◌, ◌==◌, ◌&&◌, ◌||◌, not, nat_le, nat_lt, if◌then◌else◌, List, [], ◌∷◌, map, length, Option, Some, None}
-use Rattle.std.specs.Option.{option_map_or}
+use Rattle.std.specs.Prelude.{◌≡◌, ◌⊎◌, ⊤, ℕ, Bool, ◌-◌, ◌==◌, ◌&&◌, ◌||◌, not, nat_le, nat_lt, if◌then◌else◌, List, [], ◌∷◌, map, length, Option, Some, None, is_some, unwrap_or, option_and_then}
 use Rattle.line_buffer.specs.Insertions.{is_inside_char}
 use Rattle.line_buffer.specs.Line.{Line, with_replacement}
 use Rattle.line_buffer.specs.Replay.{replacement}
 use Rattle.line_config.specs.declared.errors.HookFault.{HookFault}
 use Rattle.line_config.specs.declared.errors.HookFault.TheVariants.{Memory}
-use Rattle.line_edits.specs.Written.{Written, after_edit, group_opened, in_group}
+use Rattle.line_edits.specs.Written.{Written, after_edit, group_opened, group_closed}
 use Rattle.line_help.specs.Completion.{longest_common_prefix, Offered, Completion, nothing_offered}
 use Rattle.line_keys.specs.Replies.{Reply, IsFaultOf}
-use Rattle.line_editor.specs.Drawing.{beep_effect, refresh_effect}
+use Rattle.line_editor.specs.Drawing.{beep_effect, refresh_effect, effect_if}
 use Rattle.line_editor.specs.Values.EditStep.{Takes}
-use Rattle.line_editor.specs.Values.{Value, EditStep, Transition, no_effect, then_do, value_with_edit, help_steps, completion_reply, update_reply}
+use Rattle.line_editor.specs.Values.{Value, EditStep, Transition, then_do, value_with_edit, help_steps, completion_reply, update_reply}
 
 -- candidates for the word from a start on, by what each offers
 abbrev pub completion_from : {C : Type 0} → (C → Offered) → ℕ → List C → Completion
@@ -24,15 +23,11 @@ completion_from offers start candidates =
 abbrev pub begins_word : ℕ → Line → Bool
 begins_word start l = nat_le start l.place && not (is_inside_char l.text start)
 
--- the common prefix of `count` candidates, if it is longer than the word or there is only one
--- candidate
-abbrev pub common_text_by : ℕ → ℕ → Option (List ℕ) → Option (List ℕ)
-common_text_by len count None = None
-common_text_by len count (Some text) =
-    if count == 1 || nat_lt len (length text) then Some text else None
-
+-- the common prefix, if it is longer than the word or there is only one candidate
 abbrev pub common_text_among : ℕ → List (List ℕ) → Option (List ℕ)
-common_text_among len texts = common_text_by len (length texts) (longest_common_prefix texts)
+common_text_among len texts = option_and_then
+    (λ text. if length texts == 1 || nat_lt len (length text) then Some text else None)
+    (longest_common_prefix texts)
 
 abbrev pub common_text : Completion → Line → Option (List ℕ)
 common_text found l =
@@ -44,12 +39,11 @@ common_text found l =
 
 -- the text from a start to the cursor replaced
 abbrev pub word_put : ℕ → List ℕ → Written → Written
-word_put start text w =
-    after_edit (replacement start w.line.place text w.line.text ∷ [])
+word_put start text w = after_edit (replacement start w.line.place text w.line.text ∷ [])
     (with_replacement start w.line.place text w.line) w
 
 abbrev pub word_replaced : ℕ → List ℕ → Written → Written
-word_replaced start text = in_group (word_put start text)
+word_replaced start text w = group_closed (word_put start text (group_opened w))
 
 -- a failed replacement: if the mark found no memory, all is as it was; otherwise the mark is set,
 -- and the completer failed
@@ -83,17 +77,13 @@ complete_effect found s v = complete_effect_with found.start (common_text found 
 -- the helper's candidates; none if it fails
 abbrev pub candidates_given : Option (Reply Completion) → Completion
 candidates_given None = nothing_offered
-candidates_given (Some reply) = option_map_or (λ found. found) reply.answer nothing_offered
+candidates_given (Some reply) = unwrap_or reply.answer nothing_offered
 
 -- the helper is called for them
 abbrev pub candidates_asked : Transition
 candidates_asked s v = record { value = v; steps = help_steps v (completion_reply s v) }
 
 -- without a helper nothing is done
-abbrev pub complete_if : Option (Reply Completion) → Transition
-complete_if None = no_effect
-complete_if (Some reply) = then_do candidates_asked
-    (complete_effect (candidates_given (Some reply)))
-
 abbrev pub complete : Transition
-complete s v = complete_if (completion_reply s v) s v
+complete s v = effect_if (is_some s.hooks)
+    (then_do candidates_asked (complete_effect (candidates_given (completion_reply s v)))) s v

@@ -34,8 +34,7 @@ pub record Since : Type 0 where
 
 -- that place, if no cluster lies over it in the line before the change
 abbrev pub since : Setting → ℕ → Value → Option Since
-since s from v =
-    if s.config.partial_redraw && begins_apart_at v.line.text from
+since s from v = if s.config.partial_redraw && begins_apart_at v.line.text from
     then Some (record { from = from; styles = told_styles from (line_spans s v) }) else None
 
 -- the place up to which the line surely keeps its styles, too
@@ -80,10 +79,7 @@ hint_asked s v = record { value = with_hint s v; steps = help_steps v (hint_repl
 
 -- and for highlighted characters
 abbrev pub ask_anew_effect : Transition
-ask_anew_effect s v = record {
-  value = with_mark Other s (with_hint s v);
-  steps = help_steps v (hint_reply s v);
-}
+ask_anew_effect s v = record (hint_asked s v) { value = with_mark Other s (with_hint s v) }
 
 abbrev pub refresh_effect : Transition
 refresh_effect = then_do ask_anew_effect repaint_effect
@@ -92,13 +88,9 @@ refresh_effect = then_do ask_anew_effect repaint_effect
 abbrev pub refresh_effect_since : Option Since → Transition
 refresh_effect_since from = then_do ask_anew_effect (draw_effect_since from)
 
--- if something changed
-abbrev pub refresh_effect_since_if : Option Since → Bool → Transition
-refresh_effect_since_if from changes s v =
-    if changes then refresh_effect_since from s v else no_effect s v
-
-abbrev pub refresh_effect_if : Bool → Transition
-refresh_effect_if changes s v = if changes then refresh_effect s v else no_effect s v
+-- an effect if a test holds, and none otherwise
+abbrev pub effect_if : Bool → Transition → Transition
+effect_if holds edit s v = if holds then edit s v else no_effect s v
 
 -- the same after another prompt
 abbrev pub refresh_effect_behind : List ℕ → Transition
@@ -108,11 +100,9 @@ refresh_effect_behind prompt = then_do ask_anew_effect (draw_effect_behind promp
 abbrev pub message_effect : Option (List ℕ) → CmdKind → Transition
 message_effect text kind s v = draw_effect_with text s (with_mark kind s (without_hint v))
 
--- the cursor moved; if a character is highlighted, or was, the line is drawn without hint and
--- message
+-- the cursor moved; the line is drawn, without hint or message, if a character was or is marked
 abbrev pub cursor_moved : CmdKind → Transition
-cursor_moved kind s v =
-    draw_effect (if v.marked || (with_mark kind s v).marked
+cursor_moved kind s v = draw_effect (if v.marked || (with_mark kind s v).marked
     then Drawn s.prompt true v.line.text v.line.place None else Moved v.line.text v.line.place) s
     (with_mark kind s v)
 

@@ -4,25 +4,18 @@ use Rattle.std.specs.List.{FoldsTo}
 use Rattle.line_buffer.specs.declared.layout.Layout.{Layout}
 use Rattle.line_config.specs.declared.errors.ReadlineError.{ReadlineError}
 use Rattle.line_config.specs.declared.errors.ReadlineError.TheVariants.{Display, Helper, Memory}
-use Rattle.line_edits.specs.WriteSteps.{CutEdit}
+use Rattle.line_edits.specs.WriteSteps.{CutAlong}
 use Rattle.line_record.specs.Items.{Item, CutUndo, DoneStand, items_with_texts, last_changes}
 use Rattle.line_editor.specs.RenderCalls.{Canvas, Ruler, MadeIn, CutCalls}
 use Rattle.line_editor.specs.RenderCalls.Call.{Help}
-use Rattle.line_editor.specs.Redraws.{RedrawCalls, calls_of_redraw, nothing_asked, then_asked}
+use Rattle.line_editor.specs.Redraws.{RedrawCalls, calls_of_redraw, nothing_asked, one_call, then_asked}
 use Rattle.line_editor.specs.Values.{Value, EditStep, line_and_record_of, shown_marks}
 use Rattle.line_editor.specs.Values.EditStep.{Draws, Helped, Edits, TakesBack, Takes}
 
--- ---- the calls of steps
-
-abbrev pub help_asked : Layout → Bool → RedrawCalls
-help_asked l fails = record { calls = Help fails ∷ []; layout = l }
-
 abbrev pub one : Ruler → Layout → EditStep → RedrawCalls
 one r l (Draws v marks x) = calls_of_redraw r (shown_marks v marks) l x
-one r l (Helped v fails takes) = help_asked l fails
-one r l (Edits v edit) = nothing_asked l
-one r l (TakesBack v count) = nothing_asked l
-one r l (Takes v) = nothing_asked l
+one r l (Helped v fails takes) = one_call (Help fails) l
+one r l step = nothing_asked l
 
 abbrev pub calls_of_steps : Ruler → Layout → List EditStep → RedrawCalls
 calls_of_steps r l [] = nothing_asked l
@@ -59,32 +52,27 @@ pub record UndonePartly (count : ℕ) (v w : Value) : Type 0 where
 
 -- a step is made by its calls
 abbrev pub StepMade : {R : Type 0} → Canvas R → Ruler → Surface R → EditStep → Surface R → Type 0
-StepMade canvas r s step t =
-    FoldsTo (MadeIn canvas) s.out (one r s.layout step).calls t.out
+StepMade canvas r s step t = FoldsTo (MadeIn canvas) s.out (one r s.layout step).calls t.out
     × (t.layout ≡ (one r s.layout step).layout)
 
 -- a step that fails leaves the value as it says, and the stored layout. The display fails only in
 -- drawings, and has their first calls. Memory runs out only in edits, and in steps that take some
 abbrev pub CutStep : {R : Type 0} → Canvas R → Ruler → Surface R → EditStep → ReadlineError → Value
     → Surface R → Type 0
-CutStep canvas r s (Draws v marks x) fault value t =
-    (fault ≡ Display) × CutCalls canvas
-    (calls_of_redraw r (shown_marks v marks) s.layout x).calls s.out
-    t.out
+CutStep canvas r s (Draws v marks x) fault value t = (fault ≡ Display)
+    × CutCalls canvas (calls_of_redraw r (shown_marks v marks) s.layout x).calls s.out t.out
     × (t.layout ≡ s.layout) × (value ≡ v)
 CutStep canvas r s (Helped v fails takes) fault value t =
     CutHelp fails takes fault × (t ≡ s) × (value ≡ v)
-CutStep canvas r s (Edits v edit) fault value t =
-    (fault ≡ Memory) × (t ≡ s) × SameBeside v value
-    × CutEdit edit (line_and_record_of v) (line_and_record_of value)
+CutStep canvas r s (Edits v edit) fault value t = (fault ≡ Memory) × (t ≡ s) × SameBeside v value
+    × CutAlong edit.steps (line_and_record_of v) (line_and_record_of value)
 CutStep canvas r s (TakesBack v count) fault value t =
     (fault ≡ Memory) × (t ≡ s) × UndonePartly count v value
 CutStep canvas r s (Takes v) fault value t = (fault ≡ Memory) × (t ≡ s) × (value ≡ v)
 
 -- the first of these steps were made, and this fault cut the next one, which left this value
 unfoldable pub CutEditSteps : {R : Type 0} → Canvas R → Ruler → List EditStep → Surface R
-    → ReadlineError
-    → Value → Surface R → Type 0
+    → ReadlineError → Value → Surface R → Type 0
 CutEditSteps canvas r [] old fault value new = ⊥
 CutEditSteps {R} canvas r (step ∷ steps) old fault value new =
     ((between : Surface R) × StepMade canvas r old step between

@@ -47,8 +47,7 @@ come_back_effect s v = then_do restore_effect refresh_effect s (at_place (length
 
 -- an entry before the current one
 abbrev pub recall_earlier_effect : ℕ → Transition
-recall_earlier_effect index s v =
-    then_do leave_effect (recall index (entry_at index s.entries)) s v
+recall_earlier_effect index s v = then_do leave_effect (recall index (entry_at index s.entries)) s v
 
 abbrev pub previous_entry : Transition
 previous_entry s v =

@@ -7,12 +7,12 @@ use Rattle.line_buffer.specs.Line.{Line}
 use Rattle.line_edits.specs.Edits.{char_steps, text_steps, replace_group_if_any, overwrite_steps, by}
 use Rattle.line_buffer.specs.Printable.{is_printable, is_plain, is_typed_at_end}
 use Rattle.line_editor.specs.Characters.{stands_apart}
-use Rattle.line_editor.specs.Drawing.{Since, since, redraw_since, ask_anew_effect, refresh_effect_since, refresh_effect_since_if}
+use Rattle.line_editor.specs.Drawing.{Since, since, redraw_since, ask_anew_effect, refresh_effect_since, effect_if}
 use Rattle.line_editor.specs.Redraws.{Redraw}
 use Rattle.line_editor.specs.Redraws.Redraw.{Typed, Appended, PutIn}
 use Rattle.line_editor.specs.Values.{Value, Setting, Transition, no_effect, then_do, draw_effect, value_with_edit, edit_effect}
 use Rattle.line_editor.specs.declared.way.Way.{Way}
-use Rattle.line_editor.specs.declared.way.Way.TheVariants.{AtEnd, Alone, Back, Inside, Whole}
+use Rattle.line_editor.specs.declared.way.Way.TheVariants.{AtEnd, Alone, Inside, Whole}
 
 -- neither a hint nor a highlighted character
 abbrev pub is_bare : Value → Bool
@@ -21,8 +21,7 @@ is_bare v = not (is_some v.hint) && not v.marked
 -- whether a character's byte alone may show it: a single printable character, typed at the end of a
 -- line that is bare and plain, or has tabs if these are drawn
 abbrev pub may_be_typed : Bool → ℕ → ℕ → Value → Bool
-may_be_typed tabs c n v =
-    (n == 1) && (is_bare v && is_typed_at_end tabs c v.line.text v.line.place)
+may_be_typed tabs c n v = (n == 1) && (is_bare v && is_typed_at_end tabs c v.line.text v.line.place)
 
 -- whether its own drawing alone may show it: a single character, typed apart from a bare line at
 -- whose end the cursor is, if lines may be drawn in part
@@ -38,8 +37,7 @@ has_printable_rest l = list_all is_printable (drop l.place l.text)
 -- whether moving the rest of the line may show it: a single printable character, put before the end
 -- of a line that is bare and plain, in its last row, if lines may be drawn in part
 abbrev pub may_be_put_in : Bool → ℕ → ℕ → Value → Bool
-may_be_put_in partial c n v =
-    partial && ((n == 1) && (is_bare v && (is_printable c
+may_be_put_in partial c n v = partial && ((n == 1) && (is_bare v && (is_printable c
     && (nat_lt v.line.place (length v.line.text)
     && (is_plain v.line.text && has_printable_rest v.line)))))
 
@@ -47,8 +45,7 @@ abbrev pub insertion_way : Setting → ℕ → ℕ → Value → Way
 insertion_way s c n v =
     if may_be_appended s.config.partial_redraw c n v then Alone
     else if may_be_typed (is_some s.tabs) c n v then AtEnd
-    else if may_be_put_in s.config.partial_redraw c n v then Inside
-    else Whole
+    else if may_be_put_in s.config.partial_redraw c n v then Inside else Whole
 
 -- the way in a line that is still bare, or not
 abbrev pub way_if_bare : Way → Value → Way
@@ -58,9 +55,8 @@ way_if_bare way v = if is_bare v then way else Whole
 abbrev pub put_redraw : Way → ℕ → Option Since → Setting → Value → Redraw
 put_redraw AtEnd c from s v = Typed s.prompt c v.line.text v.line.place
 put_redraw Alone c from s v = Appended s.prompt c v.line.text v.line.place
-put_redraw (Back d) c from s v = redraw_since from s v
 put_redraw Inside c from s v = PutIn s.prompt c v.line.text v.line.place
-put_redraw Whole c from s v = redraw_since from s v
+put_redraw way c from s v = redraw_since from s v
 
 abbrev pub show_char_effect : ℕ → Way → Option Since → Transition
 show_char_effect c way from s v = draw_effect (put_redraw (way_if_bare way v) c from s v) s v
@@ -80,16 +76,15 @@ insert_char c n s v =
 abbrev pub insert_text : List ℕ → Transition
 insert_text text s v =
     if length text == 0 then no_effect s v
-    else then_do (edit_effect (text_steps text))
-    (refresh_effect_since (since s v.line.place v)) s v
+    else then_do (edit_effect (text_steps text)) (refresh_effect_since (since s v.line.place v)) s v
 
 -- drawn if there is a cluster after the cursor
 abbrev pub replace_char : ℕ → ℕ → Transition
-replace_char c n s v =
-    then_do (edit_effect (replace_group_if_any c n))
-    (refresh_effect_since_if (since s v.line.place v) (is_some (place_forward n v.line))) s v
+replace_char c n s v = then_do (edit_effect (replace_group_if_any c n))
+    (effect_if (is_some (place_forward n v.line))
+    (refresh_effect_since (since s v.line.place v))) s v
 
 abbrev pub overwrite_char : ℕ → Transition
-overwrite_char c s v =
-    then_do (edit_effect (overwrite_steps c))
-    (refresh_effect_since_if (since s v.line.place v) (is_some (place_forward 1 v.line))) s v
+overwrite_char c s v = then_do (edit_effect (overwrite_steps c))
+    (effect_if (is_some (place_forward 1 v.line))
+    (refresh_effect_since (since s v.line.place v))) s v

@@ -1,27 +1,25 @@
 -- Kills, and copies into the ring.
-use Rattle.std.specs.Prelude.{◌≡◌, ◌⊎◌, ℕ, ◌-◌, ◌&&◌, ◌==◌, nat_lt, if◌then◌else◌, Bool, List, length, take, drop, Option, Some, None, is_some, option_map, chars, encode_utf8}
+use Rattle.std.specs.Prelude.{ℕ, ◌-◌, ◌&&◌, ◌==◌, nat_lt, if◌then◌else◌, Bool, List, length, take, drop, Option, Some, None, is_some, chars, encode_utf8}
 use Rattle.std.specs.List.{list_all, last_or}
+use Rattle.std.specs.Option.{option_map_or}
 use Rattle.std.specs.Str.{is_utf8}
 use Rattle.line_buffer.specs.Line.{Line}
 use Rattle.line_buffer.specs.Range.{range_of, copied_range, span_text, kill_events}
 use Rattle.line_buffer.specs.declared.types.Mode.TheVariants.{Append}
 use Rattle.line_buffer.specs.declared.types.Movement.{Movement}
-use Rattle.line_config.specs.declared.errors.ReadlineError.{ReadlineError}
-use Rattle.line_config.specs.declared.errors.ReadlineError.TheVariants.{Memory}
 use Rattle.line_record.specs.Ring.{Ring, ring_all, ring_with_kill}
-use Rattle.line_edits.specs.Edits.{kill_steps, ring_without_kill, by}
+use Rattle.line_edits.specs.Edits.{kill_steps, by}
 use Rattle.line_buffer.specs.Printable.{is_printable, is_plain, at_plain_end}
 use Rattle.line_editor.specs.Characters.{stands_apart}
-use Rattle.line_editor.specs.Drawing.{Since, since, redraw_since, ask_anew_effect}
+use Rattle.line_editor.specs.Drawing.{Since, since, redraw_since, ask_anew_effect, effect_if}
 use Rattle.line_editor.specs.Inserting.{is_bare, has_printable_rest, way_if_bare, insert_text}
 use Rattle.line_editor.specs.Redraws.{Redraw}
 use Rattle.line_editor.specs.Redraws.Redraw.{Taken, Erased, TakenOut}
 use Rattle.line_editor.specs.Values.{Value, Setting, Transition, no_effect, memory_effect, then_do, draw_effect, value_with_edit, edit_effect}
 use Rattle.line_editor.specs.declared.way.Way.{Way}
-use Rattle.line_editor.specs.declared.way.Way.TheVariants.{AtEnd, Alone, Back, Inside, Whole}
+use Rattle.line_editor.specs.declared.way.Way.TheVariants.{AtEnd, Back, Inside, Whole}
 
--- whether erasing the rest of the row may show a kill: printable characters, deleted from a bare
--- line
+-- whether erasing the rest of the row may show a kill: printable characters of a bare line
 abbrev pub may_be_taken : List ℕ → Value → Bool
 may_be_taken killed v = is_bare v && list_all is_printable killed
 
@@ -37,8 +35,7 @@ text_gone before l = take (length before.text - length l.text) (drop l.place bef
 
 -- some text is gone, and some is left after the cursor: printable characters
 abbrev pub is_cut_inside : Line → Line → Bool
-is_cut_inside before l =
-    nat_lt (length l.text) (length before.text)
+is_cut_inside before l = nat_lt (length l.text) (length before.text)
     && (nat_lt l.place (length l.text) && has_printable_rest l)
 
 -- the last character of a bare line, if lines may be drawn in part
@@ -63,8 +60,7 @@ kill_way s before l =
     if may_be_taken (drop (length l.text) before.line.text) before && at_plain_end l.text l.place
     then AtEnd
     else if may_be_taken_out s.config.partial_redraw (text_gone before.line l) before
-    && is_cut_inside before.line l
-    then Inside
+    && is_cut_inside before.line l then Inside
     else way_erased (length before.line.text - length l.text) l
     (last_of_bare s.config.partial_redraw before)
 
@@ -73,9 +69,8 @@ abbrev pub taken_redraw : Way → ℕ → Option Since → Setting → Value →
 taken_redraw AtEnd count from s v =
     Taken s.prompt count s.config.partial_redraw v.line.text v.line.place
 taken_redraw Inside count from s v = TakenOut s.prompt count v.line.text v.line.place
-taken_redraw Alone count from s v = redraw_since from s v
 taken_redraw (Back c) count from s v = Erased s.prompt c v.line.text v.line.place
-taken_redraw Whole count from s v = redraw_since from s v
+taken_redraw way count from s v = redraw_since from s v
 
 abbrev pub show_taken_effect : ℕ → Way → Option Since → Transition
 show_taken_effect count way from s v =
@@ -110,21 +105,10 @@ replace movement text = then_do (kill_effect movement) (insert_text_if text)
 abbrev pub ring_with_kill_of : Movement → Value → Ring → Ring
 ring_with_kill_of movement v r = ring_all (kill_events movement v.line) r
 
--- a kill that fails leaves the ring with the killed text, or without it if an allocation failed
-abbrev pub LeavesRing : Movement → Value → Ring → Ring → ReadlineError → Type 0
-LeavesRing movement v old new fault =
-    (new ≡ ring_with_kill_of movement v old)
-    ⊎ ((fault ≡ Memory) × (new ≡ ring_without_kill movement old))
-
-abbrev pub ring_with_copy_by : Option (List ℕ) → Ring → Ring
-ring_with_copy_by None r = r
-ring_with_copy_by (Some text) r = ring_with_kill text Append r
-
 -- a copy takes memory; nothing is drawn
 abbrev pub copy_effect : Movement → Transition
-copy_effect movement s v =
-    if is_some (copied_range movement v.line) then memory_effect s v else no_effect s v
+copy_effect movement s v = effect_if (is_some (copied_range movement v.line)) memory_effect s v
 
 abbrev pub ring_with_copy : Movement → Value → Ring → Ring
-ring_with_copy movement v r =
-    ring_with_copy_by (option_map (λ span. span_text span v.line) (copied_range movement v.line)) r
+ring_with_copy movement v r = option_map_or
+    (λ span. ring_with_kill (span_text span v.line) Append r) (copied_range movement v.line) r

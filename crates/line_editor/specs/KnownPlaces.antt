@@ -6,8 +6,7 @@ use Rattle.line_buffer.specs.declared.layout.Layout.{Layout}
 use Rattle.line_buffer.specs.declared.layout.Position.{Position}
 use Rattle.line_editor.specs.RenderCalls.{Ruler}
 
--- the place is in the text, and the drawing of the text before it, measured from a start, ends
--- there
+-- the place is in the text, and the drawing of the text before it, from a start on, ends there
 pub record IsKnown (measure : List ℕ → Position → Position) (start : Position) (text : List ℕ)
     (known : Option (ℕ × Position)) : Type 0 where
   pub inside : ForSome known (λ k. k.0 ≤ length text)

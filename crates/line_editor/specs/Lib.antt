@@ -5,7 +5,6 @@ pub mod Candidates
 pub mod Characters
 pub mod Commands
 pub mod Completing
-pub mod LineEndings
 pub mod Drawing
 pub mod Hinting
 pub mod Inserting

@@ -6,16 +6,15 @@ use Rattle.script.specs.Scripts.{Script, Ends, Asks, World, then}
 use Rattle.line_config.specs.declared.errors.ReadlineError.{ReadlineError}
 use Rattle.line_config.specs.declared.errors.ReadlineError.TheVariants.{Memory}
 use Rattle.line_keys.specs.CustomBindings.{Custom}
-use Rattle.line_keys.specs.Coming.{Coming, coming_after_error}
-use Rattle.line_keys.specs.KeyFeeds.{IsReadFault, item_at, behind}
-use Rattle.line_keys.specs.PhraseScripts.{Input, KeyAsk, Answer, KeyScript, steps, Needs, Shows, Reads, Becomes, Refuses}
+use Rattle.line_keys.specs.KeyFeeds.{IsReadFault, item_at, behind, Coming, coming_after_error}
 use Rattle.line_keys.specs.Refreshing.{Shown}
+use Rattle.line_keys.specs.PhraseScripts.{Input, KeyAsk, Answer, KeyScript, steps, Needs, Shows, Reads, Becomes, Refuses}
 use Rattle.line_keys.specs.declared.command.Cmd.{Cmd}
 use Rattle.line_record.specs.Ring.{Ring}
 use Rattle.line_editor.specs.Accepting.{submit_effect}
 use Rattle.line_editor.specs.Asks.{shown_in, ask_effect}
 use Rattle.line_editor.specs.RenderCalls.{Canvas, Ruler, MadeIn}
-use Rattle.line_editor.specs.Commands.{Means, means_of, effect, ring_after_command, CutRing, outcome}
+use Rattle.line_editor.specs.Commands.{means_of, effect, ring_after_command, CutRing, outcome}
 use Rattle.line_editor.specs.Drawing.{refresh_effect}
 use Rattle.line_editor.specs.ModalCommands.{meeting, meeting_effect}
 use Rattle.line_editor.specs.Modal.{Modal}
@@ -25,10 +24,25 @@ use Rattle.line_editor.specs.Values.{Value, Setting, EditStep, Effect, Transitio
 use Rattle.line_editor.specs.declared.commands.Status.{Status}
 use Rattle.line_editor.specs.declared.commands.Status.TheVariants.{Proceed, Submit}
 
--- the state in which a turn begins
+-- the state of a line, passed on from request to request
+pub record LineState : Type 0 where
+  pub value : Value
+  pub input : Input
+  pub ring : Ring
+  pub modal : Modal
+  pub coming : Coming
+
+abbrev pub line_state : Value → Input → Ring → Modal → Coming → LineState
+line_state value input ring modal coming =
+    record { value = value; input = input; ring = ring; modal = modal; coming = coming }
+
+-- what a turn begins on
 pub record TurnStart : Type 0 where
   pub input : Input
   pub shown : Shown
+
+abbrev pub turn_start : LineState → TurnStart
+turn_start k = record { input = k.input; shown = shown_in k.value }
 
 pub data LineAsk : Type 0 where
   -- a turn begins; nothing is made
@@ -92,32 +106,13 @@ line_script n custom = Asks (Makes line_begun) (λ v. turns_script n custom)
 
 -- ---- the meaning of each request
 
--- what is passed on from request to request
-pub record LineState : Type 0 where
-  pub value : Value
-  pub input : Input
-  pub ring : Ring
-  pub modal : Modal
-  pub coming : Coming
-
-abbrev pub line_state : Value → Input → Ring → Modal → Coming → LineState
-line_state value input ring modal coming =
-    record { value = value; input = input; ring = ring; modal = modal; coming = coming }
-
-abbrev pub turn_start : LineState → TurnStart
-turn_start k = record { input = k.input; shown = shown_in k.value }
-
 module _ (s : Setting) where
-  -- most commands end a run of kills
-  abbrev pub means_at : LineState → Cmd → Means
-  means_at k cmd = means_of k.input (ring_after_reset cmd k.ring)
-
   -- the edit that it makes
   abbrev pub effect_at : LineState → LineAsk → Effect
   effect_at k (Keys Needs) = memory_effect s k.value
   effect_at k (Keys (Shows ask)) = ask_effect ask s k.value
   effect_at k (Meets cmd) = meeting_effect k.modal cmd s k.value
-  effect_at k (Obeys cmd) = effect (means_at k cmd) cmd s k.value
+  effect_at k (Obeys cmd) = effect (means_of k.input (ring_after_reset cmd k.ring)) cmd s k.value
   effect_at k (Makes edit) = edit s k.value
   effect_at k ask = no_effect s k.value
 
@@ -130,22 +125,17 @@ module _ (s : Setting) where
   answer_at k (Keys (Becomes input)) = Ok tt
   answer_at k (Keys (Refuses why)) = Err why
   answer_at k (Meets cmd) = Ok (meeting k.modal cmd s k.value).next
-  answer_at k (Obeys cmd) = outcome (means_at k cmd) cmd s k.value
+  answer_at k (Obeys cmd) = outcome (means_of k.input (ring_after_reset cmd k.ring)) cmd s k.value
   answer_at k (Makes edit) = Ok (edit s k.value).value
 
   -- what it leaves
   abbrev pub left_at : LineState → LineAsk → LineState
-  left_at k (Keys (Reads item)) =
-      record k { coming = behind item k.coming }
+  left_at k (Keys (Reads item)) = record k { coming = behind item k.coming }
   left_at k (Keys (Becomes input)) = record k { input = input }
-  left_at k (Meets cmd) = record k {
-    value = (effect_at k (Meets cmd)).value;
-    modal = (meeting k.modal cmd s k.value).modal;
-  }
-  left_at k (Obeys cmd) = record k {
-    value = (effect_at k (Obeys cmd)).value;
-    ring = ring_after_command cmd k.value (ring_after_reset cmd k.ring);
-  }
+  left_at k (Meets cmd) = let m = meeting k.modal cmd s k.value in
+      record k { value = m.effect.value; modal = m.modal }
+  left_at k (Obeys cmd) = let ring = ring_after_command cmd k.value (ring_after_reset cmd k.ring) in
+      record k { value = (effect_at k (Obeys cmd)).value; ring = ring }
   left_at k ask = record k { value = (effect_at k ask).value }
 
   -- the steps of some requests, in order
@@ -169,12 +159,10 @@ module _ (s : Setting) where
 
 -- ---- where a fault stops it
 
--- what a fault leaves: the value, what stands between commands, and the ring of a command, as far
--- as they came
+-- what a fault leaves of the value, of what stands between commands, and of the ring of a command
 abbrev pub CutLineAsk : LineAsk → LineState → ReadlineError → LineState → Type 0
 CutLineAsk (Meets cmd) k e l = l ≡ record k { value = l.value; modal = l.modal }
-CutLineAsk (Obeys cmd) k e l =
-    (l ≡ record k { value = l.value; ring = l.ring })
+CutLineAsk (Obeys cmd) k e l = (l ≡ record k { value = l.value; ring = l.ring })
     × CutRing cmd k.value (ring_after_reset cmd k.ring) l.ring e
 CutLineAsk ask k e l = l ≡ record k { value = l.value }
 
@@ -202,8 +190,7 @@ module _ {R : Type 0} (canvas : Canvas R) (r : Ruler) (s : Setting) where
   -- the edit was made whole, and the answer is its own
   abbrev pub Answered : LineStage R → (ask : LineAsk) → Result (LineAnswer ask) ReadlineError
       → LineStage R → Type 0
-  Answered x ask result y =
-      (answer_at s x.kept ask ≡ result) × (y.kept ≡ left_at s x.kept ask)
+  Answered x ask result y = (answer_at s x.kept ask ≡ result) × (y.kept ≡ left_at s x.kept ask)
       × DrawnBy canvas r (effect_at s x.kept ask).steps x.drawn y.drawn
 
   -- a fault stopped the edit, or a read, after which every read fails

@@ -1,5 +1,5 @@
 -- What stands between the commands of a line, and what it makes of one before it is done.
-use Rattle.std.specs.Prelude.{ℕ, Bool, true, false, List, [], Result, Ok, Err, string_bytes}
+use Rattle.std.specs.Prelude.{ℕ, Bool, true, false, List, [], string_bytes}
 use Rattle.line_config.specs.declared.config.Config.{Config}
 use Rattle.line_config.specs.declared.settings.CompletionType.{CompletionType}
 use Rattle.line_help.specs.declared.history.search.SearchDirection.{SearchDirection}
@@ -11,7 +11,7 @@ use Rattle.line_editor.specs.declared.modal_state.ModalState.{ModalState}
 use Rattle.line_editor.specs.declared.modal_state.Next.{Next}
 use Rattle.line_editor.specs.declared.modal_state.Next.TheVariants.{Nothing, Same, Earlier, Later, Own}
 use Rattle.line_editor.specs.declared.modal_state.Standing.{Standing}
-use Rattle.line_editor.specs.declared.modal_state.Standing.TheVariants.{Off, Rests, Searches}
+use Rattle.line_editor.specs.declared.modal_state.Standing.TheVariants.{Off, Rests}
 use Rattle.line_editor.specs.declared.modal_state.Wish.{Wish}
 use Rattle.line_editor.specs.declared.modal_state.Wish.TheVariants.{Search, Up, Down, Tab, TabBack, Leave, Again, Other}
 
@@ -85,11 +85,6 @@ is_at_rest Off = true
 is_at_rest Rests = true
 is_at_rest standing = false
 
--- the session's own prompt is before the line
-abbrev pub shows_own : Standing → Bool
-shows_own Searches = false
-shows_own standing = true
-
 -- ---- a command before it is done
 
 -- what is made before it is done, what stands then, and which command is done: none, if what stands
@@ -122,14 +117,9 @@ wish_of Abort = Leave
 wish_of (SearchAgain way) = Again way
 wish_of cmd = Other
 
-abbrev pub next_of : Next → Cmd → Cmd
-next_of Nothing cmd = Unknown
-next_of Same cmd = cmd
-next_of Earlier cmd = HistorySearchBackward
-next_of Later cmd = HistorySearchForward
-next_of Own cmd = EndOfHistory
-
--- the command to be done, if the call succeeded; its error, if it failed
-abbrev pub answer_or_error : {A E : Type 0} → Result A E → Cmd → Result Cmd E
-answer_or_error (Ok x) cmd = Ok cmd
-answer_or_error (Err e) cmd = Err e
+abbrev pub next_of : Cmd → Next → Cmd
+next_of cmd Nothing = Unknown
+next_of cmd Same = cmd
+next_of cmd Earlier = HistorySearchBackward
+next_of cmd Later = HistorySearchForward
+next_of cmd Own = EndOfHistory

@@ -4,7 +4,7 @@ use Rattle.line_help.specs.declared.history.search.SearchDirection.TheVariants.{
 use Rattle.line_keys.specs.declared.command.Cmd.{Cmd}
 use Rattle.line_editor.specs.Candidates.{tab, cycle}
 use Rattle.line_editor.specs.Drawing.{refresh_effect}
-use Rattle.line_editor.specs.Modal.{Modal, modal_at_rest, Meeting, pass_meeting, takes, wish_of}
+use Rattle.line_editor.specs.Modal.{Modal, modal_at_rest, Meeting, pass_meeting, takes, goes, wish_of}
 use Rattle.line_editor.specs.Prefixes.{is_prefix, is_own, rises, rises_if, falls}
 use Rattle.line_editor.specs.Searching.{search_prompt, give_up_effect, search_start_if, looks_typed, looks_erased, looks_on, search_again, act_of}
 use Rattle.line_editor.specs.Sights.{Sight, sight_of, sight_with}
@@ -37,11 +37,8 @@ meeting_after_tab wish x cmd s v = meeting_at_rest wish (modal_at_rest x) cmd s 
 
 -- an edit, and then what is made of the command
 abbrev pub then_meets : Transition → (Setting → Value → Meeting) → Setting → Value → Meeting
-then_meets first met s v = let m = met s (first s v).value in record {
-  effect = then_do first (λ a w. (met a w).effect) s v;
-  modal = m.modal;
-  next = m.next;
-}
+then_meets first met s v = let m = met s (first s v).value in
+    goes (then_do first (λ a w. (met a w).effect)) m.modal m.next s v
 
 -- the line is drawn anew behind its own prompt, and the command is met as at rest
 abbrev pub meeting_anew : Wish → Modal → Cmd → Setting → Value → Meeting
@@ -83,10 +80,14 @@ meeting x cmd s v = meeting_in x.standing x cmd s v
 abbrev pub meeting_effect : Modal → Cmd → Transition
 meeting_effect x cmd s v = (meeting x cmd s v).effect
 
+-- what is to be seen of a value behind another prompt than the session's
+abbrev pub sight_behind : List ℕ → Setting → Value → Option (List ℕ) → Sight
+sight_behind prompt s v info =
+    sight_with (shown_marks v s.marks) false prompt v.line.text v.line.place info
+
 -- a search shows its prompt in place of the line's
 abbrev pub sight_in_mode : Standing → Modal → Setting → Value → Option (List ℕ) → Sight
-sight_in_mode Searches x s v info =
-    sight_with (shown_marks v s.marks) false (search_prompt x) v.line.text v.line.place info
+sight_in_mode Searches x s v info = sight_behind (search_prompt x) s v info
 sight_in_mode standing x s v info = sight_of s v info
 
 abbrev pub modal_seen : Modal → Setting → Value → Option (List ℕ) → Sight
@@ -94,6 +95,5 @@ modal_seen x s v info = sight_in_mode x.standing x s v info
 
 -- with the setting off each command is done as it comes
 abbrev pub OffPasses : Type 0
-OffPasses =
-    (x : Modal) (cmd : Cmd) (s : Setting) (v : Value) → x.standing ≡ Off
+OffPasses = (x : Modal) (cmd : Cmd) (s : Setting) (v : Value) → x.standing ≡ Off
     → meeting x cmd s v ≡ pass_meeting x cmd v

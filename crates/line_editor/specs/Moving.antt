@@ -67,8 +67,7 @@ move_buffer_start s v =
     cursor_moved_if MoveCursor (not (v.line.place == 0)) (record v.line { place = 0 }) s v
 
 abbrev pub move_buffer_end : CmdKind → Transition
-move_buffer_end kind s v =
-    cursor_moved_if kind (not (v.line.place == length v.line.text))
+move_buffer_end kind s v = cursor_moved_if kind (not (v.line.place == length v.line.text))
     (record v.line { place = length v.line.text }) s v
 
 -- to the row's start, and if the text begins with whitespace from there to the next word

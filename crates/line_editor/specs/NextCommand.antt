@@ -5,7 +5,7 @@ use Rattle.line_keys.specs.declared.command.Cmd.{Cmd}
 use Rattle.line_keys.specs.declared.command.Cmd.TheVariants.{Replace}
 use Rattle.line_keys.specs.Commands.{flags_of}
 use Rattle.line_keys.specs.CustomBindings.{Custom}
-use Rattle.line_keys.specs.NextPhrase.{phrase}
+use Rattle.line_keys.specs.InputStates.{phrase}
 use Rattle.line_keys.specs.PhraseScripts.{Input, PhrasePart, answer_part, show_then, and_then}
 use Rattle.line_keys.specs.Refreshing.{Shown}
 use Rattle.line_keys.specs.Refreshing.Ask.{DoingInsert}

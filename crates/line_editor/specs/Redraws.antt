@@ -39,13 +39,18 @@ pub data Redraw : Type 0 where
   Bared : (prompt : List ℕ) (text : List ℕ) (place : ℕ) → Redraw
   -- the cursor moved to the drawing's end
   ToEnd : Redraw
-  Beeped : Redraw
-  Cleared : Redraw
+  Beeped Cleared : Redraw
 
 -- calls in order, and the layout after them
 pub record RedrawCalls : Type 0 where
   pub calls : List Call
   pub layout : Layout
+
+abbrev pub nothing_asked : Layout → RedrawCalls
+nothing_asked l = record { calls = []; layout = l }
+
+abbrev pub one_call : Call → Layout → RedrawCalls
+one_call call l = record { calls = call ∷ []; layout = l }
 
 abbrev pub info_text : Option (List ℕ) → List ℕ
 info_text None = []
@@ -80,19 +85,10 @@ abbrev pub full : Ruler → Option Marks → Layout → List ℕ → Bool → Li
     → RedrawCalls
 full r marks l prompt given text place info =
     let new = layout_of r (r.measure prompt origin) given text place info in
-    record {
-      calls = Draw prompt text place info (Some l) new marks ∷ [];
-      layout = new;
-    }
-
-abbrev pub nothing_asked : Layout → RedrawCalls
-nothing_asked l = record { calls = []; layout = l }
+    one_call (Draw prompt text place info (Some l) new marks) new
 
 abbrev pub move_call : Layout → Position → RedrawCalls
-move_call l cursor = record {
-  calls = Move l.cursor cursor ∷ [];
-  layout = record l { cursor = cursor };
-}
+move_call l cursor = one_call (Move l.cursor cursor) (record l { cursor = cursor })
 
 abbrev pub move_calls : Layout → Position → RedrawCalls
 move_calls l cursor = if same_cell l.cursor cursor then nothing_asked l else move_call l cursor
@@ -105,26 +101,21 @@ column_back n p = record { col = p.col - n; row = p.row }
 
 -- the character's byte alone
 abbrev pub char_call : Layout → ℕ → RedrawCalls
-char_call l c = record {
-  calls = Write (encode_utf8 c) ∷ [];
-  layout = record l { cursor = column_on l.cursor; end = column_on l.cursor };
-}
+char_call l c =
+    let end = column_on l.cursor in
+    one_call (Write (encode_utf8 c)) (record l { cursor = end; end = end })
 
 -- the character's own drawing
 abbrev pub append_call : Ruler → Layout → ℕ → RedrawCalls
 append_call r l c =
     let end = r.measure (encode_utf8 c) l.cursor in
-    record {
-      calls = Append (encode_utf8 c) l.cursor ∷ [];
-      layout = record l { cursor = end; end = end };
-    }
+    one_call (Append (encode_utf8 c) l.cursor) (record l { cursor = end; end = end })
 
 -- the rest of the row erased
 abbrev pub erase_call : Layout → ℕ → RedrawCalls
-erase_call l count = record {
-  calls = MoveAndClearToEol l.cursor (column_back count l.end) ∷ [];
-  layout = record l { cursor = column_back count l.end; end = column_back count l.end };
-}
+erase_call l count =
+    let end = column_back count l.end in
+    one_call (MoveAndClearToEol l.cursor end) (record l { cursor = end; end = end })
 
 -- a full row is left at once
 abbrev pub cell_on : ℕ → Position → Position
@@ -136,19 +127,13 @@ abbrev pub put_in_short : Ruler → Layout → ℕ → List ℕ → RedrawCalls
 put_in_short r l c rest =
     let cursor = cell_on r.columns l.cursor in
     let end = cell_on r.columns l.end in
-    record {
-      calls = InsertChar c rest l.cursor cursor end ∷ [];
-      layout = record l { cursor = cursor; end = end };
-    }
+    one_call (InsertChar c rest l.cursor cursor end) (record l { cursor = cursor; end = end })
 
 -- the cursor moved, and the characters' cells taken out before the others
 abbrev pub taken_out_short : Layout → Position → ℕ → List ℕ → RedrawCalls
 taken_out_short l at count rest =
     let end = column_back count l.end in
-    record {
-      calls = MoveAndDelete l.cursor at count rest end ∷ [];
-      layout = record l { cursor = at; end = end };
-    }
+    one_call (MoveAndDelete l.cursor at count rest end) (record l { cursor = at; end = end })
 
 -- the rest of the line drawn anew, and the information after it
 abbrev pub rest_call : Ruler → Option Marks → Layout → ℕ → List ℕ → ℕ → Option (List ℕ)
@@ -156,17 +141,12 @@ abbrev pub rest_call : Ruler → Option Marks → Layout → ℕ → List ℕ �
 rest_call r marks l from text place info =
     let at = r.measure (take from text) l.prompt_size in
     let new = layout_of r l.prompt_size true text place info in
-    record {
-      calls = DrawRest text from place info l.cursor at new marks ∷ [];
-      layout = new;
-    }
+    one_call (DrawRest text from place info l.cursor at new marks) new
 
 -- letters written from a cell on, and the cursor moved to its place
 abbrev pub write_over_call : Layout → List ℕ → Position → Position → RedrawCalls
-write_over_call l letters at cursor = record {
-  calls = WriteOver letters l.cursor at cursor ∷ [];
-  layout = record l { cursor = cursor };
-}
+write_over_call l letters at cursor =
+    one_call (WriteOver letters l.cursor at cursor) (record l { cursor = cursor })
 
 -- a byte written at a cell doesn't fill the row
 abbrev pub fits_in_row : ℕ → Position → Bool
@@ -208,8 +188,8 @@ may_write_over r l at count = not l.has_info && nat_lt (at.col + count) r.column
 abbrev pub calls_of_redraw : Ruler → Option Marks → Layout → Redraw → RedrawCalls
 calls_of_redraw r marks l (Drawn prompt given text place info) =
     full r marks l prompt given text place info
-calls_of_redraw r marks l (Moved text place) = move_calls l
-    (r.measure (take place text) l.prompt_size)
+calls_of_redraw r marks l (Moved text place) =
+    move_calls l (r.measure (take place text) l.prompt_size)
 calls_of_redraw r marks l (Typed prompt c text place) =
     if may_type r l then char_call l c else full r marks l prompt true text place None
 calls_of_redraw r marks l (Appended prompt c text place) =
@@ -222,8 +202,7 @@ calls_of_redraw r marks l (Erased prompt c text place) =
     if may_erase r l c then erase_call l (r.measure (encode_utf8 c) origin).col
     else rest_call r marks l place text place None
 calls_of_redraw r marks l (PutIn prompt c text place) =
-    let rest = drop place text in
-    if may_put_in r l rest then put_in_short r l c rest
+    if may_put_in r l (drop place text) then put_in_short r l c (drop place text)
     else full r marks l prompt true text place None
 calls_of_redraw r marks l (TakenOut prompt count text place) =
     let at = r.measure (take place text) l.prompt_size in
@@ -241,9 +220,8 @@ calls_of_redraw r marks l (Rewritten prompt from upto text place) =
 calls_of_redraw r marks l (Bared prompt text place) =
     if l.default_prompt then nothing_asked l else full r marks l prompt true text place None
 calls_of_redraw r marks l ToEnd = move_calls l l.end
-calls_of_redraw r marks l Beeped = record { calls = Beep ∷ []; layout = l }
-calls_of_redraw r marks l Cleared =
-    record { calls = ClearScreen ∷ []; layout = fresh l.grapheme_cluster_mode }
+calls_of_redraw r marks l Beeped = one_call Beep l
+calls_of_redraw r marks l Cleared = one_call ClearScreen (fresh l.grapheme_cluster_mode)
 
 abbrev pub then_asked : RedrawCalls → RedrawCalls → RedrawCalls
 then_asked a b = record { calls = a.calls ++ b.calls; layout = b.layout }

@@ -1,5 +1,4 @@
--- The calls of a renderer and of the helper, what is known of a renderer, and the effect of a call
--- on it.
+-- The calls of a renderer and of the helper, and what is known of a renderer.
 use Rattle.std.specs.Prelude.{◌≡◌, ◌⊎◌, ℕ, Bool, List, [], ◌∷◌, Option, Result, OnOk, OnErr, IfErr, IsTrue, IsFalse}
 use Rattle.line_buffer.specs.declared.layout.GraphemeClusterMode.{GraphemeClusterMode}
 use Rattle.line_buffer.specs.declared.layout.Layout.{Layout}
@@ -20,10 +19,8 @@ pub data Call : Type 0 where
       (new : Layout) (marks : Option Marks) → Call
   Move : (old new : Position) → Call
   Write : (text : List ℕ) → Call
-  Beep : Call
-  ClearScreen : Call
+  Beep ClearScreen ClearToEol ToLeftmost : Call
   ClearRows : (layout : Layout) → Call
-  ClearToEol : Call
   -- a move, and the row erased from there to its end
   MoveAndClearToEol : (old new : Position) → Call
   -- a character written in a cell opened at the cursor, before letters that move on by a cell; the
@@ -39,7 +36,6 @@ pub data Call : Type 0 where
       (new : Layout) (marks : Option Marks) → Call
   -- a move, letters written from there on over as many in their row, and the move to the cursor
   WriteOver : (letters : List ℕ) (old at new : Position) → Call
-  ToLeftmost : Call
   -- a call of the helper, which answers or fails; nothing is drawn
   Help : (fails : Bool) → Call
 
@@ -84,8 +80,7 @@ CutCall canvas old call new = canvas.refused old call new
 -- the display broke off these calls: those before it succeeded, and the next one failed
 unfoldable pub CutCalls : {R : Type 0} → Canvas R → List Call → R → R → Type 0
 CutCalls canvas [] old new = ⊥
-CutCalls {R} canvas (call ∷ calls) old new =
-    CutCall canvas old call new
+CutCalls {R} canvas (call ∷ calls) old new = CutCall canvas old call new
     ⊎ ((between : R) × MadeIn canvas old call between × CutCalls canvas calls between new)
 
 -- a call that writes nothing, whether it succeeds or fails: the renderer is as it was

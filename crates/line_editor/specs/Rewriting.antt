@@ -4,14 +4,12 @@ use Rattle.std.specs.List.{list_all}
 use Rattle.line_buffer.specs.Printable.{is_printable, is_plain}
 use Rattle.line_editor.specs.Drawing.{redraw_of, ask_anew_effect}
 use Rattle.line_editor.specs.Inserting.{is_bare}
-use Rattle.line_editor.specs.Redraws.{Redraw}
 use Rattle.line_editor.specs.Redraws.Redraw.{Rewritten}
-use Rattle.line_editor.specs.Values.{Value, Setting, Transition, no_effect, then_do, draw_effect}
+use Rattle.line_editor.specs.Values.{Value, Setting, Transition, then_do, draw_effect}
 
 -- printable characters stand from one place up to another, in a line that is bare and plain
 abbrev pub has_letters : ℕ → ℕ → Value → Bool
-has_letters from upto v =
-    is_bare v && (is_plain v.line.text && (nat_le upto (length v.line.text)
+has_letters from upto v = is_bare v && (is_plain v.line.text && (nat_le upto (length v.line.text)
     && list_all is_printable (slice_range v.line.text from upto)))
 
 -- whether other letters written over them may show a change, if lines may be drawn in part
@@ -19,20 +17,10 @@ abbrev pub may_be_rewritten : Setting → ℕ → ℕ → Value → Bool
 may_be_rewritten s from upto v = s.config.partial_redraw && has_letters from upto v
 
 -- the drawing after such a change
-abbrev pub rewritten_redraw : Bool → ℕ → ℕ → Setting → Value → Redraw
-rewritten_redraw over from upto s v =
-    if over && has_letters from upto v
-    then Rewritten s.prompt from upto v.line.text v.line.place else redraw_of s v
-
 abbrev pub show_rewritten_effect : Bool → ℕ → ℕ → Transition
-show_rewritten_effect over from upto s v = draw_effect (rewritten_redraw over from upto s v) s v
+show_rewritten_effect over from upto s v = draw_effect (if over && has_letters from upto v
+    then Rewritten s.prompt from upto v.line.text v.line.place else redraw_of s v) s v
 
 -- with a new hint
 abbrev pub refresh_over_effect : Bool → ℕ → ℕ → Transition
-refresh_over_effect over from upto =
-    then_do ask_anew_effect (show_rewritten_effect over from upto)
-
--- if something changed
-abbrev pub refresh_over_if : Bool → ℕ → ℕ → Bool → Transition
-refresh_over_if over from upto changes s v =
-    if changes then refresh_over_effect over from upto s v else no_effect s v
+refresh_over_effect over from upto = then_do ask_anew_effect (show_rewritten_effect over from upto)

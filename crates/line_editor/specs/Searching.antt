@@ -211,6 +211,3 @@ looks_again false x s v = looks x.dir (Some x.start) x s v
 
 abbrev pub looks_erased : Modal → Setting → Value → Meeting
 looks_erased x s v = looks_again (length (modal_after_erase x).query == 0) (modal_after_erase x) s v
-
-abbrev pub erase_effect : Modal → Transition
-erase_effect x s v = (looks_erased x s v).effect

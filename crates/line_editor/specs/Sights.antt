@@ -24,18 +24,14 @@ pub record PartSpans : Type 0 where
 abbrev pub no_spans : PartSpans
 no_spans = record { prompt = []; line = []; info = [] }
 
--- `given`: the prompt is the session's own
-abbrev pub spans_by : Marks → Bool → List ℕ → List ℕ → ℕ → List ℕ → PartSpans
-spans_by m given prompt text place info = record {
+-- what a highlighter gives for these texts, if any; `given`: the prompt is the session's own
+abbrev pub drawn_spans : Option Marks → Bool → List ℕ → List ℕ → ℕ → List ℕ → PartSpans
+drawn_spans None given prompt text place info = no_spans
+drawn_spans (Some m) given prompt text place info = record {
   prompt = m.paints (OfPrompt given) prompt first_mark;
   line = m.paints (OfLine place) text first_mark;
   info = m.paints OfHint info first_mark;
 }
-
--- what a highlighter gives for these texts, if there is one
-abbrev pub drawn_spans : Option Marks → Bool → List ℕ → List ℕ → ℕ → List ℕ → PartSpans
-drawn_spans None given prompt text place info = no_spans
-drawn_spans (Some m) given prompt text place info = spans_by m given prompt text place info
 
 -- ---- what is to be seen
 
@@ -79,8 +75,7 @@ sight_drawn x marks (Taken prompt count partial text place) = sight_as marks pro
 sight_drawn x marks (Erased prompt c text place) = sight_as marks prompt text place None
 sight_drawn x marks (PutIn prompt c text place) = sight_as marks prompt text place None
 sight_drawn x marks (TakenOut prompt count text place) = sight_as marks prompt text place None
-sight_drawn x marks (DrawnFrom prompt from text place info) =
-    sight_as marks prompt text place info
+sight_drawn x marks (DrawnFrom prompt from text place info) = sight_as marks prompt text place info
 sight_drawn x marks (Rewritten prompt from upto text place) = sight_as marks prompt text place None
 sight_drawn x marks (Bared prompt text place) = x
 sight_drawn x marks ToEnd = record x { ended = true }
@@ -92,50 +87,45 @@ abbrev pub sight : Sight → EditStep → Sight
 sight x (Draws v marks redraw) = sight_drawn x (shown_marks v marks) redraw
 sight x step = x
 
--- what is shown has a line without styles, and a drawing of this text has the same styles as it
-pub record SameStyles (x : Sight) (marks : Option Marks) (prompt text : List ℕ)
+-- a line is drawn in part behind the session's own prompt, which is shown. What is shown has a line
+-- without styles, and a drawing of this text has the same styles as it
+pub record InPart (own : List ℕ) (x : Sight) (marks : Option Marks) (prompt text : List ℕ)
     (place : ℕ) : Type 0 where
+  pub given : x.given ≡ true
+  pub own_is : prompt ≡ own
+  pub prompt_is : prompt ≡ x.prompt
   pub unstyled : x.spans.line ≡ []
   pub still : (drawn_spans marks true prompt text place []).line ≡ []
   pub same_prompt : (drawn_spans marks true prompt text place []).prompt ≡ x.spans.prompt
   pub same : x.info ≡ None → drawn_spans marks true prompt text place [] ≡ x.spans
 
-pub record TypedFits (x : Sight) (prompt : List ℕ) (c : ℕ) (text : List ℕ)
-    (place : ℕ) : Type 0 where
+pub record TypedFits (x : Sight) (c : ℕ) (text : List ℕ) (place : ℕ) : Type 0 where
   pub typed : is_typed_at_end true c x.line x.place ≡ true
-  pub prompt_is : prompt ≡ x.prompt
   pub text_is : text ≡ x.line ++ c ∷ []
   pub behind : place ≡ x.place + 1
 
 -- a character apart from the line at whose end it is typed
-pub record AppendedFits (x : Sight) (prompt : List ℕ) (c : ℕ) (text : List ℕ)
-    (place : ℕ) : Type 0 where
+pub record AppendedFits (x : Sight) (c : ℕ) (text : List ℕ) (place : ℕ) : Type 0 where
   pub at : x.place ≡ length x.line
   pub apart : stands_apart x.line c ≡ true
-  pub prompt_is : prompt ≡ x.prompt
   pub text_is : text ≡ x.line ++ encode_utf8 c
   pub behind : place ≡ length (x.line ++ encode_utf8 c)
 
-pub record TakenFits (x : Sight) (prompt : List ℕ) (count : ℕ) (text : List ℕ)
-    (place : ℕ) : Type 0 where
+pub record TakenFits (x : Sight) (count : ℕ) (text : List ℕ) (place : ℕ) : Type 0 where
   pub killed : List ℕ
   pub whole : x.line ≡ text ++ killed
   pub count_is : count ≡ length killed
   pub end : at_plain_end text place ≡ true
   pub printable : list_all is_printable killed ≡ true
-  pub prompt_is : prompt ≡ x.prompt
 
 -- a character apart from what is left of the line, deleted at its end
-pub record ErasedFits (x : Sight) (prompt : List ℕ) (c : ℕ) (text : List ℕ)
-    (place : ℕ) : Type 0 where
+pub record ErasedFits (x : Sight) (c : ℕ) (text : List ℕ) (place : ℕ) : Type 0 where
   pub whole : x.line ≡ text ++ encode_utf8 c
   pub apart : stands_apart text c ≡ true
   pub end : place ≡ length text
-  pub prompt_is : prompt ≡ x.prompt
 
 -- a character put at the cursor
-pub record PutInFits (x : Sight) (prompt : List ℕ) (c : ℕ) (text : List ℕ)
-    (place : ℕ) : Type 0 where
+pub record PutInFits (x : Sight) (c : ℕ) (text : List ℕ) (place : ℕ) : Type 0 where
   pub before : List ℕ
   pub rest : List ℕ
   pub whole : x.line ≡ before ++ rest
@@ -144,11 +134,9 @@ pub record PutInFits (x : Sight) (prompt : List ℕ) (c : ℕ) (text : List ℕ)
   pub behind : place ≡ length before + 1
   pub plain : is_plain x.line ≡ true
   pub printable : is_printable c ≡ true
-  pub prompt_is : prompt ≡ x.prompt
 
 -- printable characters deleted from the new cursor on
-pub record TakenOutFits (x : Sight) (prompt : List ℕ) (count : ℕ) (text : List ℕ)
-    (place : ℕ) : Type 0 where
+pub record TakenOutFits (x : Sight) (count : ℕ) (text : List ℕ) (place : ℕ) : Type 0 where
   pub before : List ℕ
   pub killed : List ℕ
   pub rest : List ℕ
@@ -158,7 +146,6 @@ pub record TakenOutFits (x : Sight) (prompt : List ℕ) (count : ℕ) (text : Li
   pub at : place ≡ length before
   pub plain : is_plain x.line ≡ true
   pub printable : list_all is_printable killed ≡ true
-  pub prompt_is : prompt ≡ x.prompt
 
 -- the text before a place stays, with its clusters and their styles
 pub record DrawnFromFits (x : Sight) (marks : Option Marks) (prompt : List ℕ) (from : ℕ)
@@ -178,8 +165,7 @@ pub record DrawnFromFits (x : Sight) (marks : Option Marks) (prompt : List ℕ) 
       ≡ x.spans.prompt
 
 -- printable characters replaced by as many
-pub record RewrittenFits (x : Sight) (prompt : List ℕ) (from upto : ℕ) (text : List ℕ)
-    (place : ℕ) : Type 0 where
+pub record RewrittenFits (x : Sight) (from upto : ℕ) (text : List ℕ) : Type 0 where
   pub before : List ℕ
   pub gone : List ℕ
   pub letters : List ℕ
@@ -192,35 +178,27 @@ pub record RewrittenFits (x : Sight) (prompt : List ℕ) (from upto : ℕ) (text
   pub plain : is_plain x.line ≡ true
   pub gone_printable : list_all is_printable gone ≡ true
   pub printable : list_all is_printable letters ≡ true
-  pub prompt_is : prompt ≡ x.prompt
 
 -- when each redraw is allowed; `own` is the session's prompt
 abbrev pub FitsDrawn : List ℕ → Sight → Option Marks → Redraw → Type 0
 FitsDrawn own x marks (Drawn prompt given text place info) = given ≡ true → prompt ≡ own
 FitsDrawn own x marks (Moved text place) = text ≡ x.line
 FitsDrawn own x marks (Typed prompt c text place) =
-    (x.given ≡ true) × (prompt ≡ own) × (x.ended ≡ false) × TypedFits x prompt c text place
-    × SameStyles x marks prompt text place
+    InPart own x marks prompt text place × (x.ended ≡ false) × TypedFits x c text place
 FitsDrawn own x marks (Appended prompt c text place) =
-    (x.given ≡ true) × (prompt ≡ own) × (x.ended ≡ false) × AppendedFits x prompt c text place
-    × SameStyles x marks prompt text place
+    InPart own x marks prompt text place × (x.ended ≡ false) × AppendedFits x c text place
 FitsDrawn own x marks (Taken prompt count partial text place) =
-    (x.given ≡ true) × (prompt ≡ own) × TakenFits x prompt count text place
-    × SameStyles x marks prompt text place
+    InPart own x marks prompt text place × TakenFits x count text place
 FitsDrawn own x marks (Erased prompt c text place) =
-    (x.given ≡ true) × (prompt ≡ own) × ErasedFits x prompt c text place
-    × SameStyles x marks prompt text place
+    InPart own x marks prompt text place × ErasedFits x c text place
 FitsDrawn own x marks (PutIn prompt c text place) =
-    (x.given ≡ true) × (prompt ≡ own) × (x.ended ≡ false) × PutInFits x prompt c text place
-    × SameStyles x marks prompt text place
+    InPart own x marks prompt text place × (x.ended ≡ false) × PutInFits x c text place
 FitsDrawn own x marks (TakenOut prompt count text place) =
-    (x.given ≡ true) × (prompt ≡ own) × TakenOutFits x prompt count text place
-    × SameStyles x marks prompt text place
+    InPart own x marks prompt text place × TakenOutFits x count text place
 FitsDrawn own x marks (DrawnFrom prompt from text place info) =
     (x.given ≡ true) × (prompt ≡ own) × DrawnFromFits x marks prompt from text place info
 FitsDrawn own x marks (Rewritten prompt from upto text place) =
-    (x.given ≡ true) × (prompt ≡ own) × RewrittenFits x prompt from upto text place
-    × SameStyles x marks prompt text place
+    InPart own x marks prompt text place × RewrittenFits x from upto text
 FitsDrawn own x marks (Bared prompt text place) = x.given ≡ true
 FitsDrawn own x marks redraw = ⊤
 
@@ -243,18 +221,8 @@ pub record Turns (own : List ℕ) (x : Sight) (rs : List EditStep) (y : Sight) :
 
 -- ---- the information shown, as a fold of the steps
 
-abbrev pub info_drawn : Option (List ℕ) → Redraw → Option (List ℕ)
-info_drawn info (Drawn prompt given text place new) = new
-info_drawn info (DrawnFrom prompt from text place new) = new
-info_drawn info (Moved text place) = info
-info_drawn info ToEnd = info
-info_drawn info Beeped = info
-info_drawn info (Bared prompt text place) = info
-info_drawn info redraw = None
-
 abbrev pub info_one : Option (List ℕ) → EditStep → Option (List ℕ)
-info_one info (Draws v marks redraw) = info_drawn info redraw
-info_one info step = info
+info_one info step = (sight (record no_sight { info = info }) step).info
 
 abbrev pub info_after : List EditStep → Option (List ℕ) → Option (List ℕ)
 info_after [] info = info
@@ -262,8 +230,7 @@ info_after (r ∷ rs) info = info_after rs (info_one info r)
 
 -- what is to be shown of a value with some information
 abbrev pub sight_of : Setting → Value → Option (List ℕ) → Sight
-sight_of s v info =
-    sight_as (shown_marks v s.marks) s.prompt v.line.text v.line.place info
+sight_of s v info = sight_as (shown_marks v s.marks) s.prompt v.line.text v.line.place info
 
 -- the same with the cursor at the drawing's end
 abbrev pub ended_sight : Sight → Sight

@@ -1,8 +1,6 @@
--- The value of a state, what was passed in for it, the effect of an edit on it, and how a line
--- begins.
-use Rattle.std.specs.Prelude.{◌≡◌, ⊤, ℕ, Bool, false, if◌then◌else◌, List, Option, None, Some, option_map, Result, Ok, Err, string_bytes, IsTrue, IsFalse, IfErr, OnOk}
+-- The value of a state, what was passed in for it, an edit's effect on it, and how a line begins.
+use Rattle.std.specs.Prelude.{◌≡◌, ⊤, ℕ, Bool, false, List, Option, None, Some, option_map, Result, Ok, Err, string_bytes, IsTrue, IsFalse, IsSomeAnd, IfErr, OnOk}
 use Rattle.std.specs.List.{FoldsTo}
-use Rattle.line_buffer.specs.Cells.{origin}
 use Rattle.line_config.specs.declared.config.Config.{Config}
 use Rattle.line_config.specs.declared.errors.HookFault.{HookFault}
 use Rattle.line_config.specs.declared.errors.HookFault.TheVariants.{Failed, Memory as OutOfMemory}
@@ -21,8 +19,8 @@ use Rattle.line_record.specs.Items.{record_on}
 use Rattle.line_editor.specs.Asks.{shown_in, ask_effect}
 use Rattle.line_editor.specs.RenderCalls.{MadeIn}
 use Rattle.line_editor.specs.Redraws.{fresh}
-use Rattle.line_editor.specs.EditSteps.{calls_of_steps, Surface, surface, CutEditSteps}
-use Rattle.line_editor.specs.Values.{Value, Setting, Hooks, empty_at, hooks_by, Transition, IsFailing}
+use Rattle.line_editor.specs.EditSteps.{calls_of_steps, Surface, surface, CutHelp, CutEditSteps}
+use Rattle.line_editor.specs.Values.{Value, Setting, Hooks, empty_at, hooks_by, setting_by, Transition, IsFailing}
 use Rattle.line_editor.specs.declared.renderer.Renderer as renderers
 use Rattle.line_editor.specs.declared.state.State.{State}
 
@@ -33,9 +31,7 @@ fails_by None = false
 fails_by (Some reply) = fails reply
 
 abbrev pub IsHelpFault : {A : Type 0} → Option (Reply A) → ReadlineError → Type 0
-IsHelpFault (Some reply) Helper = IsTrue (fails reply)
-IsHelpFault (Some reply) Memory = IsTrue reply.takes
-IsHelpFault reply why = ⊥
+IsHelpFault reply why = IsSomeAnd reply (λ r. CutHelp (fails r) r.takes why)
 
 pub record Helps {A B : Type 0} (reply : Option (Reply A)) (result : Result B ReadlineError)
     : Type 0 where
@@ -65,33 +61,29 @@ module _ {Out H Hi K T : Type 0} {renderer : renderers.Ghosts Out}
     {hinter : hinters.Ghosts H T} {hint : hints.Ghosts T}
     {highlighter : highlighters.Ghosts H} {validator : validators.Ghosts H}
     {history : histories.Ghosts Hi} where
-  abbrev pub value_of :
-      State Out H Hi K T renderer completer candidate hinter hint highlighter validator history
-      → Value
-  value_of s = record {
-    line = s.recorded.line;
-    held = record_on s.recorded.changes s.recorded.line.text;
-    saved = record { text = string_bytes s.saved.text; place = s.saved.pos };
-    history = s.ctx.place;
-    hint = option_map hint.says s.hint;
-    marked = s.highlight_char;
-  }
+  module _ (s : State Out H Hi K T renderer completer candidate hinter hint highlighter validator
+      history) where
+    abbrev pub value_of : Value
+    value_of = record {
+      line = s.recorded.line;
+      held = record_on s.recorded.changes s.recorded.line.text;
+      saved = record { text = string_bytes s.saved.text; place = s.saved.pos };
+      history = s.ctx.place;
+      hint = option_map hint.says s.hint;
+      marked = s.highlight_char;
+    }
 
-  abbrev pub setting_of :
-      State Out H Hi K T renderer completer candidate hinter hint highlighter validator history
-      → Setting
-  setting_of s = record {
-    prompt = s.prompt.now;
-    column = ((renderer.canvas.ruler s.out).measure s.prompt.now origin).col;
-    mode = (renderer.canvas.ruler s.out).mode;
-    tabs = (renderer.canvas.ruler s.out).tabs;
-    hooks = option_map (hooks_of completer hinter validator) s.helper;
-    marks =
-        if (renderer.canvas.ruler s.out).colours then option_map highlighter.marks s.helper
-        else None;
-    entries = history.entries s.ctx.history.now;
-    config = s.config.now;
-  }
+    abbrev pub setting_of : Setting
+    setting_of = setting_by (renderer.canvas.ruler s.out) s.prompt.now (record {
+      hooks = option_map (hooks_of completer hinter validator) s.helper;
+      marks = option_map highlighter.marks s.helper;
+    }) (history.entries s.ctx.history.now) s.config.now
+
+    abbrev pub Reason : ReadlineError → Type 0
+    Reason e = reason_of (renderer.canvas.failed s.out) (IsFailing setting_of.hooks) e
+
+    abbrev pub surface_of : Surface Out
+    surface_of = surface s.out s.layout
 
   -- what was passed in stays
   pub record Stays
@@ -105,30 +97,15 @@ module _ {Out H Hi K T : Type 0} {renderer : renderers.Ghosts Out}
         ≡ option_map (hooks_of completer hinter validator) s.helper
     pub marks_are : option_map highlighter.marks t.helper ≡ option_map highlighter.marks s.helper
 
-  abbrev pub Reason :
-      State Out H Hi K T renderer completer candidate hinter hint highlighter validator history
-      → ReadlineError → Type 0
-  Reason s e =
-      reason_of (renderer.canvas.failed s.out)
-      (IsFailing (setting_of s).hooks) e
-
-  abbrev pub surface_of :
-      State Out H Hi K T renderer completer candidate hinter hint highlighter validator history
-      → Surface Out
-  surface_of s = surface s.out s.layout
-
-  -- an edit was made, with its calls in order; or it failed for a reason, and its first steps were
-  -- made
+  -- an edit was made, with its calls in order; or it failed for a reason after its first steps
   pub record Does {A : Type 0} (edit : Transition)
       (s t : State Out H Hi K T renderer completer candidate hinter hint highlighter validator
       history) (result : Result A ReadlineError) : Type 0 where
     pub value : OnOk result (value_of t ≡ (edit (setting_of s) (value_of s)).value)
-    pub calls : OnOk result
-        (FoldsTo (MadeIn renderer.canvas) s.out
+    pub calls : OnOk result (FoldsTo (MadeIn renderer.canvas) s.out
         (calls_of_steps (renderer.canvas.ruler s.out) s.layout
         (edit (setting_of s) (value_of s)).steps).calls t.out)
-    pub layout : OnOk result
-        (t.layout
+    pub layout : OnOk result (t.layout
         ≡ (calls_of_steps (renderer.canvas.ruler s.out) s.layout
         (edit (setting_of s) (value_of s)).steps).layout)
     pub stays : Stays s t

@@ -1,15 +1,15 @@
 -- Transpositions of clusters and words, changes of case, indentation, and undo.
-use Rattle.std.specs.Prelude.{ℕ, ◌+◌, ◌-◌, ◌==◌, ◌||◌, not, nat_lt, max, Bool, length, drop, if◌then◌else◌, [], ◌∷◌, is_some}
-use Rattle.line_buffer.specs.LetterCase.{word_to_edit}
+use Rattle.std.specs.Prelude.{ℕ, ◌+◌, ◌-◌, ◌==◌, ◌||◌, not, nat_lt, max, Bool, length, drop, if◌then◌else◌, [], ◌∷◌}
+use Rattle.line_buffer.specs.LetterCase.{edit_word}
 use Rattle.line_buffer.specs.Line.{Line}
 use Rattle.line_buffer.specs.Transpositions.{transposes_chars, transposes_words}
 use Rattle.line_buffer.specs.declared.types.Movement.{Movement}
 use Rattle.line_buffer.specs.declared.types.WordAction.{WordAction}
 use Rattle.line_record.specs.Held.{has_step}
 use Rattle.line_edits.specs.Edits.{transpose_chars_group, transpose_words_group, word_group, indent_steps, after_undo, by}
-use Rattle.line_editor.specs.Drawing.{refresh_effect, refresh_effect_if}
-use Rattle.line_editor.specs.Rewriting.{may_be_rewritten, refresh_over_if}
-use Rattle.line_editor.specs.Values.{Value, Transition, then_do, value_with_edit, edit_effect}
+use Rattle.line_editor.specs.Drawing.{refresh_effect, effect_if}
+use Rattle.line_editor.specs.Rewriting.{may_be_rewritten, refresh_over_effect}
+use Rattle.line_editor.specs.Values.{Transition, then_do, value_with_edit, edit_effect}
 use Rattle.line_editor.specs.Values.EditStep.{TakesBack}
 
 -- behind the two clusters to transpose, if each has one byte
@@ -21,19 +21,18 @@ transpose_chars_effect s v =
     let end = pair_end v.line in
     let over = may_be_rewritten s (end - 2) end v in
     then_do (edit_effect transpose_chars_group)
-    (refresh_over_if over (end - 2) end (transposes_chars v.line)) s v
+    (effect_if (transposes_chars v.line) (refresh_over_effect over (end - 2) end)) s v
 
 -- even if only the cursor moved
 abbrev pub transpose_words_effect : ℕ → Transition
 transpose_words_effect n s v =
     let w = value_with_edit (by (transpose_words_group n)) v in
     then_do (edit_effect (transpose_words_group n))
-    (refresh_effect_if (transposes_words n v.line || not (w.line.place == v.line.place))) s v
+    (effect_if (transposes_words n v.line || not (w.line.place == v.line.place)) refresh_effect) s v
 
 abbrev pub edit_word_effect : WordAction → Transition
-edit_word_effect action s v =
-    then_do (edit_effect (word_group action))
-    (refresh_effect_if (is_some (word_to_edit v.line))) s v
+edit_word_effect action s v = then_do (edit_effect (word_group action))
+    (effect_if (edit_word action v.line).answer refresh_effect) s v
 
 abbrev pub indent_effect : Movement → ℕ → Bool → Transition
 indent_effect movement amount dedent =
@@ -43,11 +42,9 @@ abbrev pub indent_by_setting : Movement → Bool → Transition
 indent_by_setting movement dedent s v = indent_effect movement s.config.indent_size dedent s v
 
 -- undone marks, which leave the line
-abbrev pub value_without_marks : ℕ → Value → Value
-value_without_marks n v = record v { held = drop (max n 1) v.held }
-
 abbrev pub unmark_effect : ℕ → Transition
-unmark_effect n s v = record { value = value_without_marks n v; steps = TakesBack v (max n 1) ∷ [] }
+unmark_effect n s v = record
+    { value = record v { held = drop (max n 1) v.held }; steps = TakesBack v (max n 1) ∷ [] }
 
 abbrev pub undo_effect : ℕ → Transition
 undo_effect n s v = record

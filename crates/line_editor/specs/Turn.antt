@@ -3,7 +3,7 @@
 use Rattle.std.specs.Prelude.{◌≡◌, ◌⊎◌, ⊤, ℕ, ◌<◌, ◌≤◌, Bool, true, false, Result, Ok, Err, IsTrue, IfErr, IfOk, OnOk}
 use Rattle.script.specs.Scripts.{World, Goes}
 use Rattle.line_config.specs.declared.errors.ReadlineError.{ReadlineError}
-use Rattle.line_config.specs.declared.errors.ReadlineError.TheVariants.{Eof, Interrupted, NotUtf8, PasteOutOfPlace, Reader, Display, Lines, HistoryText, Helper, Handler, Memory}
+use Rattle.line_config.specs.declared.errors.ReadlineError.TheVariants.{Eof, Interrupted, NotUtf8, PasteOutOfPlace, Reader, Handler}
 use Rattle.line_help.specs.declared.completion.Completer as completers
 use Rattle.line_help.specs.declared.completion.Candidate as candidates
 use Rattle.line_help.specs.declared.helpers.hint.Hinter as hinters
@@ -12,20 +12,17 @@ use Rattle.line_help.specs.declared.helpers.highlight.Highlighter as highlighter
 use Rattle.line_help.specs.declared.helpers.validate.Validator as validators
 use Rattle.line_help.specs.declared.history.History as histories
 use Rattle.line_keys.specs.CustomBindings.{Custom, HandlerFails}
-use Rattle.line_keys.specs.Coming.{Coming}
-use Rattle.line_keys.specs.KeyFeeds.{KeyFeed}
+use Rattle.line_keys.specs.KeyFeeds.{KeyFeed, Coming}
 use Rattle.line_keys.specs.PhraseScripts.{Input}
 use Rattle.line_keys.specs.declared.command.Cmd.{Cmd}
 use Rattle.line_keys.specs.declared.command.Cmd.TheVariants.{AcceptLine, AcceptOrInsertLine, EndOfFile, Interrupt, Kill, Replace, ViYankTo}
 use Rattle.line_record.specs.Ring.{Ring}
 use Rattle.line_editor.specs.Commands.{means_of, effect, ring_after_command, CutRing, outcome}
 use Rattle.line_editor.specs.LineScripts.{LineAsk, LineAnswer, LineScript, LineStage, line_state, line_world, line_stage}
-use Rattle.line_editor.specs.ModalCommands.{meeting, meeting_effect}
-use Rattle.line_editor.specs.Modal.{Modal, Meeting, next_of}
-use Rattle.line_editor.specs.States.{value_of, setting_of, surface_of, Stays, Does}
+use Rattle.line_editor.specs.Modal.{Modal, Meeting}
+use Rattle.line_editor.specs.States.{reason_of, value_of, setting_of, surface_of, Stays, Does}
 use Rattle.line_editor.specs.Values.{Value, Setting, IsFailing}
 use Rattle.line_editor.specs.declared.commands.Status.{Status}
-use Rattle.line_editor.specs.declared.modal_state.Next.{Next}
 use Rattle.line_editor.specs.declared.renderer.Renderer as renderers
 use Rattle.line_editor.specs.declared.state.State.{State}
 
@@ -47,12 +44,8 @@ cause_of custom failed hook feed Interrupted = ⊤
 cause_of custom failed hook feed NotUtf8 = feed.reason NotUtf8
 cause_of custom failed hook feed PasteOutOfPlace = feed.reason PasteOutOfPlace
 cause_of custom failed hook feed Reader = feed.reason Reader
-cause_of custom failed hook feed Display = IsTrue failed
-cause_of custom failed hook feed Lines = ⊥
-cause_of custom failed hook feed HistoryText = ⊥
-cause_of custom failed hook feed Helper = hook
 cause_of custom failed hook feed Handler = HandlerFails custom
-cause_of custom failed hook feed Memory = ⊤
+cause_of custom failed hook feed why = reason_of failed hook why
 
 module _ {Out H Hi K T : Type 0} {renderer : renderers.Ghosts Out}
     {completer : completers.Ghosts H K} {candidate : candidates.Ghosts K}
@@ -65,58 +58,37 @@ module _ {Out H Hi K T : Type 0} {renderer : renderers.Ghosts Out}
       → Ring
       → State Out H Hi K T renderer completer candidate hinter hint highlighter validator history
       → Ring → Result Status ReadlineError → Type 0
-  Executes cmd input s ring t ring' result =
-      let m = means_of input ring in
+  Executes cmd input s ring t ring' result = let m = means_of input ring in
       (Does {A = Unit {0}} (effect m cmd) s t (Ok (tt {0}))
       × (result ≡ outcome m cmd (setting_of s) (value_of s))
       × (ring' ≡ ring_after_command cmd (value_of s) ring))
       ⊎ ((e : ReadlineError) × (result ≡ Err e)
       × Does {A = Unit {0}} (effect m cmd) s t (Err e) × CutRing cmd (value_of s) ring ring' e)
 
-  -- a command came, and what stands between commands made this of it
-  pub record Meets (cmd : Cmd)
-      (s : State Out H Hi K T renderer completer candidate hinter hint highlighter validator
-      history) (modal : Modal)
-      (t : State Out H Hi K T renderer completer candidate hinter hint highlighter validator
-      history) (modal' : Modal) (result : Result Cmd ReadlineError) : Type 0 where
-    pub does : Does (meeting_effect modal cmd) s t result
-    pub modal_is : OnOk result
-        (modal' ≡ (meeting modal cmd (setting_of s) (value_of s)).modal)
-    pub next : IfOk result (λ c. c ≡ (meeting modal cmd (setting_of s) (value_of s)).next)
-
-  -- the same, if the answer says which command is done in its place
-  pub record MeetsAs (met : Setting → Value → Meeting) (cmd : Cmd)
+  -- a command came, and what stands between commands made this of it; the answer says which command
+  -- is done in its place
+  pub record Meets {A : Type 0} (met : Setting → Value → Meeting) (said : A → Cmd)
       (s t : State Out H Hi K T renderer completer candidate hinter hint highlighter validator
-      history) (modal' : Modal) (result : Result Next ReadlineError) : Type 0 where
+      history) (modal' : Modal) (result : Result A ReadlineError) : Type 0 where
     pub does : Does (λ a v. (met a v).effect) s t result
     pub modal_is : OnOk result (modal' ≡ (met (setting_of s) (value_of s)).modal)
-    pub next : IfOk result (λ n. next_of n cmd ≡ (met (setting_of s) (value_of s)).next)
-
-  abbrev pub MeetsBy : Cmd
-      → State Out H Hi K T renderer completer candidate hinter hint highlighter validator history
-      → Modal
-      → State Out H Hi K T renderer completer candidate hinter hint highlighter validator history
-      → Modal → Result Next ReadlineError → Type 0
-  MeetsBy cmd s modal t modal' result = MeetsAs (meeting modal cmd) cmd s t modal' result
+    pub next : IfOk result (λ x. said x ≡ (met (setting_of s) (value_of s)).next)
 
   abbrev pub Cause : Custom
       → State Out H Hi K T renderer completer candidate hinter hint highlighter validator history
       → KeyFeed → ReadlineError → Type 0
   Cause custom t feed e =
-      cause_of custom (renderer.canvas.failed t.out)
-      (IsFailing (setting_of t).hooks) feed e
+      cause_of custom (renderer.canvas.failed t.out) (IsFailing (setting_of t).hooks) feed e
 
-  -- what is passed on in a line, if it has this state
-  abbrev pub stage_of :
-      State Out H Hi K T renderer completer candidate hinter hint highlighter validator history
-      → Input → Ring → Modal → Coming → LineStage Out
-  stage_of s input ring modal coming =
-      line_stage (surface_of s) (line_state (value_of s) input ring modal coming)
+  module _ (s : State Out H Hi K T renderer completer candidate hinter hint highlighter validator
+      history) where
+    -- what is passed on in a line, if it has this state
+    abbrev pub stage_of : Input → Ring → Modal → Coming → LineStage Out
+    stage_of input ring modal coming =
+        line_stage (surface_of s) (line_state (value_of s) input ring modal coming)
 
-  abbrev pub world_of :
-      State Out H Hi K T renderer completer candidate hinter hint highlighter validator history
-      → World LineAsk LineAnswer (LineStage Out) ReadlineError
-  world_of s = line_world renderer.canvas (renderer.canvas.ruler s.out) (setting_of s)
+    abbrev pub world_of : World LineAsk LineAnswer (LineStage Out) ReadlineError
+    world_of = line_world renderer.canvas (renderer.canvas.ruler s.out) (setting_of s)
 
   -- the relation of a line, or of a part of it, from a state on: it goes as its script says. More
   -- fuel than the reader has keys and pastes is enough

@@ -1,5 +1,6 @@
 -- The editor's value, what is passed in for a line, and the effect of an edit.
-use Rattle.std.specs.Prelude.{◌⊎◌, ⊤, ℕ, Bool, true, false, List, [], ◌∷◌, ◌++◌, Option, Some, None, is_some, not, length, ◌==◌, if◌then◌else◌, option_map, IsTrue, IsSomeAnd, unwrap_or}
+use Rattle.std.specs.Prelude.{◌⊎◌, ⊤, ℕ, Bool, true, false, List, [], ◌∷◌, ◌++◌, Option, Some, None, is_some, not, length, ◌==◌, if◌then◌else◌, option_map, option_and_then, IsTrue, IsSomeAnd, unwrap_or}
+use Rattle.line_buffer.specs.Cells.{origin}
 use Rattle.line_buffer.specs.Line.{Line}
 use Rattle.line_buffer.specs.declared.layout.GraphemeClusterMode.{GraphemeClusterMode}
 use Rattle.line_buffer.specs.declared.layout.TabStops.{TabStops}
@@ -17,7 +18,7 @@ use Rattle.line_keys.specs.Replies.{Reply, fails}
 use Rattle.line_help.specs.declared.helpers.validate.ValidationResult.{ValidationResult}
 use Rattle.line_keys.specs.declared.command.CmdKind.{CmdKind}
 use Rattle.line_record.specs.Held.{HeldItem}
-use Rattle.line_editor.specs.RenderCalls.{Marks}
+use Rattle.line_editor.specs.RenderCalls.{Marks, Ruler}
 use Rattle.line_editor.specs.Redraws.{Redraw}
 
 -- the line saved on leaving the history's end
@@ -53,15 +54,27 @@ pub record Hooks : Type 0 where
   pub completes : Answers (Reply Completion)
   pub updates : Line → ℕ → List ℕ → Reply ⊤
 
-abbrev pub hooks_by : {H : Type 0} → (H → Answers (Reply (Option Hinted)))
-    → (H → List ℕ → Reply ValidationResult) → (H → Answers (Reply Completion))
-    → (H → Line → ℕ → List ℕ → Reply ⊤) → H → Hooks
-hooks_by hint_of verdict_of completion_of update_of helper = record {
-  hints = hint_of helper;
-  judge = verdict_of helper;
-  completes = completion_of helper;
-  updates = update_of helper;
-}
+-- the replies of a helper's hooks, and its marks, if there is one
+pub record Helping : Type 0 where
+  pub hooks : Option Hooks
+  pub marks : Option Marks
+
+-- a helper by its replies
+module _ {H : Type 0} (hint_of : H → Answers (Reply (Option Hinted)))
+    (verdict_of : H → List ℕ → Reply ValidationResult)
+    (completion_of : H → Answers (Reply Completion))
+    (update_of : H → Line → ℕ → List ℕ → Reply ⊤) where
+  abbrev pub hooks_by : H → Hooks
+  hooks_by helper = record {
+    hints = hint_of helper;
+    judge = verdict_of helper;
+    completes = completion_of helper;
+    updates = update_of helper;
+  }
+
+  abbrev pub helper_from_hooks : (H → Marks) → Option H → Helping
+  helper_from_hooks marks helper =
+      record { hooks = option_map hooks_by helper; marks = option_map marks helper }
 
 pub record Setting : Type 0 where
   pub prompt : List ℕ
@@ -76,6 +89,19 @@ pub record Setting : Type 0 where
   -- the history, oldest first
   pub entries : List (List ℕ)
   pub config : Config
+
+-- what is passed in for a line
+abbrev pub setting_by : Ruler → List ℕ → Helping → List (List ℕ) → Config → Setting
+setting_by r prompt helping entries config = record {
+  prompt = prompt;
+  column = (r.measure prompt origin).col;
+  mode = r.mode;
+  tabs = r.tabs;
+  hooks = helping.hooks;
+  marks = if r.colours then helping.marks else None;
+  entries = entries;
+  config = config;
+}
 
 -- a line begins at the history's end
 abbrev pub first_value : Setting → Value
@@ -111,14 +137,9 @@ seen_paints marked told paints OfHint text from =
     paints (if told then Message else OfHint) text from
 seen_paints marked told paints part text from = paints part text from
 
-abbrev pub seen_marks : Bool → Bool → Marks → Marks
-seen_marks marked told m = record {
-  marked = m.marked;
-  paints = seen_paints marked told m.paints;
-}
-
 abbrev pub marks_seen : Bool → Bool → Option Marks → Option Marks
-marks_seen marked told marks = option_map (seen_marks marked told) marks
+marks_seen marked told marks =
+    option_map (λ (m : Marks). record m { paints = seen_paints marked told m.paints }) marks
 
 -- what the drawing of a value takes of them: a text after a line without a hint is a message
 abbrev pub shown_marks : Value → Option Marks → Option Marks
@@ -130,11 +151,10 @@ abbrev pub no_effect : Transition
 no_effect s v = record { value = v; steps = [] }
 
 abbrev pub then_do : Transition → Transition → Transition
-then_do first second s v =
-    record {
-      value = (second s (first s v).value).value;
-      steps = (first s v).steps ++ (second s (first s v).value).steps;
-    }
+then_do first second s v = record {
+  value = (second s (first s v).value).value;
+  steps = (first s v).steps ++ (second s (first s v).value).steps;
+}
 
 abbrev pub draw_effect : Redraw → Transition
 draw_effect x s v = record { value = v; steps = Draws v s.marks x ∷ [] }
@@ -205,18 +225,10 @@ pub record IsFailing (hooks : Option Hooks) : Type 0 where
 
 -- ---- the hint
 
--- an empty text is no hint
-abbrev pub some_hint : Option Hinted → Option Hinted
-some_hint None = None
-some_hint (Some h) = if length h.display == 0 then None else Some h
-
-abbrev pub hint_by : Option (Reply (Option Hinted)) → Option Hinted
-hint_by None = None
-hint_by (Some reply) = some_hint (unwrap_or reply.answer None)
-
--- a new hint
+-- a new hint; an empty text is none
 abbrev pub with_hint : Setting → Value → Value
-with_hint s v = record v { hint = hint_by (hint_reply s v) }
+with_hint s v = let hint = option_and_then (λ r. unwrap_or r.answer None) (hint_reply s v) in
+    record v { hint = option_and_then (λ h. if length h.display == 0 then None else Some h) hint }
 
 abbrev pub without_hint : Value → Value
 without_hint v = record v { hint = None }

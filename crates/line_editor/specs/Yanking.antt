@@ -1,15 +1,13 @@
 -- Texts yanked from the ring, and replaced.
-use Rattle.std.specs.Prelude.{ℕ, ◌-◌, ◌||◌, Bool, true, false, if◌then◌else◌, List, [], ◌∷◌, Option, Some, None, is_some}
+use Rattle.std.specs.Prelude.{ℕ, ◌-◌, ◌||◌, Bool, true, false, if◌then◌else◌, List, Option, Some, None, is_some}
 use Rattle.line_buffer.specs.Clusters.{place_forward, place_backward}
 use Rattle.line_buffer.specs.Insertions.{yank as yanked_in, can_take_before}
 use Rattle.line_buffer.specs.Line.{Line, with_cursor_at}
 use Rattle.line_buffer.specs.declared.types.Anchor.{Anchor}
 use Rattle.line_buffer.specs.declared.types.Anchor.TheVariants.{After, Before}
 use Rattle.line_edits.specs.Edits.{yank_steps, pop_group, by}
-use Rattle.line_edits.specs.WriteSteps.{with_answer}
-use Rattle.line_editor.specs.Drawing.{since, refresh_effect_since}
+use Rattle.line_editor.specs.Drawing.{since, refresh_effect_since, effect_if}
 use Rattle.line_editor.specs.Values.{Value, Transition, no_effect, then_do, value_with_edit, edit_effect, at_line}
-use Rattle.line_editor.specs.Values.EditStep.{Edits}
 
 -- after the cluster at the cursor
 abbrev pub line_at_anchor : Anchor → Line → Line
@@ -31,10 +29,8 @@ value_after_yank vi text n v =
     if is_some (yanked_in text n v.line).answer then at_line (behind_yank vi w.line) w else w
 
 abbrev pub yank_effect : Bool → List ℕ → ℕ → Transition
-yank_effect vi text n s v = record {
-  value = value_after_yank vi text n v;
-  steps = Edits v (with_answer tt (yank_steps text n v.line)) ∷ [];
-}
+yank_effect vi text n s v =
+    record (edit_effect (yank_steps text n) s v) { value = value_after_yank vi text n v }
 
 abbrev pub yank_text : Bool → List ℕ → Anchor → ℕ → Transition
 yank_text vi text anchor n s v =
@@ -46,11 +42,9 @@ yank_text vi text anchor n s v =
 
 -- if so many bytes precede the cursor, from a character boundary on; the line stays up to them
 abbrev pub pop_text : ℕ → List ℕ → Transition
-pop_text size text s v =
-    if can_take_before size v.line
-    then then_do (edit_effect (pop_group size text))
-    (refresh_effect_since (since s (v.line.place - size) v)) s v
-    else no_effect s v
+pop_text size text s v = effect_if (can_take_before size v.line)
+    (then_do (edit_effect (pop_group size text))
+    (refresh_effect_since (since s (v.line.place - size) v))) s v
 
 -- ---- the ring's text
 

@@ -4,7 +4,7 @@ ghost use Rattle.line_config.specs.Refusals.{OrMemory};
 ghost use Rattle.line_config.specs.declared.errors.ReadlineError.TheVariants.{Memory};
 ghost use Rattle.line_editor.specs.Candidates.{only_put, only_completed, rows_of, more_row, list_text, list_shown, list_effect, list_standing, candidate_at, turn_effect, modal_after_turn, cycle_begun, cycle_first, cycle_back, next_turned, next_modal, ask_and_turn_effect, modal_after_ask, cycle_effect, cycle, several, several_modal, offer_effect, modal_after_offer, tab_effect, tab};
 ghost use Rattle.line_editor.specs.Completing.{common_text, completion_from};
-ghost use Rattle.line_editor.specs.Modal.{modal_of};
+ghost use Rattle.line_editor.specs.Modal.{modal_of, next_of};
 
 use crate::completing::{begins_word, elected};
 use crate::modal_state::{ModalState, Next, Standing, cycle_at};
@@ -116,7 +116,7 @@ impl<'p, 'h, Out: Renderer, H: Helper + Drop, Hi: History> State<'p, 'h, Out, H,
     ghost use Rattle.line_editor.specs.Drawing.{beep_effect, refresh_effect};
     ghost use Rattle.line_editor.specs.States.{value_of, setting_of, Does};
     ghost use Rattle.line_editor.specs.Values.{completion_reply, then_do};
-    ghost use Rattle.line_editor.specs.Turn.{MeetsAs};
+    ghost use Rattle.line_editor.specs.Turn.{Meets};
 
     /// Replaces the word by the only candidate. Beeps if there is none.
     fn complete_only(
@@ -303,7 +303,7 @@ impl<'p, 'h, Out: Renderer, H: Helper + Drop, Hi: History> State<'p, 'h, Out, H,
         lists: bool,
         cmd: &Cmd,
     ) -> Result<Next, ReadlineError>
-        ensures { MeetsAs (tab lists (modal_of modal.old) cmd.now) cmd.now self.old self.new
+        ensures { Meets (tab lists (modal_of modal.old) cmd.now) (next_of cmd.now) self.old self.new
             (modal_of modal.new) result }
     {
         if self.helper.is_none() {
@@ -377,7 +377,7 @@ impl<'p, 'h, Out: Renderer, H: Helper + Drop, Hi: History> State<'p, 'h, Out, H,
         dir: SearchDirection,
         cmd: &Cmd,
     ) -> Result<Next, ReadlineError>
-        ensures { MeetsAs (cycle dir (modal_of modal.old) cmd.now) cmd.now self.old self.new
+        ensures { Meets (cycle dir (modal_of modal.old) cmd.now) (next_of cmd.now) self.old self.new
             (modal_of modal.new) result }
     {
         if self.helper.is_none() {

@@ -5,6 +5,7 @@ ghost use Rattle.line_config.specs.declared.errors.ReadlineError.{ReadlineError}
 ghost use Rattle.line_buffer.specs.Printable.{at_plain_end, is_printable};
 ghost use Rattle.std.specs.List.{list_all};
 ghost use Rattle.line_editor.specs.declared.way.Way.TheVariants.{AtEnd, Inside};
+ghost use Rattle.line_keys.specs.declared.command.Cmd.TheVariants.{Kill};
 
 use crate::characters::{last_char, stands_apart};
 use crate::measured::known_within;
@@ -22,7 +23,8 @@ impl<'p, 'h, Out: Renderer, H: Helper + Drop, Hi: History> State<'p, 'h, Out, H,
     ghost use Rattle.line_editor.specs.States.{value_of, setting_of, Does, Stays};
     ghost use Rattle.line_editor.specs.Drawing.{AreNoted};
     ghost use Rattle.line_editor.specs.Inserting.{has_printable_rest};
-    ghost use Rattle.line_editor.specs.Killing.{may_be_taken, may_be_taken_out, text_gone, last_of_bare, way_erased, show_killed_effect, kill_way, kill_effect, insert_text_if, replace, ring_with_kill_of, LeavesRing, ring_with_copy};
+    ghost use Rattle.line_editor.specs.Killing.{may_be_taken, may_be_taken_out, text_gone, last_of_bare, way_erased, show_killed_effect, kill_way, kill_effect, insert_text_if, replace, ring_with_kill_of, ring_with_copy};
+    ghost use Rattle.line_editor.specs.Commands.{CutRing};
 
     /// Whether erasing the rest of the row may show the kill of a range: printable characters,
     /// deleted from a bare line.
@@ -166,7 +168,7 @@ impl<'p, 'h, Out: Renderer, H: Helper + Drop, Hi: History> State<'p, 'h, Out, H,
         ensures ring { OnOk result
             (ring.new ≡ ring_with_kill_of movement.now (value_of self.old) ring.old) }
         ensures refused_ring { IfErr result
-            (LeavesRing movement.now (value_of self.old) ring.old ring.new) }
+            (CutRing (Kill movement.now) (value_of self.old) ring.old ring.new) }
     {
         let span = self.recorded.line.range_of(movement);
         if self.highlight_char {
@@ -190,7 +192,7 @@ impl<'p, 'h, Out: Renderer, H: Helper + Drop, Hi: History> State<'p, 'h, Out, H,
         ensures ring { OnOk result
             (ring.new ≡ ring_with_kill_of movement.now (value_of self.old) ring.old) }
         ensures refused_ring { IfErr result
-            (LeavesRing movement.now (value_of self.old) ring.old ring.new) }
+            (CutRing (Kill movement.now) (value_of self.old) ring.old ring.new) }
     {
         let noted = self.line_spans(self.place_of_kill(span));
         self.kill_noted(movement, span, ring, noted.as_ref())
@@ -213,7 +215,7 @@ impl<'p, 'h, Out: Renderer, H: Helper + Drop, Hi: History> State<'p, 'h, Out, H,
         ensures ring { OnOk result
             (ring.new ≡ ring_with_kill_of movement.now (value_of self.old) ring.old) }
         ensures refused_ring { IfErr result
-            (LeavesRing movement.now (value_of self.old) ring.old ring.new) }
+            (CutRing (Kill movement.now) (value_of self.old) ring.old ring.new) }
     {
         let alone = self.may_be_taken(span);
         let inside = self.may_be_taken_out(span);
@@ -256,7 +258,7 @@ impl<'p, 'h, Out: Renderer, H: Helper + Drop, Hi: History> State<'p, 'h, Out, H,
         ensures ring { OnOk result
             (ring.new ≡ ring_with_kill_of movement.now (value_of self.old) ring.old) }
         ensures refused_ring { IfErr result
-            (LeavesRing movement.now (value_of self.old) ring.old ring.new) }
+            (CutRing (Kill movement.now) (value_of self.old) ring.old ring.new) }
     {
         self.edit_kill(movement, ring)?;
         self.insert_some(text)

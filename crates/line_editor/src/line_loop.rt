@@ -1,8 +1,8 @@
 //! A line: its first drawing, then turns until one ends it.
-ghost use Rattle.std.specs.Prelude.{◌≡◌};
+ghost use Rattle.std.specs.Prelude.{◌≡◌, Ok};
+ghost use Rattle.std.specs.Result.{result_and};
 ghost use Rattle.line_keys.specs.InputStates.{input_of, custom_in};
 ghost use Rattle.line_editor.specs.LineScripts.{turns_script, line_script};
-ghost use Rattle.line_editor.specs.LineRun.{text_or};
 ghost use Rattle.line_editor.specs.Modal.{modal_of};
 ghost use Rattle.line_editor.specs.Turn.{Takes};
 
@@ -29,7 +29,7 @@ impl<'p, 'h, Out: Renderer, H: Helper + Drop, Hi: History> State<'p, 'h, Out, H,
             self.old (input_of input_state.old) kill_ring.old (modal_of modal.old)
             (R.feed rdr.old) self.new (input_of input_state.new) kill_ring.new
             (modal_of modal.new) (R.feed rdr.new)
-            (text_or result self.new.recorded.line.text) }
+            (result_and result (Ok self.new.recorded.line.text)) }
     {
         'turns: loop {
             match self.turn(input_state, rdr, kill_ring, modal)? {
@@ -52,7 +52,7 @@ impl<'p, 'h, Out: Renderer, H: Helper + Drop, Hi: History> State<'p, 'h, Out, H,
             self.old (input_of input_state.old) kill_ring.old (modal_of modal.old)
             (R.feed rdr.old) self.new (input_of input_state.new) kill_ring.new
             (modal_of modal.new) (R.feed rdr.new)
-            (text_or result self.new.recorded.line.text) }
+            (result_and result (Ok self.new.recorded.line.text)) }
     {
         self.refresh()?;
         self.turns(input_state, rdr, kill_ring, modal)

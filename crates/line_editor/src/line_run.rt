@@ -1,8 +1,9 @@
 //! A whole line.
-ghost use Rattle.std.specs.Prelude.{◌≡◌, Err, None, string_bytes};
+ghost use Rattle.std.specs.Prelude.{◌≡◌, Ok, Err, None, string_bytes};
+ghost use Rattle.std.specs.Result.{result_and};
 ghost use Rattle.line_config.specs.declared.errors.ReadlineError.TheVariants.{Memory};
 ghost use Rattle.line_keys.specs.CustomBindings.{custom_of};
-ghost use Rattle.line_editor.specs.LineRun.{Runs, helper_from_hooks, open_or, outcome_of, text_or};
+ghost use Rattle.line_editor.specs.LineRun.{Runs, helper_from_hooks, open_or, outcome_of};
 
 use crate::modal_state::ModalState;
 use crate::renderer::Renderer;
@@ -52,7 +53,7 @@ impl<'p, 'h, Out: Renderer, H: Helper + Drop, Hi: History> State<'p, 'h, Out, H,
     fn ran(self, read: Result<(), ReadlineError>) -> Ran<Out, H>
         ensures out { result.out ≡ self.entry.out }
         ensures helper { result.helper ≡ self.entry.helper }
-        ensures outcome { outcome_of result ≡ text_or read self.entry.recorded.line.text }
+        ensures outcome { outcome_of result ≡ result_and read (Ok self.entry.recorded.line.text) }
         ensures line { result.open_line ≡ open_or read self.entry.recorded.line }
     {
         let State {

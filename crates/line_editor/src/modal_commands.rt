@@ -1,8 +1,9 @@
 //! A command that may be taken before it is done.
 ghost use Rattle.std.specs.Prelude.{◌≡◌, ◌⊎◌, OnOk, string_bytes, IsCharBoundary, IsTrue, length, ◌==◌, Some, Ok};
+ghost use Rattle.std.specs.Result.{result_and};
 ghost use Rattle.line_help.specs.Search.{Finds};
 ghost use Rattle.line_editor.specs.declared.modal_state.Standing.TheVariants.{Searches};
-ghost use Rattle.line_editor.specs.Modal.{modal_of, modal_at_rest, answer_or_error};
+ghost use Rattle.line_editor.specs.Modal.{modal_of, modal_at_rest, next_of};
 ghost use Rattle.line_editor.specs.Searching.{hit_undo_effect, hit_put_effect, search_drawn, look, modal_after_look, search_for, is_place, line_at_place, place_effect, give_up_effect, begin_search, search_start_if, modal_at_search_start, modal_with_query, modal_with_empty_query, empty_query_effect};
 
 use crate::modal_state::{Act, ModalState, Next, Standing, Wish, act_of, dir_again, wish_of};
@@ -32,10 +33,10 @@ fn place_cursor(line: &mut LineBuffer, place: usize)
 
 impl<'p, 'h, Out: Renderer, H: Helper + Drop, Hi: History> State<'p, 'h, Out, H, Hi> {
     ghost use Rattle.line_edits.specs.Edits.{update_group};
-    ghost use Rattle.line_editor.specs.Searching.{type_effect, looks, modal_with_char, onward, erase_effect, looks_erased, looks_on, put_again_effect, search_again};
+    ghost use Rattle.line_editor.specs.Searching.{type_effect, looks, modal_with_char, onward, looks_erased, looks_on, put_again_effect, search_again};
     ghost use Rattle.line_editor.specs.States.{value_of, setting_of, Does};
-    ghost use Rattle.line_editor.specs.ModalCommands.{meeting_at_rest, meeting_in_prefixes, meeting_after_tab, meeting_in_list, meeting_in_cycle, meeting_anew};
-    ghost use Rattle.line_editor.specs.Turn.{Meets, MeetsAs, MeetsBy};
+    ghost use Rattle.line_editor.specs.ModalCommands.{meeting, meeting_at_rest, meeting_in_prefixes, meeting_after_tab, meeting_in_list, meeting_in_cycle, meeting_anew};
+    ghost use Rattle.line_editor.specs.Turn.{Meets};
     ghost use Rattle.line_editor.specs.Values.{edit_effect};
 
     /// Undoes the entry that stands in place of the line, if there is one.
@@ -171,7 +172,8 @@ impl<'p, 'h, Out: Renderer, H: Helper + Drop, Hi: History> State<'p, 'h, Out, H,
 
     /// The query without its last character.
     fn search_erased(&mut self, modal: &mut ModalState) -> Result<(), ReadlineError>
-        ensures does { Does (erase_effect (modal_of modal.old)) self.old self.new result }
+        ensures does { Does (λ a v. (looks_erased (modal_of modal.old) a v).effect) self.old
+            self.new result }
         ensures modal { OnOk result (modal_of modal.new
             ≡ (looks_erased (modal_of modal.old) (setting_of self.old) (value_of self.old)).modal) }
     {
@@ -219,8 +221,8 @@ impl<'p, 'h, Out: Renderer, H: Helper + Drop, Hi: History> State<'p, 'h, Out, H,
     /// What a search that goes on makes of a command.
     fn met_searches(&mut self, modal: &mut ModalState, cmd: &Cmd) -> Result<Next, ReadlineError>
         requires { modal.old.standing ≡ Searches }
-        ensures { MeetsBy cmd.now self.old (modal_of modal.old) self.new (modal_of modal.new)
-            result }
+        ensures { Meets (meeting (modal_of modal.old) cmd.now) (next_of cmd.now) self.old self.new
+            (modal_of modal.new) result }
     {
         match act_of(cmd) {
             Act::Types(c) => self.search_typed(modal, c)?,
@@ -239,8 +241,9 @@ impl<'p, 'h, Out: Renderer, H: Helper + Drop, Hi: History> State<'p, 'h, Out, H,
         dir: SearchDirection,
         cmd: &Cmd,
     ) -> Result<Next, ReadlineError>
-        ensures { MeetsAs (search_start_if (length (setting_of self.old).entries == 0) dir
-            (modal_of modal.old) cmd.now) cmd.now self.old self.new (modal_of modal.new) result }
+        ensures { Meets (search_start_if (length (setting_of self.old).entries == 0) dir
+            (modal_of modal.old) cmd.now) (next_of cmd.now) self.old self.new
+            (modal_of modal.new) result }
     {
         if self.ctx.history().len() == 0 {
             return Ok(Next::Same);
@@ -266,7 +269,7 @@ impl<'p, 'h, Out: Renderer, H: Helper + Drop, Hi: History> State<'p, 'h, Out, H,
         way: SearchAgain,
         cmd: &Cmd,
     ) -> Result<Next, ReadlineError>
-        ensures { MeetsAs (search_again way (modal_of modal.old)) cmd.now self.old self.new
+        ensures { Meets (search_again way (modal_of modal.old)) (next_of cmd.now) self.old self.new
             (modal_of modal.new) result }
     {
         let history = self.ctx.history();
@@ -290,7 +293,7 @@ impl<'p, 'h, Out: Renderer, H: Helper + Drop, Hi: History> State<'p, 'h, Out, H,
         wish: Wish,
         cmd: &Cmd,
     ) -> Result<Next, ReadlineError>
-        ensures { MeetsAs (meeting_at_rest wish (modal_of modal.old) cmd.now) cmd.now
+        ensures { Meets (meeting_at_rest wish (modal_of modal.old) cmd.now) (next_of cmd.now)
             self.old self.new (modal_of modal.new) result }
     {
         match wish {
@@ -309,7 +312,7 @@ impl<'p, 'h, Out: Renderer, H: Helper + Drop, Hi: History> State<'p, 'h, Out, H,
         wish: Wish,
         cmd: &Cmd,
     ) -> Result<Next, ReadlineError>
-        ensures { MeetsAs (meeting_in_prefixes wish (modal_of modal.old) cmd.now) cmd.now
+        ensures { Meets (meeting_in_prefixes wish (modal_of modal.old) cmd.now) (next_of cmd.now)
             self.old self.new (modal_of modal.new) result }
     {
         match wish {
@@ -329,7 +332,7 @@ impl<'p, 'h, Out: Renderer, H: Helper + Drop, Hi: History> State<'p, 'h, Out, H,
         wish: Wish,
         cmd: &Cmd,
     ) -> Result<Next, ReadlineError>
-        ensures { MeetsAs (meeting_after_tab wish (modal_of modal.old) cmd.now) cmd.now
+        ensures { Meets (meeting_after_tab wish (modal_of modal.old) cmd.now) (next_of cmd.now)
             self.old self.new (modal_of modal.new) result }
     {
         match wish {
@@ -348,7 +351,7 @@ impl<'p, 'h, Out: Renderer, H: Helper + Drop, Hi: History> State<'p, 'h, Out, H,
         wish: Wish,
         cmd: &Cmd,
     ) -> Result<Next, ReadlineError>
-        ensures { MeetsAs (meeting_anew wish (modal_of modal.old) cmd.now) cmd.now
+        ensures { Meets (meeting_anew wish (modal_of modal.old) cmd.now) (next_of cmd.now)
             self.old self.new (modal_of modal.new) result }
     {
         self.refresh()?;
@@ -363,7 +366,7 @@ impl<'p, 'h, Out: Renderer, H: Helper + Drop, Hi: History> State<'p, 'h, Out, H,
         wish: Wish,
         cmd: &Cmd,
     ) -> Result<Next, ReadlineError>
-        ensures { MeetsAs (meeting_in_list wish (modal_of modal.old) cmd.now) cmd.now
+        ensures { Meets (meeting_in_list wish (modal_of modal.old) cmd.now) (next_of cmd.now)
             self.old self.new (modal_of modal.new) result }
     {
         match wish {
@@ -379,7 +382,7 @@ impl<'p, 'h, Out: Renderer, H: Helper + Drop, Hi: History> State<'p, 'h, Out, H,
         wish: Wish,
         cmd: &Cmd,
     ) -> Result<Next, ReadlineError>
-        ensures { MeetsAs (meeting_in_cycle wish (modal_of modal.old) cmd.now) cmd.now
+        ensures { Meets (meeting_in_cycle wish (modal_of modal.old) cmd.now) (next_of cmd.now)
             self.old self.new (modal_of modal.new) result }
     {
         match wish {
@@ -398,8 +401,8 @@ impl<'p, 'h, Out: Renderer, H: Helper + Drop, Hi: History> State<'p, 'h, Out, H,
 
     /// What goes on between commands makes of a command.
     fn met(&mut self, modal: &mut ModalState, cmd: &Cmd) -> Result<Next, ReadlineError>
-        ensures { MeetsBy cmd.now self.old (modal_of modal.old) self.new (modal_of modal.new)
-            result }
+        ensures { Meets (meeting (modal_of modal.old) cmd.now) (next_of cmd.now) self.old self.new
+            (modal_of modal.new) result }
     {
         if let Standing::Off = modal.standing {
             return Ok(Next::Same);
@@ -411,8 +414,8 @@ impl<'p, 'h, Out: Renderer, H: Helper + Drop, Hi: History> State<'p, 'h, Out, H,
     /// setting is off.
     #[inline(never)]
     fn met_on(&mut self, modal: &mut ModalState, cmd: &Cmd) -> Result<Next, ReadlineError>
-        ensures { MeetsBy cmd.now self.old (modal_of modal.old) self.new (modal_of modal.new)
-            result }
+        ensures { Meets (meeting (modal_of modal.old) cmd.now) (next_of cmd.now) self.old self.new
+            (modal_of modal.new) result }
     {
         match modal.standing {
             Standing::Off => Ok(Next::Same),
@@ -432,8 +435,8 @@ impl<'p, 'h, Out: Renderer, H: Helper + Drop, Hi: History> State<'p, 'h, Out, H,
         modal: &mut ModalState,
         cmd: &mut Cmd,
     ) -> Result<(), ReadlineError>
-        ensures { Meets cmd.old self.old (modal_of modal.old) self.new (modal_of modal.new)
-            (answer_or_error result cmd.new) }
+        ensures { Meets (meeting (modal_of modal.old) cmd.old) (λ c. c) self.old self.new
+            (modal_of modal.new) (result_and result (Ok cmd.new)) }
     {
         match self.met(modal, cmd)? {
             Next::Nothing => *cmd = Cmd::Unknown,

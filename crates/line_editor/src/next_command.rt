@@ -1,7 +1,6 @@
 //! The next command of a line.
 ghost use Rattle.std.specs.Prelude.{◌≡◌, ◌<◌, OnOk};
-ghost use Rattle.line_keys.specs.Follows.{Follows};
-ghost use Rattle.line_keys.specs.InputStates.{input_of, custom_in};
+ghost use Rattle.line_keys.specs.InputStates.{input_of, custom_in, Follows};
 ghost use Rattle.line_keys.specs.Requests.{Begins, IsLater, abort_in, first_request};
 ghost use Rattle.line_editor.specs.NextCommand.{line_phrase, begins_group, ring_after_reset};
 

@@ -1,6 +1,6 @@
 //! Up and Down through the entries that begin with the line.
 ghost use Rattle.std.specs.Prelude.{◌≡◌, ◌&&◌, is_some};
-ghost use Rattle.line_editor.specs.Modal.{modal_of};
+ghost use Rattle.line_editor.specs.Modal.{modal_of, next_of};
 ghost use Rattle.line_editor.specs.Prefixes.{is_prefix, is_own, earlier, later, rises, rises_if, falls};
 
 use crate::modal_state::{ModalState, Next, Standing};
@@ -20,7 +20,7 @@ fn is_prefix(line: &LineBuffer) -> bool
 
 impl<'p, 'h, Out: Renderer, H: Helper + Drop, Hi: History> State<'p, 'h, Out, H, Hi> {
     ghost use Rattle.line_editor.specs.States.{value_of, setting_of};
-    ghost use Rattle.line_editor.specs.Turn.{MeetsAs};
+    ghost use Rattle.line_editor.specs.Turn.{Meets};
 
     /// Whether an earlier entry begins with the text before the cursor.
     fn has_earlier(&self) -> bool
@@ -54,7 +54,7 @@ impl<'p, 'h, Out: Renderer, H: Helper + Drop, Hi: History> State<'p, 'h, Out, H,
 
     /// Up to the earlier entry. The line is saved, to come back to it. Beeps if there is none.
     pub(crate) fn rise(&mut self, modal: &mut ModalState, cmd: &Cmd) -> Result<Next, ReadlineError>
-        ensures { MeetsAs (rises (modal_of modal.old)) cmd.now self.old self.new
+        ensures { Meets (rises (modal_of modal.old)) (next_of cmd.now) self.old self.new
             (modal_of modal.new) result }
     {
         if !self.has_earlier() {
@@ -72,8 +72,8 @@ impl<'p, 'h, Out: Renderer, H: Helper + Drop, Hi: History> State<'p, 'h, Out, H,
         modal: &mut ModalState,
         cmd: &Cmd,
     ) -> Result<Next, ReadlineError>
-        ensures { MeetsAs (λ s v. rises_if (is_own s v && is_prefix v.line) (modal_of modal.old)
-            cmd.now s v) cmd.now self.old self.new (modal_of modal.new) result }
+        ensures { Meets (λ s v. rises_if (is_own s v && is_prefix v.line) (modal_of modal.old)
+            cmd.now s v) (next_of cmd.now) self.old self.new (modal_of modal.new) result }
     {
         let own = self.ctx.history_index() == self.ctx.history().len();
         if own && is_prefix(&self.recorded.line) {
@@ -85,7 +85,7 @@ impl<'p, 'h, Out: Renderer, H: Helper + Drop, Hi: History> State<'p, 'h, Out, H,
 
     /// Down to the later entry, or to the line itself.
     pub(crate) fn fall(&mut self, modal: &mut ModalState, cmd: &Cmd) -> Result<Next, ReadlineError>
-        ensures { MeetsAs (falls (modal_of modal.old)) cmd.now self.old self.new
+        ensures { Meets (falls (modal_of modal.old)) (next_of cmd.now) self.old self.new
             (modal_of modal.new) result }
     {
         if self.has_later() {

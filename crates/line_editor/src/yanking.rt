@@ -48,7 +48,7 @@ impl<'p, 'h, Out: Renderer, H: Helper + Drop, Hi: History> State<'p, 'h, Out, H,
     ghost use Rattle.line_editor.specs.States.{value_of, setting_of, Does};
     ghost use Rattle.line_editor.specs.Drawing.{AreNoted};
     ghost use Rattle.line_editor.specs.Yanking.{yank_text, pop_text, yank_lent, pop_lent};
-    ghost use Rattle.line_keys.specs.Modes.{is_vi_command};
+    ghost use Rattle.line_keys.specs.PhraseScripts.{is_vi_command};
     ghost use Rattle.line_record.specs.Ring.{ring_after_yank, ring_after_turn, yank_exchange};
 
     /// Inserts a text `n` times, at the cursor or after the cluster at it.

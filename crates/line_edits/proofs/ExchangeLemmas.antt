@@ -6,25 +6,25 @@ use Rattle.line_buffer.specs.Line.{Line}
 use Rattle.line_buffer.specs.Range.{delete}
 use Rattle.line_record.specs.Items.{Items}
 use Rattle.line_edits.specs.Edits.{char_steps, delete_steps, exchange_steps, back_steps}
-use Rattle.line_edits.specs.WriteSteps.{CutEdit, effect_of_edit, in_turn}
+use Rattle.line_edits.specs.WriteSteps.{CutAlong, effect_of_steps, in_turn}
 use Rattle.line_edits.specs.Written.{Written, Writes, line_and_record}
 use Rattle.line_edits.proofs.StepLemmas.{stops_before, stops_behind, written_is}
 
 -- the clusters stay if that fails
-pub deletion_stopped : (c n count : ℕ) (l : Line) {w v : Written} → CutEdit (delete_steps n l) w v → CutEdit (exchange_steps c n count l) w v
-deletion_stopped c n count l stops =
+pub deletion_stopped : (c n count : ℕ) (l : Line) (w v : Written) → CutAlong (delete_steps n l).steps w v → CutAlong (exchange_steps c n count l).steps w v
+deletion_stopped c n count l w v stops =
     let bare = (delete n l).line in
-    stops_before (delete_steps n l) (in_turn (char_steps c count bare) (back_steps (insert c count bare).line)) stops
+    stops_before (delete_steps n l) (in_turn (char_steps c count bare) (back_steps (insert c count bare).line)) w v stops
 
 -- the characters failed, and the clusters are deleted
-pub exchange_stopped : {E : Type 0} (c n count k : ℕ) (l m after : Line) (old mid new : Items) → k ≡ count → Writes {E = E} (effect_of_edit (delete_steps n l)) (tt {0}) l m old mid (Ok (tt {0}))
-    → CutEdit (char_steps c k m) (line_and_record m mid) (line_and_record after new) → CutEdit (exchange_steps c n count l) (line_and_record l old) (line_and_record after new)
+pub exchange_stopped : {E : Type 0} (c n count k : ℕ) (l m after : Line) (old mid new : Items) → k ≡ count → Writes {E = E} (effect_of_steps (delete_steps n l).steps) (tt {0}) l m old mid (Ok (tt {0}))
+    → CutAlong (char_steps c k m).steps (line_and_record m mid) (line_and_record after new) → CutAlong (exchange_steps c n count l).steps (line_and_record l old) (line_and_record after new)
 exchange_stopped c n count k l m after old mid new is out stops =
     let bare = (delete n l).line in
     let back = back_steps (insert c count bare).line in
-    stops_behind (delete_steps n l) (in_turn (char_steps c count bare) back) (stops_before (char_steps c count bare) back
-    (subst (λ w. CutEdit (char_steps c count bare) w (line_and_record after new)) (written_is out)
-    (subst (λ x. CutEdit (char_steps c count x) (line_and_record m mid) (line_and_record after new)) out.line
-    (subst (λ x. CutEdit (char_steps c x m) (line_and_record m mid) (line_and_record after new)) is stops))))
+    stops_behind (delete_steps n l) (in_turn (char_steps c count bare) back) (line_and_record l old) (line_and_record after new) (stops_before (char_steps c count bare) back _ _
+    (subst (λ w. CutAlong (char_steps c count bare).steps w (line_and_record after new)) (written_is out)
+    (subst (λ x. CutAlong (char_steps c count x).steps (line_and_record m mid) (line_and_record after new)) out.line
+    (subst (λ x. CutAlong (char_steps c x m).steps (line_and_record m mid) (line_and_record after new)) is stops))))
 
 -- ---- where a cluster stands

@@ -9,7 +9,7 @@ use Rattle.std.proofs.lemmas.Str.{encode_ascii, char_from_byte, length-encode, l
 use Rattle.line_buffer.specs.Insertions.{insert as insertion, yank as yanked_in}
 use Rattle.line_buffer.specs.Replay.{line_after_event, line_after_events}
 use Rattle.line_buffer.specs.Line.{Line}
-use Rattle.line_buffer.specs.Indent.{rows_covered, rows_of, front_whitespace, row_event, row_len, row_events, spaces, indent_line}
+use Rattle.line_buffer.specs.Indent.{rows_covered, rows_of, front_whitespace, row_event, row_len, row_events, spaces, indent as indented_in}
 use Rattle.line_buffer.specs.Rows.{row_start, row_end}
 use Rattle.line_buffer.specs.Printable.{is_plain, is_plain_byte}
 use Rattle.line_buffer.proofs.InsertionLemmas.{insert_cases, yank_cases}
@@ -113,7 +113,7 @@ rows_plain amount dedent at [] l h = h
 rows_plain amount dedent at (row ∷ rows) l h =
     rows_plain amount dedent (at + row_len (spaces amount) dedent row + 1) rows (line_after_event (row_event (spaces amount) dedent at row) l) (moved_plain amount dedent at row l h)
 
-pub indented_plain : (movement : Movement) (amount : ℕ) (dedent : Bool) (l : Line) → is_plain l.text ≡ true → is_plain (indent_line movement amount dedent l).text ≡ true
+pub indented_plain : (movement : Movement) (amount : ℕ) (dedent : Bool) (l : Line) → is_plain l.text ≡ true → is_plain (indented_in movement amount dedent l).line.text ≡ true
 indented_plain movement amount dedent l h =
     let first = row_start l.text (rows_covered movement l).0 in
     rows_plain amount dedent first (rows_of (slice_range l.text first (row_end l.text (rows_covered movement l).1))) l h

@@ -1,6 +1,7 @@
 -- Edits by their steps: what a call owes that succeeded, or failed.
-use Rattle.std.proofs.Common.{◌≡◌, ℕ, List, [], ◌∷◌, ◌++◌, refl, ap, ◌∙◌, subst, inl, inr, Result, Ok, Err, OnErr, IsErrAnd, IsUtf8}
+use Rattle.std.proofs.Common.{◌≡◌, ℕ, Bool, true, false, Option, List, [], ◌∷◌, ◌++◌, refl, ap, ◌∙◌, subst, inl, inr, Result, Ok, Err, IsErrAnd, IsUtf8}
 use Rattle.std.proofs.lemmas.Result.{on_err_weaker}
+use Rattle.std.specs.Option.{option_map_or}
 use Rattle.line_buffer.specs.Edit.{StopsAt}
 use Rattle.line_buffer.specs.Event.{ChangeEvent}
 use Rattle.line_buffer.specs.Line.{Line}
@@ -9,7 +10,8 @@ use Rattle.line_buffer.proofs.LeftLemmas.{stopped_first}
 use Rattle.line_record.specs.Items.{Items, ItemsStand, RecordsEventIn, record_refuses, record_on, items_with_mark}
 use Rattle.line_record.specs.RecordCourse.{record_after_events}
 use Rattle.line_record.proofs.RunLemmas.{told_stand, told_held, stopped_stand, part_stopped, recorded_all-nil}
-use Rattle.line_edits.specs.WriteSteps.{WriteStep, Tells, Leaves, Closes, CutEvents, CutAlong, CutEdit, Rewrites, effect_of_edit, effect_of_steps, single_step, in_turn, with_answer, steps_in_group, WriteSteps, effect_of_step}
+use Rattle.line_edits.specs.Edits.{cover_steps}
+use Rattle.line_edits.specs.WriteSteps.{WriteStep, Tells, Leaves, Closes, CutEvents, CutAlong, Rewrites, effect_of_steps, no_steps, single_step, in_turn, with_answer, steps_in_group, WriteSteps, effect_of_step}
 use Rattle.line_edits.specs.Written.{Written, Writes, line_and_record}
 
 -- ---- steps
@@ -25,24 +27,21 @@ along_behind [] more w v h = h
 along_behind (step ∷ steps) more w v h = inl (along_behind steps more (effect_of_step step w) v h)
 
 module _ {A B : Type 0} (first : WriteSteps A) (second : WriteSteps B) where
-  pub stops_before : {w v : Written} → CutEdit first w v → CutEdit (in_turn first second) w v
-  stops_before {w} {v} h = record { stops = along_before first.steps second.steps w v h.stops }
+  pub stops_before : (w v : Written) → CutAlong first.steps w v → CutAlong (in_turn first second).steps w v
+  stops_before = along_before first.steps second.steps
 
-  pub stops_behind : {w v : Written} → CutEdit second (effect_of_edit first w) v → CutEdit (in_turn first second) w v
-  stops_behind {w} {v} h = record { stops = along_behind first.steps second.steps w v h.stops }
+  pub stops_behind : (w v : Written) → CutAlong second.steps (effect_of_steps first.steps w) v → CutAlong (in_turn first second).steps w v
+  stops_behind = along_behind first.steps second.steps
 
--- whatever would have been answered
-pub unanswered : {A B : Type 0} (answer : B) (edit : WriteSteps A) (w v : Written) → CutEdit edit w v → CutEdit (with_answer answer edit) w v
-unanswered answer edit w v h = record { stops = h.stops }
-
-pub left_unanswered : {A B E : Type 0} (result : Result A E) (edit : WriteSteps B) (w v : Written) → OnErr result (CutEdit edit w v) → OnErr result (CutEdit (with_answer (tt {0}) edit) w v)
-left_unanswered result edit w v = on_err_weaker result (unanswered (tt {0}) edit w v)
+-- the cluster that ends at a place overwritten
+abbrev pub overwrite_steps_to : ℕ → Option ℕ → Line → WriteSteps Bool
+overwrite_steps_to c found l = option_map_or (λ end. with_answer true (cover_steps c end l)) found (no_steps false)
 
 -- ---- a call
 
 -- one that failed has made the first steps, and the record stands
 pub rewrites_refused : {A E : Type 0} {steps : WriteSteps A} {before after : Line} {old new : Items} (e : E) (result : Result A E)
-    → IsErrAnd result (λ x. x ≡ e) → ItemsStand new after.text → CutEdit steps (line_and_record before old) (line_and_record after new) → Rewrites steps before after old new result
+    → IsErrAnd result (λ x. x ≡ e) → ItemsStand new after.text → CutAlong steps.steps (line_and_record before old) (line_and_record after new) → Rewrites steps before after old new result
 rewrites_refused e (Ok a) is stand stops = absurd is
 rewrites_refused e (Err x) is stand stops = record { writes = record { answers = tt; line = tt; held = tt; stand = stand }; left = stops }
 
@@ -57,7 +56,7 @@ pub behind_move : {A E : Type 0} {steps : WriteSteps A} (before : Line) (place :
     → Rewrites steps (record before { place = place }) after old new result → Rewrites (in_turn (single_step (Leaves (record before { place = place })) (tt {0})) steps) before after old new result
 behind_move before place result h = record {
   writes = record { answers = h.writes.answers; line = h.writes.line; held = h.writes.held; stand = h.writes.stand };
-  left = on_err_weaker result (λ h. record { stops = inl h.stops }) h.left;
+  left = on_err_weaker result (λ h. inl h) h.left;
 }
 
 -- ---- events
@@ -94,15 +93,15 @@ pub stopped_rewrites : {A E : Type 0} {events : List ChangeEvent} {line : Line} 
     → IsErrAnd result (λ x. x ≡ e) → IsUtf8 before.text → ItemsStand old before.text → StopsAt RecordsEventIn (wants_or record_refuses) [] events old new before after
     → Rewrites (single_step (Tells events line) answer) before after old new result
 stopped_rewrites e result is utf8 stand call =
-    rewrites_refused e result is (stopped_stand stand utf8 call.stops) (record { stops = inr (stopped_among utf8 stand call) })
+    rewrites_refused e result is (stopped_stand stand utf8 call.stops) (inr (stopped_among utf8 stand call))
 
 -- ---- groups
 
 -- the edit failed after the mark
 pub stopped_in_group : {A E : Type 0} (steps : WriteSteps A) (line : Line) (old : Items) {mid new : Items} {after : Line} → mid ≡ items_with_mark old → (e : E) (result : Result A E) → IsErrAnd result (λ x. x ≡ e) → ItemsStand new after.text
-    → CutEdit steps (line_and_record line mid) (line_and_record after new) → Rewrites (steps_in_group steps) line after old new result
+    → CutAlong steps.steps (line_and_record line mid) (line_and_record after new) → Rewrites (steps_in_group steps) line after old new result
 stopped_in_group steps line old {mid} {new} {after} marked e result is stand h =
-    rewrites_refused e result is stand (record { stops = inl (along_before steps.steps (Closes ∷ []) (line_and_record line (items_with_mark old)) (line_and_record after new) (subst (λ items. CutAlong steps.steps (line_and_record line items) (line_and_record after new)) marked h.stops)) })
+    rewrites_refused e result is stand (inl (along_before steps.steps (Closes ∷ []) (line_and_record line (items_with_mark old)) (line_and_record after new) (subst (λ items. CutAlong steps.steps (line_and_record line items) (line_and_record after new)) marked h)))
 
 -- ---- one change
 

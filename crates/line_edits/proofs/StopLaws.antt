@@ -1,5 +1,5 @@
 -- What a failed edit leaves: one of a single change, a kill, and a group.
-use Rattle.std.proofs.Common.{◌≡◌, ◌≤◌, inl, inr, List, [], ◌∷◌, ◌++◌, length, refl, ap, ◌∙◌, arith, Bool, true, false, if◌then◌else◌}
+use Rattle.std.proofs.Common.{◌≡◌, ◌≤◌, ◌⊎◌, inl, inr, List, [], ◌∷◌, ◌++◌, length, refl, ap, ◌∙◌, arith, Bool, true, false, if◌then◌else◌}
 use Rattle.line_buffer.specs.Event.{ChangeEvent}
 use Rattle.line_buffer.specs.Event.ChangeEvent.{StartKilling}
 use Rattle.line_buffer.specs.Line.{Line}
@@ -9,8 +9,12 @@ use Rattle.line_buffer.specs.Replay.{line_after_events}
 use Rattle.line_buffer.proofs.KeptLemmas.{none_done, kill_cut, insert_few, yank_few}
 use Rattle.line_record.specs.RecordCourse.{record_after_events}
 use Rattle.line_edits.specs.Edits.{RefusedChangesLeaveAll, RefusedGroupsStayOpen}
-use Rattle.line_edits.specs.WriteSteps.{WriteStep, Tells, Closes, CutEvents, CutAlong, CutEdit, after_events, single_step, effect_of_step}
-use Rattle.line_edits.specs.Written.{Written, group_opened}
+use Rattle.line_edits.specs.WriteSteps.{WriteStep, Closes, CutEvents, CutAlong, effect_of_step}
+use Rattle.line_edits.specs.Written.{Written, after_edit, group_opened}
+
+-- line and record after events
+abbrev after_events : List ChangeEvent → Written → Written
+after_events events w = after_edit events (line_after_events events w.line) w
 
 followed-none : (w : Written) → after_events [] w ≡ w
 unfolding line_after_events record_after_events
@@ -35,8 +39,8 @@ kill_within movement l {w} x =
     x.left ∙ ap (λ es. after_events es w) cut.marks ∙ mark_within (goes_by_clusters movement) w
 
 -- an edit of one step
-stopped_step : {A : Type 0} {events : List ChangeEvent} {line : Line} {answer : A} {w v : Written} → CutEdit (single_step (Tells events line) answer) w v → CutEvents events w v
-stopped_step h = elim h.stops [ inl none ↦ absurd none | inr refused ↦ refused ]
+stopped_step : {events : List ChangeEvent} {w v : Written} → ⊥ ⊎ CutEvents events w v → CutEvents events w v
+stopped_step h = elim h [ inl none ↦ absurd none | inr refused ↦ refused ]
 
 pub refused_changes_leave_all : RefusedChangesLeaveAll
 refused_changes_leave_all = record {
@@ -55,7 +59,7 @@ unclosed (step ∷ steps) w v (inl h) = inl (unclosed steps (effect_of_step step
 unclosed (step ∷ steps) w v (inr h) = inr h
 
 pub refused_groups_stay_open : RefusedGroupsStayOpen
-refused_groups_stay_open edit w v h = elim h.stops [
-  | inl within ↦ inr (record { stops = unclosed edit.steps (group_opened w) v within })
+refused_groups_stay_open edit w v h = elim h [
+  | inl within ↦ inr (unclosed edit.steps (group_opened w) v within)
   | inr refused ↦ inl refused
 ]

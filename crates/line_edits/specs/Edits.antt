@@ -1,5 +1,6 @@
 -- The steps of each edit of a line and its record, and their effect on both.
-use Rattle.std.specs.Prelude.{◌≡◌, ◌⊎◌, ⊤, ℕ, Bool, true, false, max, if◌then◌else◌, List, [], ◌∷◌, take, drop, length, Option, Some, None, is_some, encode_utf8, Result, OnOk, OnErr}
+use Rattle.std.specs.Prelude.{◌≡◌, ◌⊎◌, ⊤, ℕ, Bool, true, false, max, if◌then◌else◌, List, [], ◌∷◌, take, drop, length, Option, is_some, encode_utf8, Result, OnOk, OnErr}
+use Rattle.std.specs.Option.{option_map_or}
 use Rattle.unicode_segmentation.specs.Grapheme.{graphemes}
 use Rattle.line_buffer.specs.Clusters.{place_forward, place_backward}
 use Rattle.line_buffer.specs.Indent.{indent}
@@ -13,14 +14,14 @@ use Rattle.line_buffer.specs.declared.types.Movement.{Movement}
 use Rattle.line_buffer.specs.declared.types.WordAction.{WordAction}
 use Rattle.line_record.specs.Held.{line_back, has_step, ahead_back}
 use Rattle.line_record.specs.Ring.{Ring, ring_all}
-use Rattle.line_edits.specs.WriteSteps.{WriteSteps, Tells, Leaves, effect_of_edit, single_step, no_steps, steps_of_edit, in_turn, with_answer, steps_in_group, CutEdit}
+use Rattle.line_edits.specs.WriteSteps.{WriteSteps, Tells, Leaves, effect_of_steps, single_step, no_steps, steps_of_edit, in_turn, with_answer, steps_in_group, CutAlong}
 use Rattle.line_edits.specs.Written.{Written, Writes, line_and_record_in, group_opened}
 use Rattle.line_edits.specs.declared.recorded_line.RecordedLine.{RecordedLine}
 use Rattle.line_record.specs.Items.{Items, CutUndo, no_items, last_changes, ahead_on}
 
 -- the effect of an edit of the line on line and record
 abbrev pub by : {A : Type 0} → (Line → WriteSteps A) → Written → Written
-by edit w = effect_of_edit (edit w.line) w
+by edit w = effect_of_steps (edit w.line).steps w
 
 -- ---- insertions
 
@@ -32,8 +33,8 @@ yank_steps text n l = steps_of_edit (yank text n l)
 
 -- a text inserted at the cursor, which stays before it
 abbrev pub text_steps : List ℕ → Line → WriteSteps ⊤
-text_steps text l = single_step
-    (Tells (insertion l.place text ∷ []) (with_text_at l.place text l)) tt
+text_steps text l =
+    single_step (Tells (insertion l.place text ∷ []) (with_text_at l.place text l)) tt
 
 -- the whole text replaced
 abbrev pub update_steps : List ℕ → ℕ → Line → WriteSteps ⊤
@@ -44,11 +45,8 @@ update_group text place l = steps_in_group (update_steps text place l)
 
 -- ---- a yanked text replaced
 
-abbrev pub pop_steps : ℕ → List ℕ → Line → WriteSteps ⊤
-pop_steps size text l = with_answer tt (steps_of_edit (yank_pop size text l))
-
 abbrev pub pop_group : ℕ → List ℕ → Line → WriteSteps ⊤
-pop_group size text l = steps_in_group (pop_steps size text l)
+pop_group size text l = steps_in_group (with_answer tt (steps_of_edit (yank_pop size text l)))
 
 -- ---- deletions
 
@@ -99,20 +97,15 @@ cover_steps c end l =
     (with_replacement l.place end (encode_utf8 c) l)) tt
 
 -- the cluster at the cursor overwritten, if there is one
-abbrev pub overwrite_steps_to : ℕ → Option ℕ → Line → WriteSteps Bool
-overwrite_steps_to c None l = no_steps false
-overwrite_steps_to c (Some end) l = with_answer true (cover_steps c end l)
-
 abbrev pub overwrite_steps : ℕ → Line → WriteSteps Bool
-overwrite_steps c l = overwrite_steps_to c (place_forward 1 l) l
+overwrite_steps c l =
+    option_map_or (λ end. with_answer true (cover_steps c end l)) (place_forward 1 l)
+    (no_steps false)
 
 -- ---- clusters and words
 
-abbrev pub transpose_chars_steps : Line → WriteSteps Bool
-transpose_chars_steps l = steps_of_edit (transpose_chars l)
-
 abbrev pub transpose_chars_group : Line → WriteSteps Bool
-transpose_chars_group l = steps_in_group (transpose_chars_steps l)
+transpose_chars_group l = steps_in_group (steps_of_edit (transpose_chars l))
 
 -- the cursor goes behind the earlier word before the words are swapped
 abbrev pub transpose_words_steps : ℕ → Line → WriteSteps Bool
@@ -123,15 +116,12 @@ transpose_words_steps n l =
 abbrev pub transpose_words_group : ℕ → Line → WriteSteps Bool
 transpose_words_group n l = steps_in_group (transpose_words_steps n l)
 
-abbrev pub word_steps : WordAction → Line → WriteSteps Bool
-word_steps action l = steps_of_edit (edit_word action l)
-
 abbrev pub word_group : WordAction → Line → WriteSteps Bool
-word_group action l = steps_in_group (word_steps action l)
+word_group action l = steps_in_group (steps_of_edit (edit_word action l))
 
 abbrev pub indent_steps : Movement → ℕ → Bool → Line → WriteSteps ⊤
-indent_steps movement amount dedent l = with_answer tt
-    (steps_of_edit (indent movement amount dedent l))
+indent_steps movement amount dedent l =
+    with_answer tt (steps_of_edit (indent movement amount dedent l))
 
 -- ---- undo
 
@@ -156,16 +146,16 @@ pub record Undoes {E : Type 0} (n : ℕ) (before after : RecordedLine) (result :
 
 -- one change that fails leaves line and record as they were
 pub record RefusedChangesLeaveAll : Type 0 where
-  pub typed : (c n : ℕ) (w v : Written) → CutEdit (char_steps c n w.line) w v → v ≡ w
-  pub yanked : (text : List ℕ) (n : ℕ) (w v : Written) → CutEdit (yank_steps text n w.line) w v → v
-      ≡ w
-  pub put : (text : List ℕ) (w v : Written) → CutEdit (text_steps text w.line) w v → v ≡ w
-  pub put_over : (c end : ℕ) (w v : Written) → CutEdit (cover_steps c end w.line) w v → v ≡ w
-  pub killed : (movement : Movement) (w v : Written) → CutEdit (kill_steps movement w.line) w v → v
-      ≡ w
+  pub typed : (c n : ℕ) (w v : Written) → CutAlong (char_steps c n w.line).steps w v → v ≡ w
+  pub yanked : (text : List ℕ) (n : ℕ) (w v : Written)
+      → CutAlong (yank_steps text n w.line).steps w v → v ≡ w
+  pub put : (text : List ℕ) (w v : Written) → CutAlong (text_steps text w.line).steps w v → v ≡ w
+  pub put_over : (c end : ℕ) (w v : Written) → CutAlong (cover_steps c end w.line).steps w v → v ≡ w
+  pub killed : (movement : Movement) (w v : Written)
+      → CutAlong (kill_steps movement w.line).steps w v → v ≡ w
 
 -- a group that fails leaves all as it was, or its mark open: then the edit after the mark failed
 abbrev pub RefusedGroupsStayOpen : Type 0
 RefusedGroupsStayOpen =
-    (steps : WriteSteps Bool) (w v : Written) → CutEdit (steps_in_group steps) w v
-    → (v ≡ w) ⊎ CutEdit steps (group_opened w) v
+    (steps : WriteSteps Bool) (w v : Written) → CutAlong (steps_in_group steps).steps w v
+    → (v ≡ w) ⊎ CutAlong steps.steps (group_opened w) v

@@ -25,10 +25,6 @@ effect_of_step (Leaves line) w = record { line = line; held = w.held }
 effect_of_step Marks w = group_opened w
 effect_of_step Closes w = group_closed w
 
--- line and record after events
-abbrev pub after_events : List ChangeEvent → Written → Written
-after_events events w = after_edit events (line_after_events events w.line) w
-
 -- one of the events failed: line and record followed those before it together, and neither that one
 -- nor those after it
 pub record CutEvents (events : List ChangeEvent) (w v : Written) : Type 0 where
@@ -37,14 +33,13 @@ pub record CutEvents (events : List ChangeEvent) (w v : Written) : Type 0 where
   pub never : List ChangeEvent
   pub split : events ≡ done ++ refused ∷ never
   pub change : TellsOfChange refused
-  pub left : v ≡ after_events done w
+  pub left : v ≡ after_edit done (line_after_events done w.line) w
 
 -- the state that a failed step leaves; moving the cursor and closing marks never fail
 abbrev pub CutWriteStep : WriteStep → Written → Written → Type 0
 CutWriteStep (Tells events line) w v = CutEvents events w v
-CutWriteStep (Leaves line) w v = ⊥
 CutWriteStep Marks w v = v ≡ w
-CutWriteStep Closes w v = ⊥
+CutWriteStep step w v = ⊥
 
 -- ---- edits
 
@@ -57,17 +52,10 @@ abbrev pub effect_of_steps : List WriteStep → Written → Written
 effect_of_steps [] w = w
 effect_of_steps (step ∷ steps) w = effect_of_steps steps (effect_of_step step w)
 
--- the effect of all steps
-abbrev pub effect_of_edit : {A : Type 0} → WriteSteps A → Written → Written
-effect_of_edit edit w = effect_of_steps edit.steps w
-
+-- the first steps were made, in order; the failed one and those after it were not
 abbrev pub CutAlong : List WriteStep → Written → Written → Type 0
 CutAlong [] w v = ⊥
 CutAlong (step ∷ steps) w v = CutAlong steps (effect_of_step step w) v ⊎ CutWriteStep step w v
-
--- the first steps were made, in order; the failed one and those after it were not
-pub record CutEdit {A : Type 0} (edit : WriteSteps A) (w v : Written) : Type 0 where
-  pub stops : CutAlong edit.steps w v
 
 -- ---- parts of edits
 
@@ -83,8 +71,7 @@ steps_of_edit edit = single_step (Tells edit.events edit.line) edit.answer
 
 -- one edit after another
 abbrev pub in_turn : {A B : Type 0} → WriteSteps A → WriteSteps B → WriteSteps B
-in_turn first second =
-    record { steps = first.steps ++ second.steps; answer = second.answer }
+in_turn first second = record { steps = first.steps ++ second.steps; answer = second.answer }
 
 -- the same edit, and another answer
 abbrev pub with_answer : {A B : Type 0} → B → WriteSteps A → WriteSteps B
@@ -92,8 +79,7 @@ with_answer answer edit = record { steps = edit.steps; answer = answer }
 
 -- undone as one
 abbrev pub steps_in_group : {A : Type 0} → WriteSteps A → WriteSteps A
-steps_in_group edit =
-    record { steps = Marks ∷ (edit.steps ++ (Closes ∷ [])); answer = edit.answer }
+steps_in_group edit = record { steps = Marks ∷ (edit.steps ++ (Closes ∷ [])); answer = edit.answer }
 
 -- ---- calls
 
@@ -101,13 +87,14 @@ steps_in_group edit =
 -- made the first of them
 pub record Rewrites {A E : Type 0} (edit : WriteSteps A) (before after : Line) (old new : Items)
     (result : Result A E) : Type 0 where
-  pub writes : Writes (effect_of_edit edit) edit.answer before after old new result
-  pub left : OnErr result (CutEdit edit (line_and_record before old) (line_and_record after new))
+  pub writes : Writes (effect_of_steps edit.steps) edit.answer before after old new result
+  pub left : OnErr result
+      (CutAlong edit.steps (line_and_record before old) (line_and_record after new))
 
--- the same of a line with its record, whatever the answer
+-- the same of a line with its record
 pub record Edits {A E : Type 0} (edit : WriteSteps A) (before after : RecordedLine)
     (result : Result A E) : Type 0 where
-  pub writes : Writes (effect_of_edit edit) edit.answer
+  pub writes : Writes (effect_of_steps edit.steps) edit.answer
       before.line after.line before.changes after.changes result
   pub left : OnErr result
-      (CutEdit (with_answer (tt {0}) edit) (line_and_record_in before) (line_and_record_in after))
+      (CutAlong edit.steps (line_and_record_in before) (line_and_record_in after))

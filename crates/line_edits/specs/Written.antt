@@ -2,8 +2,7 @@
 use Rattle.std.specs.Prelude.{◌≡◌, ◌∷◌, List, Result, IfOk, OnOk}
 use Rattle.line_buffer.specs.Event.{ChangeEvent}
 use Rattle.line_buffer.specs.Line.{Line}
-use Rattle.line_record.specs.Held.{HeldItem, record_after_close}
-use Rattle.line_record.specs.Held.HeldItem.{Opened}
+use Rattle.line_record.specs.Held.{HeldItem, Opened, record_after_close}
 use Rattle.line_record.specs.Items.{Items, ItemsStand, record_on}
 use Rattle.line_record.specs.RecordCourse.{record_after_events}
 use Rattle.line_edits.specs.declared.recorded_line.RecordedLine.{RecordedLine}
@@ -20,8 +19,8 @@ line_and_record_in r = line_and_record r.line r.changes
 
 -- an edit by its events, and the line that it leaves
 abbrev pub after_edit : List ChangeEvent → Line → Written → Written
-after_edit events line w = record
-    { line = line; held = record_after_events events w.line.text w.held }
+after_edit events line w =
+    record { line = line; held = record_after_events events w.line.text w.held }
 
 -- a mark set, and all marks closed
 abbrev pub group_opened : Written → Written
@@ -29,10 +28,6 @@ group_opened w = record { line = w.line; held = Opened w.line.text ∷ w.held }
 
 abbrev pub group_closed : Written → Written
 group_closed w = record { line = w.line; held = record_after_close w.held }
-
--- an edit that is undone as one
-abbrev pub in_group : (Written → Written) → Written → Written
-in_group edit w = group_closed (edit (group_opened w))
 
 -- a call that succeeds has made the edit, and returns this answer; the record fits the line's text
 -- even if the call failed

@@ -1,11 +1,11 @@
 //! Insertions.
-#![tactic(auto, using(crate::proofs::PlainLemmas::typed_is, crate::proofs::PlainLemmas::inserted_is, crate::proofs::PlainLemmas::yanked_is, crate::proofs::StepLemmas::left_unanswered))]
+#![tactic(auto, using(crate::proofs::PlainLemmas::typed_is, crate::proofs::PlainLemmas::inserted_is, crate::proofs::PlainLemmas::yanked_is))]
 
 ghost use Rattle.std.specs.Prelude.{◌≡◌, ◌≤◌, ◌-◌, true, is_some, OnErr, IsCharBoundary};
-ghost use Rattle.line_buffer.specs.Insertions.{insert as insertion, yank as yanked_in};
+ghost use Rattle.line_buffer.specs.Insertions.{insert as insertion, yank as yanked_in, yank_pop};
 ghost use Rattle.line_record.specs.Items.{ItemsStand};
-ghost use Rattle.line_edits.specs.Edits.{char_steps, yank_steps, text_steps, pop_steps, pop_group};
-ghost use Rattle.line_edits.specs.WriteSteps.{Edits, Rewrites};
+ghost use Rattle.line_edits.specs.Edits.{char_steps, yank_steps, text_steps, pop_group};
+ghost use Rattle.line_edits.specs.WriteSteps.{Edits, Rewrites, steps_of_edit, with_answer};
 
 use crate::plain::{is_plain, is_plain_char};
 use crate::recorded_line::RecordedLine;
@@ -74,7 +74,7 @@ fn pop_told(
     requires size { yank_size ≤ line.old.place }
     requires start { IsCharBoundary line.old.text (line.old.place - yank_size) }
     requires stand { ItemsStand changes.old line.old.text }
-    ensures { Rewrites (pop_steps yank_size text.now line.old)
+    ensures { Rewrites (with_answer tt (steps_of_edit (yank_pop yank_size text.now line.old)))
         line.old line.new changes.old changes.new result }
 {
     let _text = line.as_str();

@@ -12,7 +12,7 @@ use line_buffer::{LineBuffer, Movement, OutOfMemory, TextSpan};
 use line_record::{Changeset, Joined, KillRing};
 use std::alloc::Global;
 
-#[tactic(auto, using(line_record::proofs::JoinedLaws::joined_names, line_record::proofs::JoinedLaws::joined_names_refused, crate::proofs::StepLemmas::left_unanswered))]
+#[tactic(auto, using(line_record::proofs::JoinedLaws::joined_names, line_record::proofs::JoinedLaws::joined_names_refused))]
 fn kill_told(
     alloc: Global,
     line: &mut LineBuffer,

@@ -1,9 +1,10 @@
 //! Transposes clusters and words, changes the case of words, indents rows.
-#![tactic(auto, using(crate::proofs::StepLemmas::left_unanswered))]
 
+ghost use Rattle.line_buffer.specs.LetterCase.{edit_word};
+ghost use Rattle.line_buffer.specs.Transpositions.{transpose_chars};
 ghost use Rattle.line_record.specs.Items.{ItemsStand};
-ghost use Rattle.line_edits.specs.Edits.{transpose_chars_steps, transpose_chars_group, transpose_words_steps, transpose_words_group, word_steps, word_group, indent_steps};
-ghost use Rattle.line_edits.specs.WriteSteps.{Edits, Rewrites};
+ghost use Rattle.line_edits.specs.Edits.{transpose_chars_group, transpose_words_steps, transpose_words_group, word_group, indent_steps};
+ghost use Rattle.line_edits.specs.WriteSteps.{Edits, Rewrites, steps_of_edit};
 
 use crate::plain::is_plain;
 use crate::recorded_line::RecordedLine;
@@ -17,7 +18,7 @@ fn chars_told(
     changes: &mut Changeset,
 ) -> Result<bool, OutOfMemory>
     requires { ItemsStand changes.old line.old.text }
-    ensures { Rewrites (transpose_chars_steps line.old)
+    ensures { Rewrites (steps_of_edit (transpose_chars line.old))
         line.old line.new changes.old changes.new result }
 {
     let _text = line.as_str();
@@ -76,7 +77,7 @@ fn word_told(
     action: WordAction,
 ) -> Result<bool, OutOfMemory>
     requires { ItemsStand changes.old line.old.text }
-    ensures { Rewrites (word_steps action line.old)
+    ensures { Rewrites (steps_of_edit (edit_word action line.old))
         line.old line.new changes.old changes.new result }
 {
     let _text = line.as_str();

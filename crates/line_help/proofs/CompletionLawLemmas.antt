@@ -13,7 +13,7 @@ use Rattle.std.proofs.lemmas.Str.{chars-encodes, encodes-chars, scalars-chars, I
 use Rattle.line_buffer.specs.Insertions.{last_cut}
 use Rattle.line_help.specs.Completion.{common_beginning, common_to_all, EscapesComeBack, BeginsText, CommonBeginningIsLongest}
 use Rattle.line_help.proofs.CommonPrefixLemmas.{last_cut_le, last_cut_boundary, last_cut_greatest, alike, long}
-use Rattle.line_help.specs.Quotes.{text_without_escapes, unescaped_chars, escaped_chars, text_with_escapes_by}
+use Rattle.line_help.specs.Quotes.{text_without_escapes, unescaped_chars, escaped_chars}
 use Rattle.line_help.specs.declared.completion.quotes.Quote.TheVariants.{Double, Single, None as Unquoted}
 use Rattle.line_help.proofs.QuoteLemmas.{escaped_one, plain_char}
 
@@ -36,7 +36,7 @@ all_scalar esc breaks s (c ∷ cs) h =
     let left : all_scalars (c ∷ rest) ≡ true = and_from (scalar c) (all_scalars rest) parts.0 (all_scalar esc breaks s cs parts.1) in
     cond_both (breaks c) (esc ∷ c ∷ []) (c ∷ []) (λ front. all_scalars (front ++ rest) ≡ true) (λ e. and_from (scalar esc) (all_scalars (c ∷ rest)) s left) (λ e. left)
 
-comes_back : (text : List ℕ) (esc : ℕ) (breaks : ℕ → Bool) → IsUtf8 text → IsScalar esc → breaks esc ≡ true → text_without_escapes (text_with_escapes_by (Some esc) text breaks) (Some esc) ≡ text
+comes_back : (text : List ℕ) (esc : ℕ) (breaks : ℕ → Bool) → IsUtf8 text → IsScalar esc → breaks esc ≡ true → text_without_escapes (encode_utf8_all (escaped_chars esc breaks (chars text))) (Some esc) ≡ text
 comes_back text esc breaks u s is =
     ap (λ cs. encode_utf8_all (unescaped_chars esc cs)) (chars-encodes (escaped_chars esc breaks (chars text)) (all_scalar esc breaks s (chars text) (scalars-chars text u)))
     ∙ ap encode_utf8_all (read_back esc breaks is (chars text))

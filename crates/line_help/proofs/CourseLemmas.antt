@@ -5,7 +5,7 @@ use Rattle.std.proofs.Math.Nat.{min-eq_left, min-eq_right}
 use Rattle.std.proofs.lemmas.Bool.Decides.{Decides-eqb}
 use Rattle.std.proofs.lemmas.Grind.{flat_map-append}
 use Rattle.std.proofs.lemmas.List.{append-nil, append_assoc, length-append}
-use Rattle.line_help.specs.HistoryCourse.{WrittenHistory, HistoryStep, Adds, Saves, Appends, Loads, after_step, after_steps, just_saved, CanStep, CanMake, CanComeBack, history_from_text, history_made_of, TextKeepsUp}
+use Rattle.line_help.specs.HistoryCourse.{WrittenHistory, HistoryStep, Adds, Saves, Appends, Loads, after_step, after_steps, CanStep, CanMake, CanComeBack, history_from_text, history_made_of, TextKeepsUp}
 use Rattle.line_help.specs.History.{Settings, Filed, entries_after, all_saved, history_with_line, ignores_line, newest, nothing_filed}
 use Rattle.line_help.specs.HistoryText.{header, row_of, rows_text, saved_text}
 use Rattle.line_help.proofs.InTurnLemmas.{InTurn, added_all, added_in_parts, added_when, all_in_turn, all_small, filed_kept, gives_itself, overwritten, stays_in_turn, stays_small}
@@ -177,6 +177,10 @@ comes_back s now r e =
     ∙ ap (λ xs. filed_of s xs 0) (all_written s now r none)
     ∙ ap (λ n. filed_of s r.entries n) (sym none)
     ∙ sym r.is
+
+-- a history made of these lines, with all of it saved
+abbrev just_saved : Settings → List (List ℕ) → WrittenHistory
+just_saved s lines = let made = history_made_of s lines in record { text = saved_text made.kept.entries; history = made }
 
 stands_first : (s : Settings) (lines : List (List ℕ)) → CanComeBack (just_saved s lines).history.kept.entries → Stands s (just_saved s lines)
 stands_first s lines can =

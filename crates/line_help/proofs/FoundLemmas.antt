@@ -231,8 +231,7 @@ module _ (anchored : Bool) (term : List ℕ) (start : ℕ) (entries : List (List
         split = sym (take-append-drop start entries) ∙ ap (λ xs. first ++ xs) f.split ∙ sym (append_assoc first f.front (hit.entry ∷ f.back));
         place = let i : hit.idx ≡ start + length f.front = found.1 in omega arith;
         here = test_hits anchored term hit.entry hit.pos f.here;
-        ahead = omega arith;
-        none_nearer = subst (All (λ entry. ¬ HasTerm anchored term entry)) (sym rest) (λ k d low. test_none anchored term _ (f.missed k d low));
+        none_nearer = (omega arith, subst (All (λ entry. ¬ HasTerm anchored term entry)) (sym rest) (λ k d low. test_none anchored term _ (f.missed k d low)));
       }
 
   backward_found : term ≢ [] → start < length entries → first_back test (reverse (take (start + 1) entries)) ≡ Some hit → IsNearest anchored term start Reverse entries hit
@@ -254,25 +253,24 @@ module _ (anchored : Bool) (term : List ℕ) (start : ℕ) (entries : List (List
         split = sym (take-append-drop (start + 1) entries) ∙ ap (λ xs. xs ++ last) parts ∙ append_assoc (reverse f.back) (hit.entry ∷ reverse f.front) last;
         place = found.1 ∙ sym turned;
         here = test_hits anchored term hit.entry hit.pos f.here;
-        ahead = omega arith;
-        none_nearer = subst (All (λ entry. ¬ HasTerm anchored term entry)) (sym rest) (all_turned (λ entry. ¬ HasTerm anchored term entry) f.front (λ k d low. test_none anchored term _ (f.missed k d low)));
+        none_nearer = (omega arith, subst (All (λ entry. ¬ HasTerm anchored term entry)) (sym rest) (all_turned (λ entry. ¬ HasTerm anchored term entry) f.front (λ k d low. test_none anchored term _ (f.missed k d low))));
       }
 
   is_forward : (n : IsNearest anchored term start Forward entries hit) → first_from test start (drop start entries) ≡ Some hit
   is_forward n =
-      let ahead : start ≤ length n.before = n.ahead in
+      let ahead : start ≤ length n.before = n.none_nearer.0 in
       let place : hit.idx ≡ length n.before = n.place in
       let count = length-drop start n.before in
       let idx : start + length (drop start n.before) ≡ hit.idx = omega arith in
       ap (λ xs. first_from test start (drop start xs)) n.split
       ∙ ap (first_from test start) (drop-append-le start n.before (hit.entry ∷ n.after) ahead)
       ∙ from_is test start (drop start n.before) hit.entry n.after hit.pos
-      (λ k d low. lacks_test anchored term _ (n.none_nearer k d low)) (hits_test anchored term hit.entry hit.pos n.here)
+      (λ k d low. lacks_test anchored term _ (n.none_nearer.1 k d low)) (hits_test anchored term hit.entry hit.pos n.here)
       ∙ ap (λ i. let h : Hit = record { entry = hit.entry; idx = i; pos = hit.pos } in Some h) idx
 
   is_backward : (n : IsNearest anchored term start Reverse entries hit) → first_back test (reverse (take (start + 1) entries)) ≡ Some hit
   is_backward n =
-      let ahead : length n.before ≤ start = n.ahead in
+      let ahead : length n.before ≤ start = n.none_nearer.0 in
       let place : hit.idx ≡ length n.before = n.place in
       let nearer = take (start - length n.before) n.after in
       let count : start + 1 ≡ length n.before + suc (start - length n.before) = omega arith in
@@ -282,7 +280,7 @@ module _ (anchored : Bool) (term : List ℕ) (start : ℕ) (entries : List (List
       ap (λ xs. first_back test (reverse xs)) first
       ∙ ap (first_back test) (turned_at n.before hit.entry nearer)
       ∙ back_is test (reverse nearer) hit.entry (reverse n.before) hit.pos
-      (all_turned (NoHit test) nearer (λ k d low. lacks_test anchored term _ (n.none_nearer k d low))) (hits_test anchored term hit.entry hit.pos n.here)
+      (all_turned (NoHit test) nearer (λ k d low. lacks_test anchored term _ (n.none_nearer.1 k d low))) (hits_test anchored term hit.entry hit.pos n.here)
       ∙ ap (λ i. let h : Hit = record { entry = hit.entry; idx = i; pos = hit.pos } in Some h) (turned ∙ sym place)
 
 found_so : (anchored : Bool) (term : List ℕ) (start : ℕ) (direction : SearchDirection) (entries : List (List ℕ)) (hit : Hit) → term ≢ [] → start < length entries

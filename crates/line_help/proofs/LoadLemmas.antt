@@ -79,12 +79,12 @@ pub good_text : (row : List ℕ) (result : Result Bool ReadlineError) → is_utf
 good_text row (Ok b) utf8 = utf8
 good_text row (Err why) utf8 = tt
 
-pub good_fault : (row : List ℕ) (result : Result Bool ReadlineError) → is_utf8 row ≡ true → 0 < length row → IfErr result (λ e. e ≡ Memory) → IfErr result (λ e. (e ≡ row_fault row) × (0 < length row))
+pub good_fault : (row : List ℕ) (result : Result Bool ReadlineError) → is_utf8 row ≡ true → 0 < length row → IfErr result (λ e. e ≡ Memory) → IfErr result (λ e. (e ≡ row_fault HistoryText row) × (0 < length row))
 good_fault row (Ok b) utf8 some e = tt
 good_fault row (Err why) utf8 some e = (rw utf8 e, some)
 
 -- a row for which memory runs out is UTF-8
-pub memory_row : (row : List ℕ) → row_fault row ≡ Memory → is_utf8 row ≡ true
+pub memory_row : (row : List ℕ) → row_fault HistoryText row ≡ Memory → is_utf8 row ≡ true
 memory_row row e = good_if_memory (is_utf8 row) e
 
 pub left_bad : (h : Filed) (escapes : Bool) (row : List ℕ) (rows : List (List ℕ)) → is_utf8 row ≡ false
@@ -260,12 +260,12 @@ bad_if_followed true f = cc
 bad_if_followed false f = refl
 
 pub bad_row_ends : (escapes whole : Bool) (last : Last) (text here onward row : List ℕ) (before now : Filed) (result : Result Bool ReadlineError)
-    → text_rows last here ≡ row ∷ text_rows last onward → onward ≡ behind_row here → result ≡ Err (row_fault row) → IsTrue (follows result)
+    → text_rows last here ≡ row ∷ text_rows last onward → onward ≡ behind_row here → result ≡ Err (row_fault HistoryText row) → IsTrue (follows result)
     → Underway escapes whole last text here before now → EndsLoad escapes last text onward before now result
 bad_row_ends escapes whole last text here onward row before now result r is e f so =
     let bad : is_utf8 row ≡ false = bad_if_followed (is_utf8 row) (rw e at f) in
     let rows = text_rows last onward in
-    let why : row_fault row ≡ HistoryText = rw bad refl in
+    let why : row_fault HistoryText row ≡ HistoryText = rw bad refl in
     record {
       answer = e ∙ ap (λ w. Err w) why ∙ sym (answer_bad last row rows _ bad) ∙ (rw r at so.answer);
       history = sym (left_bad now escapes row rows bad) ∙ (rw r at so.history);

@@ -4,7 +4,7 @@ use Rattle.std.specs.Prelude.{unwrap_or}
 use Rattle.std.proofs.lemmas.Option.{none-some}
 use Rattle.std.proofs.lemmas.Bool.{and_right, eqb-true}
 use Rattle.std.proofs.lemmas.List.{append-nil}
-use Rattle.line_help.specs.Quotes.{closes_quote, escapes_in, escapes_at, quote_opened_at, quote_after, open_behind, unclosed_quote, Within, nothing_within, byte_within, pair_within, Closed, nothing_closed, byte_closed, pair_closed, between_double, between_single, UpToBackslash, Unclosed, OpensAt, UnclosedQuoteIsOpen}
+use Rattle.line_help.specs.Quotes.{closes_quote, escapes_in, escapes_at, quote_after, open_behind, unclosed_quote, Within, nothing_within, byte_within, pair_within, Closed, nothing_closed, byte_closed, pair_closed, between_double, between_single, UpToBackslash, Unclosed, OpensAt, UnclosedQuoteIsOpen}
 use Rattle.line_help.specs.declared.completion.quotes.Quote.{Quote}
 use Rattle.line_help.specs.declared.completion.quotes.Quote.TheVariants.{Double, Single, None as Unquoted}
 use Rattle.line_help.proofs.QuoteLemmas.{byte_read}
@@ -47,7 +47,7 @@ within_read (pair_within b text is w) quote k p place more =
 between_count : (place mark : ℕ) (inner text : List ℕ) → place + 1 + length inner + 1 + length text ≡ place + length (mark ∷ (inner ++ (mark ∷ text)))
 between_count place mark inner text = omega (arith, length-append inner (mark ∷ text))
 
-no_mark : (place b : ℕ) → b ≢ 34 → b ≢ 39 → quote_opened_at place b ≡ None
+no_mark : (place b : ℕ) → b ≢ 34 → b ≢ 39 → quote_after place b None ≡ None
 no_mark place b n34 n39 = rw (ne_eqb b 34 n34, ne_eqb b 39 n39) refl
 
 closed_read : {front : List ℕ} → Closed front → (place : ℕ) (more : List ℕ) → open_behind None place (front ++ more) ≡ open_behind None (place + length front) more

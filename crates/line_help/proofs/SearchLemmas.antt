@@ -7,7 +7,7 @@ use Rattle.std.proofs.lemmas.Str.Pattern.{starts_text}
 use Rattle.std.proofs.lemmas.Bool.{eq-eqb}
 use Rattle.std.proofs.lemmas.List.{drop_more, take_more, reverse-append, length-reverse, length-take}
 use Rattle.line_help.specs.History.{newest_is}
-use Rattle.line_help.specs.Search.{Hit, first_hit, hit_at_start, hit_or, first_from, first_back, search_hit}
+use Rattle.line_help.specs.Search.{Hit, first_hit, hit_by, hit_or, first_from, first_back, search_hit}
 use Rattle.line_help.specs.declared.history.search.SearchDirection.TheVariants.{Reverse}
 
 pub newest_last : (text : List ℕ) (xs : List (List ℕ)) (d : List ℕ) → 0 < length xs → newest_is text xs ≡ bytes_eq (slice_index_or xs (length xs - 1) d) text
@@ -55,10 +55,10 @@ found_or_later term entry idx other hit true e h later =
     rw same at e
 found_or_later term entry idx other hit false e h later = later h
 
-back_begins : (term : List ℕ) (entries : List (List ℕ)) (hit : Hit) → first_back (hit_at_start term) entries ≡ Some hit → starts_with eqb hit.entry term ≡ true
+back_begins : (term : List ℕ) (entries : List (List ℕ)) (hit : Hit) → first_back (hit_by true term) entries ≡ Some hit → starts_with eqb hit.entry term ≡ true
 back_begins term [] hit h = cc
 back_begins term (entry ∷ entries) hit h =
-    found_or_later term entry (length entries) (first_back (hit_at_start term) entries) hit (starts_with eqb entry term) refl h (back_begins term entries hit)
+    found_or_later term entry (length entries) (first_back (hit_by true term) entries) hit (starts_with eqb entry term) refl h (back_begins term entries hit)
 
 pub unless_none : (none : Bool) (found : Option Hit) (hit : Hit) → (if none then None else found) ≡ Some hit → (none ≡ false) × (found ≡ Some hit)
 unless_none true found hit h = cc
@@ -67,7 +67,7 @@ unless_none false found hit h = (refl, h)
 pub anchored_begins : (term : List ℕ) (start : ℕ) (entries : List (List ℕ)) (hit : Hit) → search_hit true term start Reverse entries ≡ Some hit → starts_with eqb hit.entry term ≡ true
 anchored_begins term start entries hit h =
     back_begins term (reverse (take (start + 1) entries)) hit
-    (unless_none (length term == 0 || nat_le (length entries) start) (first_back (hit_at_start term) (reverse (take (start + 1) entries))) hit h).1
+    (unless_none (length term == 0 || nat_le (length entries) start) (first_back (hit_by true term) (reverse (take (start + 1) entries))) hit h).1
 
 pub ruleset from_steps = (from_step)
 

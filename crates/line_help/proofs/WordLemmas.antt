@@ -1,12 +1,13 @@
 -- Words, one after the other: those that begin as a text does, and those of rows.
-use Rattle.std.proofs.Common.{◌≡◌, ◌∙◌, ℕ, zero, suc, ◌+◌, ◌<◌, true, false, List, [], ◌∷◌, ◌++◌, length, take, get_or, map, drop, refl, sym, ap, ap₂, nat_eq, arith}
+use Rattle.std.proofs.Common.{◌≡◌, ◌∙◌, ℕ, zero, suc, ◌+◌, ◌<◌, true, false, List, [], ◌∷◌, ◌++◌, length, take, get_or, map, drop, refl, sym, ap, ap₂, nat_eq, arith, None, Some}
 use Rattle.std.proofs.lemmas.Bool.{cond_both}
+use Rattle.std.specs.Char.{is_whitespace}
 use Rattle.std.specs.List.{starts_with}
 use Rattle.std.proofs.lemmas.List.{take_more, map-append, append-nil}
 use Rattle.std.proofs.lemmas.List.Elements.{filter-append}
 use Rattle.line_help.specs.HistoryText.{entries_of}
 use Rattle.std.proofs.lemmas.Simd.{map-map}
-use Rattle.line_help.specs.Completion.{text_offered, last_word_start, words_for, words_offered}
+use Rattle.line_help.specs.Completion.{text_offered, word_start, words_for, word_reply}
 
 -- one word more
 words_more : {X : Type 0} (bytes : X → List ℕ) (beginning : List ℕ) (words : List X) (i : ℕ) (word : X) → i < length words → word ≡ get_or words i word
@@ -42,13 +43,13 @@ word_found bytes beginning (x ∷ xs) (suc i) word inside is begins =
     let rest = words_for beginning (map bytes xs) in
     cond_both (starts_with nat_eq (bytes x) beginning) (bytes x ∷ rest) rest (λ ws. 0 < length ws) (λ e. omega arith) (λ e. word_found bytes beginning xs i word (omega arith) is begins)
 
-pub completed : {X : Type 0} (bytes : X → List ℕ) (words : List (List ℕ)) (text : List ℕ) (start : ℕ) (found : List X) → start ≡ last_word_start text
+pub completed : {X : Type 0} (bytes : X → List ℕ) (words : List (List ℕ)) (text : List ℕ) (start : ℕ) (found : List X) → start ≡ word_start None is_whitespace text
     → map bytes found ≡ words_for (drop start text) words
-    → words_offered text_offered words text ≡ record { start = start; candidates = map (λ w. text_offered (bytes w)) found }
+    → (word_reply words text).answer ≡ Some (record { start = start; candidates = map (λ w. text_offered (bytes w)) found })
 completed bytes words text start found at is =
-    let both : map (λ w. text_offered (bytes w)) found ≡ map text_offered (words_for (drop (last_word_start text) text) words) =
+    let both : map (λ w. text_offered (bytes w)) found ≡ map text_offered (words_for (drop (word_start None is_whitespace text) text) words) =
     sym (map-map text_offered bytes found) ∙ ap (map text_offered) (is ∙ ap (λ n. words_for (drop n text) words) at) in
-    ap₂ (λ n ws. record { start = n; candidates = ws }) (sym at) (sym both)
+    ap₂ (λ n ws. Some (record { start = n; candidates = ws })) (sym at) (sym both)
 
 -- the words of a row and of the rows after it
 pub rows_more : (row : List ℕ) (rows : List (List ℕ)) → entries_of false (row ∷ rows) ≡ entries_of false (row ∷ []) ++ entries_of false rows

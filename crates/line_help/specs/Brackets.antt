@@ -7,8 +7,7 @@ use Rattle.std.specs.Option.{option_or}
 abbrev pub all_kinds : List (ℕ × ℕ)
 all_kinds = (40, 41) ∷ ((91, 93) ∷ ((123, 125) ∷ []))
 
--- whether a byte opens, or closes, one of these kinds; whether two bytes are the brackets of one
--- kind
+-- whether a byte opens, or closes, one of these kinds; whether two bytes are brackets of one kind
 abbrev pub opens_some : List (ℕ × ℕ) → ℕ → Bool
 opens_some kinds byte = list_any (λ kind. byte == kind.0) kinds
 
@@ -55,8 +54,7 @@ where_it_is test (Some found) = if test found then Some found else None
 
 -- the bracket at a place, with the place
 abbrev pub bracket_at : List ℕ → ℕ → Option (ℕ × ℕ)
-bracket_at line place =
-    where_it_is (λ found. is_bracket found.0)
+bracket_at line place = where_it_is (λ found. is_bracket found.0)
     (option_map (λ byte. (byte, place)) (slice_get line place))
 
 -- the bracket at the cursor, or the one right before it
@@ -64,67 +62,49 @@ abbrev pub bracket_near : List ℕ → ℕ → Option (ℕ × ℕ)
 bracket_near line pos =
     option_or (bracket_at line pos) (if pos == 0 then None else bracket_at line (pos - 1))
 
--- whether there is text on the side on which the bracket's match would be
-abbrev pub match_has_room : List ℕ → ℕ × ℕ → Bool
-match_has_room line found =
-    if is_closing found.0 then not (found.1 == 0) else not (found.1 == length line - 1)
-
 -- the bracket whose match is to be shown. With the cursor after the line it is the last byte, if
--- that closes; else the bracket near the cursor, if its match has space
+-- that closes; else the bracket near the cursor, if there is text on the side of its match
 abbrev pub bracket_to_match : List ℕ → ℕ → Option (ℕ × ℕ)
 bracket_to_match line pos =
-    if nat_le (length line) pos then where_it_is (λ found. is_closing found.0)
-    (bracket_at line (length line - 1))
-    else where_it_is (match_has_room line) (bracket_near line pos)
+    let last : ℕ = length line - 1 in
+    if nat_le (length line) pos then where_it_is (λ b. is_closing b.0) (bracket_at line last)
+    else where_it_is (λ b. not (b.1 == (if is_closing b.0 then 0 else last)))
+    (bracket_near line pos)
 
--- how many brackets are open after a byte, if this many were before it; only those of one kind
--- count
+-- how many brackets of one kind are open after a byte, if this many were before it
 abbrev pub open_count_after : ℕ → ℕ → ℕ → ℕ → ℕ
 open_count_after same mate byte unclosed =
     if byte == mate then unclosed - 1 else if byte == same then unclosed + 1 else unclosed
 
--- how many bytes are before the bracket `mate` that matches the bracket `same` in front of these
--- bytes
+-- how many bytes are between the bracket `same`, right before these, and its match `mate`
 abbrev pub bytes_between : ℕ → ℕ → ℕ → List ℕ → Option ℕ
 bytes_between same mate unclosed [] = None
 bytes_between same mate unclosed (byte ∷ bytes) = if (byte == mate) && (unclosed == 0) then Some 0
     else option_map suc (bytes_between same mate (open_count_after same mate byte unclosed) bytes)
 
--- the place of the match of a bracket at a place: after it for an opening one, before it for a
--- closing one
+-- the place of the match of a bracket at a place: after an opening one, before a closing one
 abbrev pub match_place : List ℕ → ℕ → ℕ → Option ℕ
 match_place line pos bracket =
     if is_opening bracket then option_map (λ n. pos + 1 + n)
     (bytes_between bracket (partner bracket) 0 (drop (pos + 1) line))
     else if is_closing bracket then option_map (λ n. length (take pos line) - 1 - n)
-    (bytes_between bracket (partner bracket) 0 (reverse (take pos line)))
-    else None
+    (bytes_between bracket (partner bracket) 0 (reverse (take pos line))) else None
 
 abbrev pub match_of : List ℕ → ℕ → ℕ → Option (ℕ × ℕ)
 match_of line pos bracket =
     option_map (λ place. (partner bracket, place)) (match_place line pos bracket)
 
--- at the two places are a bracket and its match: between them the brackets of their kind are
--- balanced
-abbrev pub MatchesBehind : List ℕ → ℕ → ℕ → ℕ → Type 0
-MatchesBehind line opening pos place =
-    (between : List ℕ) × (after : List ℕ)
-    × (drop (pos + 1) line ≡ between ++ (partner opening ∷ after))
-    × Balanced ((opening, partner opening) ∷ []) between × (place ≡ pos + 1 + length between)
-
-abbrev pub MatchesBefore : List ℕ → ℕ → ℕ → ℕ → Type 0
-MatchesBefore line closing pos place =
-    (before : List ℕ) × (between : List ℕ) × (take pos line ≡ before ++ (partner closing ∷ between))
-    × Balanced ((partner closing, closing) ∷ []) between × (place ≡ length before)
-
--- the match of an opening bracket matches it, and nothing else matches it
+-- an opening bracket's match is its partner, after a text in which the brackets of their kind are
+-- balanced; and nothing else is its match
 abbrev pub OpeningIsMatched : Type 0
-OpeningIsMatched =
-    (line : List ℕ) (pos opening place : ℕ) → is_opening opening ≡ true
-    → (match_place line pos opening ≡ Some place) ↔ MatchesBehind line opening pos place
+OpeningIsMatched = (line : List ℕ) (pos opening place : ℕ) → is_opening opening ≡ true
+    → (match_place line pos opening ≡ Some place) ↔ ((between : List ℕ) × (after : List ℕ)
+    × (drop (pos + 1) line ≡ between ++ (partner opening ∷ after))
+    × Balanced ((opening, partner opening) ∷ []) between × (place ≡ pos + 1 + length between))
 
--- the same for a closing bracket
+-- the same for a closing bracket, whose match is before such a text
 abbrev pub ClosingIsMatched : Type 0
-ClosingIsMatched =
-    (line : List ℕ) (pos closing place : ℕ) → is_closing closing ≡ true
-    → (match_place line pos closing ≡ Some place) ↔ MatchesBefore line closing pos place
+ClosingIsMatched = (line : List ℕ) (pos closing place : ℕ) → is_closing closing ≡ true
+    → (match_place line pos closing ≡ Some place) ↔ ((before : List ℕ) × (between : List ℕ)
+    × (take pos line ≡ before ++ (partner closing ∷ between))
+    × Balanced ((partner closing, closing) ∷ []) between × (place ≡ length before))

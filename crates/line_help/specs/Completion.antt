@@ -1,5 +1,4 @@
--- A completer's answer: where the word starts, and what may replace it; and the effect of an update
--- on the line.
+-- A completer's answer: where the word starts, and what may replace it; and an update of the line.
 use Rattle.std.specs.Prelude.{◌≡◌, ◌⊎◌, ℕ, List, [], map, Result, OnOk, OnErr, ◌==◌, Bool, false, if◌then◌else◌, ◌∷◌, length, reverse, Option, Some, None, encode_utf8_all, take, nat_eq, ◌≢◌, IsTrue, ◌++◌, IsUtf8, All, filter, drop, nat_lt}
 use Rattle.std.specs.Global.{Vec}
 use Rattle.line_buffer.specs.Event.{ChangeEvent}
@@ -14,8 +13,7 @@ use Rattle.line_help.specs.declared.completion.quotes.Quote.{Quote}
 use Rattle.line_help.specs.declared.completion.quotes.Quote.TheVariants.{Single}
 use Rattle.line_keys.specs.Replies.{Reply}
 
--- a candidate: the text to list, the text to insert into the line, and the one to insert if there is
--- no other candidate
+-- a candidate: the text to list, the text to insert, and the one to insert if it is the only one
 pub record Offered : Type 0 where
   pub display : List ℕ
   pub replacement : List ℕ
@@ -78,8 +76,7 @@ abbrev pub word_start : Option ℕ → (ℕ → Bool) → List ℕ → ℕ
 word_start esc breaks text =
     length (encode_utf8_all (reverse (before_word esc breaks (reverse (chars text)))))
 
--- the characters that end a word in a shell: space, tab, newline, " \ ' ` @ $ > < = ; | & { ( and
--- NUL
+-- what ends a word in a shell: space, tab, newline, " \ ' ` @ $ > < = ; | & { ( and NUL
 abbrev pub break_characters : List ℕ
 break_characters =
     32 ∷ 9 ∷ 10 ∷ 34 ∷ 92 ∷ 39 ∷ 96 ∷ 64 ∷ 36 ∷ 62 ∷ 60 ∷ 61 ∷ 59 ∷ 124 ∷ 38 ∷ 123 ∷ 40 ∷ 0 ∷ []
@@ -111,9 +108,8 @@ longest_common_prefix (text ∷ (other ∷ others)) = unless_empty (common_to_al
 
 -- an escaped text, unescaped, is the text again, if the escape character is itself escaped
 abbrev pub EscapesComeBack : Type 0
-EscapesComeBack =
-    (text : List ℕ) (esc : ℕ) (breaks : ℕ → Bool) (quote : Quote) → IsUtf8 text → IsScalar esc
-    → IsTrue (breaks esc) → quote ≢ Single
+EscapesComeBack = (text : List ℕ) (esc : ℕ) (breaks : ℕ → Bool) (quote : Quote)
+    → IsUtf8 text → IsScalar esc → IsTrue (breaks esc) → quote ≢ Single
     → text_without_escapes (text_with_escapes text (Some esc) breaks quote) (Some esc) ≡ text
 
 -- one text is a prefix of another
@@ -129,26 +125,21 @@ CommonBeginningIsLongest = (text : List ℕ) (others : List (List ℕ)) → IsUt
     × ((front : List ℕ) → IsUtf8 front → All (BeginsText front) (text ∷ others)
     → BeginsText front (common_to_all text others))
 
--- where the last word of a text begins: after its last whitespace
-abbrev pub last_word_start : List ℕ → ℕ
-last_word_start text = word_start None is_whitespace text
-
 abbrev pub words_for : List ℕ → List (List ℕ) → List (List ℕ)
 words_for beginning words = filter (λ word. starts_with nat_eq word beginning) words
 
--- the completion of a text by words, each as it is offered
-abbrev pub words_offered : (List ℕ → Offered) → List (List ℕ) → List ℕ → Completion
-words_offered offers words text = record {
-  start = last_word_start text;
-  candidates = map offers (words_for (drop (last_word_start text) text) words);
-}
-
--- its candidates take memory
-abbrev pub found_reply : Completion → Reply Completion
-found_reply found = record { answer = Some found; takes = nat_lt 0 (length found.candidates) }
+-- the completion of a text's last word, which whitespace precedes, by words, each as it is offered;
+-- candidates take memory
+abbrev pub words_reply : (List ℕ → Offered) → List (List ℕ) → List ℕ → Reply Completion
+words_reply offers words text =
+    let start : ℕ = word_start None is_whitespace text in
+    let offered : List Offered = map offers (words_for (drop start text) words) in record {
+      answer = Some (record { start = start; candidates = offered });
+      takes = nat_lt 0 (length offered);
+    }
 
 abbrev pub word_reply : List (List ℕ) → List ℕ → Reply Completion
-word_reply words text = found_reply (words_offered text_offered words text)
+word_reply words text = words_reply text_offered words text
 
 -- words, and what ends one that is the only candidate
 pub record WholeWords : Type 0 where
@@ -156,5 +147,4 @@ pub record WholeWords : Type 0 where
   pub end : List ℕ
 
 abbrev pub whole_word_reply : WholeWords → List ℕ → Reply Completion
-whole_word_reply whole text = found_reply
-    (words_offered (word_offered whole.end) whole.words text)
+whole_word_reply whole text = words_reply (word_offered whole.end) whole.words text

@@ -1,5 +1,5 @@
 -- Names of files and folders for a partly typed path.
-use Rattle.std.specs.Prelude.{ℕ, ◌+◌, ◌-◌, ◌==◌, ◌||◌, Bool, true, false, not, List, [], ◌∷◌, ◌++◌, length, take, drop, map, filter, nat_eq, Option, Some, None, is_some, option_map, if◌then◌else◌}
+use Rattle.std.specs.Prelude.{ℕ, ◌+◌, ◌-◌, ◌==◌, ◌||◌, Bool, not, List, [], ◌∷◌, ◌++◌, length, take, drop, map, filter, nat_eq, Option, Some, None, is_some, option_map, if◌then◌else◌}
 use Rattle.std.specs.List.{starts_with, suffix_len}
 use Rattle.std.specs.Ordering.{is_lt, nat_cmp}
 use Rattle.std.specs.Cmp.Lexicographic.{slice_cmp}
@@ -39,16 +39,14 @@ is_special quote c = is_among break_characters c
 
 -- after an open quote the path is the rest; otherwise it is the last word
 abbrev pub path_after_quote : ℕ → Quote → List ℕ → Typed
-path_after_quote start Double text = path_word start
-    (text_without_escapes (drop start text) (Some 92)) Double
+path_after_quote start Double text =
+    path_word start (text_without_escapes (drop start text) (Some 92)) Double
 path_after_quote start quote text = path_word start (drop start text) quote
 
-abbrev pub path_as_word : ℕ → List ℕ → Typed
-path_as_word start text = path_word start
-    (text_without_escapes (drop start text) (Some 92)) Unquoted
-
 abbrev pub path_by_quote : Option (ℕ × Quote) → List ℕ → Typed
-path_by_quote None text = path_as_word (word_start (Some 92) (is_among break_characters) text) text
+path_by_quote None text =
+    let start : ℕ = word_start (Some 92) (is_among break_characters) text in
+    path_word start (text_without_escapes (drop start text) (Some 92)) Unquoted
 path_by_quote (Some within) text = path_after_quote (within.0 + 1) within.1 text
 
 abbrev pub typed_path : List ℕ → Typed
@@ -65,13 +63,9 @@ abbrev pub name_of : List ℕ → List ℕ
 name_of path = drop (folder_len path) path
 
 -- a name, with its folder and with escapes; a slash after a folder
-abbrev pub slash_of : Bool → List ℕ
-slash_of true = 47 ∷ []
-slash_of false = []
-
 abbrev pub offered_name : Quote → List ℕ → Named → Offered
 offered_name quote folder named =
-    let path : List ℕ = (folder ++ named.name) ++ slash_of named.is_dir in
+    let path : List ℕ = (folder ++ named.name) ++ (if named.is_dir then 47 ∷ [] else []) in
     let shown : List ℕ = text_with_escapes path (Some 92) (is_special quote) quote in
     record { display = named.name; replacement = shown; alone = shown }
 
@@ -84,18 +78,18 @@ offered_names quote folder name all =
     map (offered_name quote folder) (filter (name_begins name) all)
 
 abbrev pub completion_in_list_order : Typed → List Named → Completion
-completion_in_list_order typed all =
-    let offered : List Offered =
-    offered_names typed.quote (folder_of typed.path) (name_of typed.path) all in
-    record { start = typed.start; candidates = offered }
+completion_in_list_order typed all = record {
+  start = typed.start;
+  candidates = offered_names typed.quote (folder_of typed.path) (name_of typed.path) all;
+}
 
 -- by what is displayed; items that are displayed alike keep their order
 abbrev pub is_displayed_before : Offered → Offered → Bool
 is_displayed_before x y = is_lt (slice_cmp nat_cmp x.display y.display)
 
 abbrev pub completion_in_order : Completion → Completion
-completion_in_order found = record found
-    { candidates = list_in_order_by is_displayed_before found.candidates }
+completion_in_order found =
+    record found { candidates = list_in_order_by is_displayed_before found.candidates }
 
 -- the candidates for a text, from a list of what folders contain: none if the folder can't be
 -- listed. Memory is taken for the path without its escapes, by the list, and for the candidates

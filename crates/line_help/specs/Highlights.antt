@@ -1,5 +1,6 @@
 -- Highlighted texts: texts with control sequences between their characters.
 use Rattle.std.specs.Prelude.{◌≡◌, ℕ, ◌+◌, ◌&&◌, nat_le, nat_lt, Bool, true, if◌then◌else◌, List, [], ◌∷◌, ◌++◌, length, take, drop, codes, Option, Some, None, is_some, Result, IfOk}
+use Rattle.std.specs.Int.{is_in_range}
 use Rattle.std.specs.List.{list_all}
 use Rattle.line_config.specs.declared.errors.HookFault.{HookFault}
 use Rattle.line_config.specs.declared.settings.CompletionType.{CompletionType}
@@ -7,10 +8,6 @@ use Rattle.line_keys.specs.declared.command.CmdKind.{CmdKind}
 use Rattle.line_keys.specs.declared.command.CmdKind.TheVariants.{ForcedRefresh}
 use Rattle.line_help.specs.Brackets.{bracket_to_match, match_of}
 use Rattle.line_keys.specs.Replies.{Reply, Replies, gives_at_once}
-
--- the bytes of a parameter of a control sequence: digits and the signs : and ;
-abbrev pub is_style_parameter : ℕ → Bool
-is_style_parameter byte = nat_le 48 byte && nat_le byte 59
 
 -- the control sequence that sets how the following text is drawn (SGR): ESC [, parameters, m
 abbrev pub style_sequence : List ℕ → List ℕ
@@ -24,11 +21,11 @@ pub data DisplayPart : Type 0 where
   OfHint : DisplayPart
   OfCandidate : (completion : CompletionType) → DisplayPart
 
--- the shown text is the text with such sequences inserted
+-- the shown text is the text with such sequences inserted: parameters are digits, : and ;
 pub data Styled : List ℕ → List ℕ → Type 0 where
   nothing : Styled [] []
   byte : (b : ℕ) (text shown : List ℕ) → Styled text shown → Styled (b ∷ text) (b ∷ shown)
-  style : (parameters text shown : List ℕ) → list_all is_style_parameter parameters ≡ true
+  style : (parameters text shown : List ℕ) → list_all (is_in_range 48 59) parameters ≡ true
       → Styled text shown → Styled text (style_sequence parameters ++ shown)
 
 -- a call returns the text as it is shown, which is the text with styles inserted
@@ -50,22 +47,18 @@ with_bold_byte line None = line
 with_bold_byte line (Some found) =
     take found.1 line ++ (bold_blue ++ (found.0 ∷ (plain_again ++ drop (found.1 + 1) line)))
 
--- where the match of this bracket is shown, if there is a bracket, in a line of at least two bytes
--- that reaches its place
+-- the match to show of this bracket, if the line has two bytes or more and reaches its place
 abbrev pub match_to_show : List ℕ → Option (ℕ × ℕ) → Option (ℕ × ℕ)
 match_to_show line None = None
 match_to_show line (Some bracket) =
     if nat_le 2 (length line) && nat_lt bracket.1 (length line)
     then match_of line bracket.1 bracket.0 else None
 
--- the line with the match of this bracket in bold and blue
-abbrev pub with_match_shown : List ℕ → Option (ℕ × ℕ) → List ℕ
-with_match_shown line bracket = with_bold_byte line (match_to_show line bracket)
-
--- the line so, in memory that a match takes; every other text as it is
+-- the line with the match of this bracket in bold and blue, in memory that a match takes; every
+-- other text as it is
 abbrev pub part_with_match : Option (ℕ × ℕ) → DisplayPart → List ℕ → Reply (List ℕ)
 part_with_match bracket (OfLine place) text = record {
-  answer = Some (with_match_shown text bracket);
+  answer = Some (with_bold_byte text (match_to_show text bracket));
   takes = is_some (match_to_show text bracket);
 }
 part_with_match bracket part text = gives_at_once text

@@ -9,17 +9,12 @@ pub record Hinted : Type 0 where
   pub display : List ℕ
   pub completion : Option (List ℕ)
 
--- the reply of a hinter, depending on the line, the place, the history's entries and the place in
--- the history
+-- the reply of a hinter, by the line, the place, the history's entries and the place in the history
 abbrev pub Answers : Type 0 → Type 0
 Answers A = List ℕ → ℕ → List (List ℕ) → ℕ → A
 
 abbrev pub text_hint : List ℕ → Hinted
 text_hint text = record { display = text; completion = Some text }
-
--- where the search for a hint begins: at the last entry if the place is the end
-abbrev pub hint_start : List (List ℕ) → ℕ → ℕ
-hint_start entries place = if place == length entries then place - 1 else place
 
 -- the rest of the entry that was found; none if the entry is the line
 abbrev pub rest_behind : List ℕ → Option Hit → Option (List ℕ)
@@ -27,10 +22,13 @@ rest_behind line None = None
 rest_behind line (Some hit) =
     if bytes_eq hit.entry line then None else Some (drop (length line) hit.entry)
 
--- the rest of the nearest entry at or before the place in the history that begins with the line
+-- the rest of the nearest entry at or before the place in the history that begins with the line;
+-- the search begins at the last entry if the place is the end
 abbrev pub history_hint : List ℕ → ℕ → List (List ℕ) → ℕ → Option (List ℕ)
-history_hint line pos entries place = if length line == 0 || not (pos == length line) then None
-    else rest_behind line (search_hit true line (hint_start entries place) Reverse entries)
+history_hint line pos entries place =
+    let start : ℕ = if place == length entries then place - 1 else place in
+    if length line == 0 || not (pos == length line) then None
+    else rest_behind line (search_hit true line start Reverse entries)
 
 -- the reply of `HistoryHinter`; a hint takes memory
 abbrev pub hint_of_history : List ℕ → ℕ → List (List ℕ) → ℕ → Reply (Option Hinted)

@@ -1,6 +1,7 @@
 -- A history: its entries, oldest first, and which lines become entries.
-use Rattle.std.specs.Prelude.{◌≡◌, ℕ, ◌-◌, ◌+◌, ◌==◌, ◌&&◌, ◌||◌, not, min, Bool, true, false, if◌then◌else◌, List, [], ◌∷◌, ◌++◌, length, drop, chars, bytes_eq, Result, IfErr, OnOk, OnErr, String, string_bytes}
+use Rattle.std.specs.Prelude.{◌≡◌, ℕ, ◌-◌, ◌+◌, ◌==◌, ◌&&◌, ◌||◌, not, min, Bool, true, false, if◌then◌else◌, List, [], ◌∷◌, ◌++◌, length, drop, chars, bytes_eq, Result, IfErr, OnOk, OnErr, String, string_bytes, slice_get}
 use Rattle.std.specs.Char.{is_whitespace}
+use Rattle.std.specs.Option.{option_map_or}
 use Rattle.line_config.specs.declared.config.Config.{Config}
 use Rattle.line_config.specs.declared.errors.ReadlineError.{ReadlineError}
 use Rattle.line_config.specs.declared.errors.ReadlineError.TheVariants.{Memory}
@@ -32,20 +33,15 @@ ignores_repeated AlwaysAdd = false
 ignores_repeated IgnoreConsecutive = true
 
 abbrev pub settings_of : Config → Settings
-settings_of config =
-    record {
-      max_len = config.max_history_size;
-      ignore_space = config.history_ignore_space;
-      ignore_dups = ignores_repeated config.history_duplicates;
-    }
-
-abbrev pub first_is_space : List ℕ → Bool
-first_is_space [] = false
-first_is_space (c ∷ cs) = is_whitespace c
+settings_of config = record {
+  max_len = config.max_history_size;
+  ignore_space = config.history_ignore_space;
+  ignore_dups = ignores_repeated config.history_duplicates;
+}
 
 -- whether the text's first character is whitespace
 abbrev pub begins_with_space : List ℕ → Bool
-begins_with_space text = first_is_space (chars text)
+begins_with_space text = option_map_or is_whitespace (slice_get (chars text) 0) false
 
 -- whether the newest entry is this text
 abbrev pub newest_is : List ℕ → List (List ℕ) → Bool
@@ -112,14 +108,11 @@ entries_with_max_len len kept =
     record { entries = newest len kept.entries; settings = record kept.settings { max_len = len } }
 
 abbrev pub history_with_max_len : ℕ → Filed → Filed
-history_with_max_len len filed = record
-    { kept = entries_with_max_len len filed.kept; unsaved = min filed.unsaved len }
-
-abbrev pub entries_kept : List (List ℕ) → Settings → Kept
-entries_kept entries settings = record { entries = entries; settings = settings }
+history_with_max_len len filed =
+    record { kept = entries_with_max_len len filed.kept; unsaved = min filed.unsaved len }
 
 abbrev pub nothing_kept : Settings → Kept
-nothing_kept settings = entries_kept [] settings
+nothing_kept settings = record { entries = []; settings = settings }
 
 abbrev pub nothing_filed : Settings → Filed
 nothing_filed settings = record { kept = nothing_kept settings; unsaved = 0 }

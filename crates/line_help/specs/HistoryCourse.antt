@@ -24,8 +24,7 @@ pub record WrittenHistory : Type 0 where
   pub text : List ℕ
   pub history : Filed
 
--- a line is added; the saved text replaces the text; the new rows are appended to the text; a new
--- history is loaded from it
+-- a line is added; the text is saved; new rows are appended to it; a new history is loaded from it
 pub data HistoryStep : Type 0 where
   Adds : (line : List ℕ) → HistoryStep
   Saves : HistoryStep
@@ -34,26 +33,18 @@ pub data HistoryStep : Type 0 where
 
 -- nothing is saved if no entry is new: then the text stays
 abbrev pub after_step : Settings → HistoryStep → WrittenHistory → WrittenHistory
-after_step settings (Adds line) now =
-    record { text = now.text; history = history_with_line now.history line }
+after_step settings (Adds line) now = record now { history = history_with_line now.history line }
 after_step settings Saves now = record {
   text = if now.history.unsaved == 0 then now.text else saved_text now.history.kept.entries;
   history = all_saved now.history;
 }
 after_step settings Appends now =
     record { text = now.text ++ text_to_append now.history; history = all_saved now.history }
-after_step settings Loads now = record
-    { text = now.text; history = history_from_text settings now.text }
+after_step settings Loads now = record now { history = history_from_text settings now.text }
 
 abbrev pub after_steps : Settings → List HistoryStep → WrittenHistory → WrittenHistory
 after_steps settings [] now = now
 after_steps settings (step ∷ steps) now = after_steps settings steps (after_step settings step now)
-
--- a history made of these lines, with all of it saved
-abbrev pub just_saved : Settings → List (List ℕ) → WrittenHistory
-just_saved settings lines =
-    let history : Filed = history_made_of settings lines in
-    record { text = saved_text history.kept.entries; history = history }
 
 -- the written text can be loaded again
 abbrev pub CanStep : HistoryStep → WrittenHistory → Type 0
@@ -73,12 +64,10 @@ Reload =
     (settings : Settings) (filed : Filed) → text_to_save filed ≢ [] → CanComeBack filed.kept.entries
     → history_from_text settings (text_to_save filed) ≡ history_made_of settings filed.kept.entries
 
--- so does a saved text followed by appended rows: it gives the same as adding the saved entries and
--- then the new ones
+-- with appended rows after it, it gives the same as adding the saved entries and then the new ones
 abbrev pub ReloadAppended : Type 0
-ReloadAppended =
-    (settings : Settings) (saved later : Filed) → text_to_save saved ≢ []
-    → text_to_append later ≢ []
+ReloadAppended = (settings : Settings) (saved later : Filed)
+    → text_to_save saved ≢ [] → text_to_append later ≢ []
     → CanComeBack saved.kept.entries → CanComeBack (newest later.unsaved later.kept.entries)
     → history_from_text settings (text_to_save saved ++ text_to_append later)
     ≡ history_made_of settings (saved.kept.entries ++ newest later.unsaved later.kept.entries)
@@ -86,9 +75,9 @@ ReloadAppended =
 -- under unchanged settings, whatever is added, saved, appended and loaded after a first save: if no
 -- entry is new, the text, loaded into a new history, gives the history
 abbrev pub TextKeepsUp : Type 0
-TextKeepsUp =
-    (settings : Settings) (lines : List (List ℕ)) (steps : List HistoryStep)
-    → let start = just_saved settings lines in
+TextKeepsUp = (settings : Settings) (lines : List (List ℕ)) (steps : List HistoryStep)
+    → let made : Filed = history_made_of settings lines in
+    let start : WrittenHistory = record { text = saved_text made.kept.entries; history = made } in
     let now = after_steps settings steps start in
-    CanComeBack start.history.kept.entries → CanMake settings steps start → now.history.unsaved ≡ 0
+    CanComeBack made.kept.entries → CanMake settings steps start → now.history.unsaved ≡ 0
     → history_from_text settings now.text ≡ now.history

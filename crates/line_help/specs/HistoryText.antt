@@ -1,9 +1,10 @@
 -- The text of a history: what is saved of a list of entries, and which entries a text gives.
-use Rattle.std.specs.Prelude.{◌≡◌, ℕ, zero, suc, ◌==◌, ◌&&◌, Bool, true, false, if◌then◌else◌, List, [], ◌∷◌, ◌++◌, flat_map, bytes_eq, codes, Option, Some, None, option_map, unwrap_or, Result, Ok, Err, IsTrue, ⊤, IfOk, IfErr, OnOk, OnErr, ◌⊎◌, ◌<◌, ◌≤◌, length, take}
+use Rattle.std.specs.Prelude.{◌≡◌, ℕ, zero, suc, ◌==◌, ◌&&◌, Bool, true, false, if◌then◌else◌, List, [], ◌∷◌, ◌++◌, flat_map, bytes_eq, codes, Option, Some, None, option_map, unwrap_or, Result, Ok, Err, IsTrue, ⊤, IfOk, IfErr, OnOk, OnErr, ◌⊎◌, ◌<◌, ◌≤◌, length, take, slice_get}
 use Rattle.std.specs.List.{list_any}
+use Rattle.std.specs.Option.{option_map_or}
+use Rattle.std.specs.Result.{result_map_both}
 use Rattle.std.specs.Str.{is_utf8}
 use Rattle.line_config.specs.Feed.{Feed, GivesByte, GivesBytes, device_failed}
-use Rattle.line_config.specs.declared.device.DeviceFailed.{DeviceFailed}
 use Rattle.line_config.specs.declared.device.Last.{Last}
 use Rattle.line_config.specs.declared.device.Last.TheVariants.{End, Failed}
 use Rattle.line_config.specs.declared.errors.ReadlineError.{ReadlineError}
@@ -88,20 +89,15 @@ abbrev pub good_rows : List (List ℕ) → List (List ℕ)
 good_rows [] = []
 good_rows (row ∷ rows) = if is_utf8 row then row ∷ good_rows rows else []
 
--- why a row isn't added: it isn't UTF-8, or else memory ran out
-abbrev pub row_fault : List ℕ → ReadlineError
-row_fault row = if is_utf8 row then Memory else HistoryText
+-- why a row isn't taken: it isn't UTF-8, which is this error, or else memory ran out
+abbrev pub row_fault : ReadlineError → List ℕ → ReadlineError
+row_fault broken row = if is_utf8 row then Memory else broken
 
 -- the entries of rows: empty rows give none
 abbrev pub entries_of : Bool → List (List ℕ) → List (List ℕ)
 entries_of escapes [] = []
 entries_of escapes ([] ∷ rows) = entries_of escapes rows
 entries_of escapes ((b ∷ bs) ∷ rows) = entry_of escapes (b ∷ bs) ∷ entries_of escapes rows
-
--- whether the first row is the header
-abbrev pub has_header : List (List ℕ) → Bool
-has_header [] = false
-has_header (row ∷ rows) = bytes_eq row header
 
 -- the history after the first row
 abbrev pub after_first : Filed → List ℕ → Filed
@@ -129,8 +125,7 @@ pub record LosesRow (text coming : List ℕ) : Type 0 where
 
 -- if a text's end was met, its source hasn't failed, and nothing remains
 abbrev pub EndIsMet : Bool → Feed → Type 0
-EndIsMet met feed =
-    IsTrue met → (feed.failed ≡ false)
+EndIsMet met feed = IsTrue met → (feed.failed ≡ false)
     × (IsTrue feed.told → (feed.coming ≡ []) × (feed.last ≡ End))
 
 -- whether a row isn't UTF-8
@@ -164,7 +159,8 @@ rows_answer last rows whole = if has_bad_row rows then Err HistoryText else answ
 -- the answer of a load: whether the header was there and no row was ignored
 abbrev pub load_answer : Last → List (List ℕ) → Filed → Result Bool ReadlineError
 load_answer last rows filed =
-    rows_answer last rows (has_header rows && takes_all filed (texts_of (good_rows rows)))
+    let headed : Bool = option_map_or (λ row. bytes_eq row header) (slice_get rows 0) false in
+    rows_answer last rows (headed && takes_all filed (texts_of (good_rows rows)))
 
 -- the history after it: with all rows before an error, and with no new entry if there is none
 abbrev pub history_left_at : Last → Filed → Filed
@@ -218,18 +214,12 @@ pub record SavesNew {D : Type 0} (held : D → List ℕ) (failed : D → Bool) (
 
 -- ---- the effect of loading on a history and on the source of its text
 
--- a result as a device gives it, without the reason of a failure
-abbrev pub as_device : {A : Type 0} → Result A ReadlineError → Result A DeviceFailed
-as_device (Ok x) = Ok x
-as_device (Err e) = Err device_failed
-
 -- one byte is requested of a source, whose failure is the error Reader
 pub record ReadsByte (old new : Feed) (result : Result (Option ℕ) ReadlineError) : Type 0 where
-  pub gives : GivesByte old new (as_device result)
+  pub gives : GivesByte old new (result_map_both (λ b. b) (λ e. device_failed) result)
   pub fault : IfErr result (λ e. e ≡ Reader)
 
--- the next row is read, or the text's end is met, which is remembered. If the source fails, it gave
--- no whole row
+-- a row is read, or the text's end is met and remembered; a source that fails gave no whole row
 pub record ReadsRow (old new : Feed) (bytes : List ℕ) (met : Bool)
     (result : Result Bool ReadlineError) : Type 0 where
   pub row : IsTrue new.told → IfOk result (λ is_row. text_rows old.last old.coming
@@ -256,8 +246,7 @@ rest_after_load last text =
     let rows = text_rows last text in
     if has_bad_row rows then behind_rows (suc (length (good_rows rows))) text else []
 
--- a load that failed: the texts of these rows were added; the next row, or as much of it as was
--- read, is lost; and this remains
+-- a load that failed: these rows' texts were added, what was read of the next is lost, this remains
 pub record LoadsSome (texts : List (List ℕ) → List (List ℕ)) (last : Last) (text coming : List ℕ)
     (before after : Filed) : Type 0 where
   pub loaded : List (List ℕ)
@@ -267,9 +256,8 @@ pub record LoadsSome (texts : List (List ℕ) → List (List ℕ)) (last : Last)
   pub added : after ≡ history_with_lines before (texts loaded)
   pub left : LosesRow (behind_rows (length loaded) text) coming
 
--- the answer, the history and the remaining text are these, unless memory ran out; each error says
--- of how much of the text the entries were added. All this holds if the source agrees with the
--- assumption
+-- unless memory ran out, answer, history and remaining text are these; each error says of how much
+-- of the text the entries were added. All this holds if the source agrees with the assumption
 pub record LoadsAs (wanted : Result Bool ReadlineError) (filed : Filed)
     (texts : List (List ℕ) → List (List ℕ)) (old new : Feed) (before after : Filed)
     (result : Result Bool ReadlineError) : Type 0 where
@@ -300,8 +288,7 @@ LoadsRows escapes old new before after result =
     let rows = text_rows old.last old.coming in
     let entries = entries_of escapes (good_rows rows) in
     LoadsAs (rows_answer old.last rows (takes_all before entries))
-    (history_with_lines before entries)
-    (entries_of escapes) old new before after result
+    (history_with_lines before entries) (entries_of escapes) old new before after result
 
 -- a row is added, with this answer and this history after it; if it isn't UTF-8 or memory runs out,
 -- the history stays. An empty row is always added
@@ -311,4 +298,4 @@ pub record AddsRow (row : List ℕ) (took : Bool) (wanted before after : Filed)
   pub added : OnOk result (after ≡ wanted)
   pub text : OnOk result (is_utf8 row ≡ true)
   pub kept : OnErr result (after ≡ before)
-  pub fault : IfErr result (λ e. (e ≡ row_fault row) × (0 < length row))
+  pub fault : IfErr result (λ e. (e ≡ row_fault HistoryText row) × (0 < length row))

@@ -47,15 +47,13 @@ plain = record {
   reverse = false;
 }
 
--- bold and blue
+-- the styles of a bracket's match, of a hint and of a message's first row
 abbrev pub match_style : Style
 match_style = record plain { text = Basic Blue; bold = true }
 
--- faint
 abbrev pub hint_style : Style
 hint_style = record plain { faint = true }
 
--- red
 abbrev pub message_style : Style
 message_style = record plain { text = Basic Red }
 
@@ -88,15 +86,12 @@ abbrev pub first_bytes : Style → ℕ → Mark → List Span
 first_bytes style len from = if from.state == 0 && nat_lt 0 len
     then record { len = len; style = style } ∷ [] else []
 
--- the number of bytes before the first newline
-abbrev pub first_row_len : List ℕ → ℕ
-first_row_len text = position_or_len (λ byte. byte == 10) text
-
 -- a line's match is bold and blue, a hint faint, a message's first row red, and a prompt plain
 abbrev pub standard_paints : Part → List ℕ → Mark → List Span
 standard_paints (Line pos) text from = paints_match (Line pos) text from
 standard_paints Hint text from = first_bytes hint_style (length text) from
-standard_paints Message text from = first_bytes message_style (first_row_len text) from
+standard_paints Message text from =
+    first_bytes message_style (position_or_len (λ byte. byte == 10) text) from
 standard_paints part text from = []
 
 abbrev pub standard_marks : Marks
@@ -113,11 +108,9 @@ pub record Prompted (H : Type 0) : Type 0 where
   pub others : H
 
 -- the mark's state is the number of the prompt's spans before it
-abbrev pub prompt_paints : List Span → (Part → List ℕ → Mark → List Span) → Part → List ℕ → Mark
-    → List Span
+abbrev pub prompt_paints : List Span → Marks → Part → List ℕ → Mark → List Span
 prompt_paints spans others (Prompt true) text from = drop from.state spans
-prompt_paints spans others part text from = others part text from
+prompt_paints spans others part text from = others.paints part text from
 
 abbrev pub prompt_marks : List Span → Marks → Marks
-prompt_marks spans others =
-    record { marked = others.marked; paints = prompt_paints spans others.paints }
+prompt_marks spans others = record others { paints = prompt_paints spans others }

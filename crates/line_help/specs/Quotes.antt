@@ -2,6 +2,7 @@
 use Rattle.std.specs.Prelude.{◌≡◌, ℕ, ◌+◌, ◌==◌, ◌&&◌, Bool, true, false, if◌then◌else◌, List, [], ◌∷◌, flat_map, Option, Some, None, encode_utf8_all, ◌≢◌, ◌⊎◌, ◌↔◌, ◌++◌, length}
 use Rattle.std.specs.Str.{chars}
 use Rattle.std.specs.Char.{IsScalar}
+use Rattle.std.specs.Option.{option_map_or}
 use Rattle.line_help.specs.declared.completion.quotes.Quote.{Quote}
 use Rattle.line_help.specs.declared.completion.quotes.Quote.TheVariants.{Double, Single, None as Unquoted}
 
@@ -21,16 +22,8 @@ text_without_escapes text None = text
 text_without_escapes text (Some esc) = encode_utf8_all (unescaped_chars esc (chars text))
 
 -- an escape before each break character
-abbrev pub escaped_char : ℕ → (ℕ → Bool) → ℕ → List ℕ
-escaped_char esc breaks c = if breaks c then esc ∷ c ∷ [] else c ∷ []
-
 abbrev pub escaped_chars : ℕ → (ℕ → Bool) → List ℕ → List ℕ
-escaped_chars esc breaks cs = flat_map (escaped_char esc breaks) cs
-
-abbrev pub text_with_escapes_by : Option ℕ → List ℕ → (ℕ → Bool) → List ℕ
-text_with_escapes_by None text breaks = text
-text_with_escapes_by (Some esc) text breaks = encode_utf8_all
-    (escaped_chars esc breaks (chars text))
+escaped_chars esc breaks cs = flat_map (λ c. if breaks c then esc ∷ c ∷ [] else c ∷ []) cs
 
 -- nothing is escaped between single quotes
 abbrev pub escape_in : Quote → Option ℕ → Option ℕ
@@ -38,10 +31,10 @@ escape_in Single esc = None
 escape_in quote esc = esc
 
 abbrev pub text_with_escapes : List ℕ → Option ℕ → (ℕ → Bool) → Quote → List ℕ
-text_with_escapes text esc breaks quote = text_with_escapes_by (escape_in quote esc) text breaks
+text_with_escapes text esc breaks quote = option_map_or
+    (λ e. encode_utf8_all (escaped_chars e breaks (chars text))) (escape_in quote esc) text
 
--- whether a backslash is an escape, outside quotes or after the quote at a place: it is one
--- outside, and between double quotes
+-- whether a backslash is an escape, by the open quote: it is one outside and between double quotes
 abbrev pub escapes_in : Quote → Bool
 escapes_in Double = true
 escapes_in quote = false
@@ -57,12 +50,9 @@ closes_quote Single b = b == 39
 closes_quote Unquoted b = false
 
 -- a byte at a place, which no backslash escapes, opens a quote, closes it or does neither
-abbrev pub quote_opened_at : ℕ → ℕ → Option (ℕ × Quote)
-quote_opened_at place b =
-    if b == 34 then Some (place, Double) else if b == 39 then Some (place, Single) else None
-
 abbrev pub quote_after : ℕ → ℕ → Option (ℕ × Quote) → Option (ℕ × Quote)
-quote_after place b None = quote_opened_at place b
+quote_after place b None =
+    if b == 34 then Some (place, Double) else if b == 39 then Some (place, Single) else None
 quote_after place b (Some within) = if closes_quote within.1 b then None else Some within
 
 -- the quote that is open after these bytes, which start at a place

@@ -20,14 +20,10 @@ first_hit term [] = if length term == 0 then Some 0 else None
 first_hit term (b ∷ bs) =
     if starts_with eqb (b ∷ bs) term then Some 0 else option_map suc (first_hit term bs)
 
--- after the term, if the text begins with it
-abbrev pub hit_at_start : List ℕ → List ℕ → Option ℕ
-hit_at_start term text = if starts_with eqb text term then Some (length term) else None
-
--- the place of a term in an entry: anywhere, or at its start
+-- the first place of a term in an entry; or the place after it, if the entry begins with it
 abbrev pub hit_by : Bool → List ℕ → List ℕ → Option ℕ
 hit_by false term text = first_hit term text
-hit_by true term text = hit_at_start term text
+hit_by true term text = if starts_with eqb text term then Some (length term) else None
 
 abbrev pub hit_or : Option ℕ → List ℕ → ℕ → Option Hit → Option Hit
 hit_or None entry idx other = other
@@ -39,8 +35,7 @@ first_from test idx [] = None
 first_from test idx (entry ∷ entries) =
     hit_or (test entry) entry idx (first_from test (idx + 1) entries)
 
--- the first of these entries with a hit, if they are newest first: an entry's index is the number
--- of those after it
+-- the same of entries that are newest first: an entry's index is the number of those after it
 abbrev pub first_back : (List ℕ → Option ℕ) → List (List ℕ) → Option Hit
 first_back test [] = None
 first_back test (entry ∷ entries) =
@@ -79,22 +74,18 @@ abbrev pub HasTerm : Bool → List ℕ → List ℕ → Type 0
 HasTerm false term entry = (pos : ℕ) × TermAt term entry pos
 HasTerm true term entry = TermAt term entry 0
 
--- the place of the hit: the first place of the term, or, for an anchored search, the end of the
--- term at the start
+-- the hit's place: the term's first place, or, for an anchored search, its end at the start
 abbrev pub IsHit : Bool → List ℕ → List ℕ → ℕ → Type 0
 IsHit false term entry pos =
     TermAt term entry pos × ((other : ℕ) → TermAt term entry other → pos ≤ other)
 IsHit true term entry pos = TermAt term entry 0 × (pos ≡ length term)
 
--- the entry at `place` is the one at `start` or comes after it in the direction
-abbrev pub IsAhead : SearchDirection → ℕ → ℕ → Type 0
-IsAhead Forward start place = start ≤ place
-IsAhead Reverse start place = place ≤ start
-
--- the entries on the way to it, with the one at `start`, given the entries before it and after it
-abbrev pub on_the_way : SearchDirection → ℕ → List (List ℕ) → List (List ℕ) → List (List ℕ)
-on_the_way Forward start before after = drop start before
-on_the_way Reverse start before after = take (start - length before) after
+-- the entry between these is the one at `start` or comes after it in the direction; and P holds of
+-- the entries on the way to it, with the one at `start`
+abbrev pub Along : (List ℕ → Type 0) → SearchDirection → ℕ → (before after : List (List ℕ)) → Type 0
+Along P Forward start before after = (start ≤ length before) × All P (drop start before)
+Along P Reverse start before after =
+    (length before ≤ start) × All P (take (start - length before) after)
 
 -- the hit's entry is at the hit's index in the history, and no entry on the way to it has the term
 pub record IsNearest (anchored : Bool) (term : List ℕ) (start : ℕ) (direction : SearchDirection)
@@ -106,14 +97,11 @@ pub record IsNearest (anchored : Bool) (term : List ℕ) (start : ℕ) (directio
   pub split : entries ≡ before ++ (hit.entry ∷ after)
   pub place : hit.idx ≡ length before
   pub here : IsHit anchored term hit.entry hit.pos
-  pub ahead : IsAhead direction start (length before)
-  pub none_nearer : All (λ entry. ¬ HasTerm anchored term entry)
-      (on_the_way direction start before after)
+  pub none_nearer : Along (λ entry. ¬ HasTerm anchored term entry) direction start before after
 
 -- a search returns the nearest hit, and nothing if there is none
 abbrev pub NearestIsFound : Type 0
-NearestIsFound =
-    (anchored : Bool) (term : List ℕ) (start : ℕ) (direction : SearchDirection)
+NearestIsFound = (anchored : Bool) (term : List ℕ) (start : ℕ) (direction : SearchDirection)
     (entries : List (List ℕ)) (hit : Hit)
     → (search_hit anchored term start direction entries ≡ Some hit)
     ↔ IsNearest anchored term start direction entries hit

@@ -1,7 +1,8 @@
 -- Texts with control sequences (ECMA-48): the text without them, and the styles that SGR gives it.
-use Rattle.std.specs.Prelude.{◌≡◌, ◌≢◌, ◌<◌, ◌≤◌, ⊤, ℕ, zero, suc, ◌+◌, ◌-◌, ◌*◌, ◌==◌, ◌&&◌, nat_lt, min, Bool, true, false, if◌then◌else◌, List, [], ◌∷◌, ◌++◌, length, take, drop, slice_index, sum_by, replicate, Option, None, Some, option_map, unwrap_or}
+use Rattle.std.specs.Prelude.{◌≡◌, ◌≢◌, ◌<◌, ◌≤◌, ⊤, ℕ, zero, suc, ◌+◌, ◌-◌, ◌*◌, ◌==◌, ◌&&◌, nat_lt, min, Bool, true, false, if◌then◌else◌, List, [], ◌∷◌, ◌++◌, length, take, drop, slice_index, sum_by, replicate, Option, None, Some, option_map}
 use Rattle.std.specs.Borrow.{Bor}
 use Rattle.std.specs.Int.{is_in_range}
+use Rattle.std.specs.Option.{option_map_or}
 use Rattle.line_help.specs.declared.helpers.style_split.Open.{Open}
 use Rattle.line_help.specs.declared.helpers.style_split.Open.TheVariants.{Nothing, Kind, Index, Parts, OnePart, TwoParts, Dropped}
 use Rattle.line_help.specs.declared.helpers.style.Colour.{Colour}
@@ -29,7 +30,7 @@ final_len (b ∷ bs) = if is_in_range 0x40 0x7E b then Some 1
 abbrev pub sequence_len : ℕ → List ℕ → ℕ
 sequence_len b [] = 0
 sequence_len b (c ∷ bs) =
-    if b == 0x1B && c == 0x5B then unwrap_or (option_map suc (final_len bs)) 0 else 0
+    if b == 0x1B && c == 0x5B then option_map_or suc (final_len bs) 0 else 0
 
 abbrev pub piece : ℕ → List ℕ → ℕ → Piece
 piece b bs zero = Byte b
@@ -100,8 +101,7 @@ palette_in ns = None
 -- the colour that follows 38 or 48: 5 and a number, or 2 and three, each below 256
 abbrev pub colour_in : List ℕ → Option Colour
 colour_in [] = None
-colour_in (kind ∷ ns) =
-    if kind == 5 then palette_in ns else if kind == 2 then rgb_in ns else None
+colour_in (kind ∷ ns) = if kind == 5 then palette_in ns else if kind == 2 then rgb_in ns else None
 
 -- how many numbers belong to it: all of them if the first is neither 5 nor 2
 abbrev pub colour_len : List ℕ → ℕ
@@ -119,29 +119,22 @@ count_taken n ns = if n == 38 then colour_len ns else if n == 48 then colour_len
 abbrev pub style_after_numbers : ℕ → List ℕ → Style → Style
 style_after_numbers skip [] s = s
 style_after_numbers (suc k) (n ∷ ns) s = style_after_numbers k ns s
-style_after_numbers zero (n ∷ ns) s = style_after_numbers (count_taken n ns) ns
-    (style_after_number n ns s)
+style_after_numbers zero (n ∷ ns) s =
+    style_after_numbers (count_taken n ns) ns (style_after_number n ns s)
 
--- a number goes on by a digit; 999 stands for all above it
-abbrev pub with_digit : ℕ → ℕ → ℕ
-with_digit n b = min (n * 10 + (b - 0x30)) 999
-
--- the numbers up to m, if only digits and semicolons precede it. The first has begun with n, and an
--- empty one is 0
+-- the numbers up to m, if only digits and semicolons precede it. The first has begun with n, an
+-- empty one is 0, and 999 stands for all above it
 abbrev pub numbers_in : ℕ → List ℕ → Option (List ℕ)
 numbers_in n [] = None
 numbers_in n (b ∷ bs) =
-    let rest : Option (List ℕ) = numbers_in (if b == 0x3B then 0 else with_digit n b) bs in
+    let next : ℕ = if b == 0x3B then 0 else min (n * 10 + (b - 0x30)) 999 in
+    let rest : Option (List ℕ) = numbers_in next bs in
     if b == 0x6D then Some (n ∷ []) else if b == 0x3B then option_map (λ ns. n ∷ ns) rest
     else if is_in_range 0x30 0x39 b then rest else None
 
 -- an SGR sequence changes the style, any other leaves it as it is
-abbrev pub style_by : Option (List ℕ) → Style → Style
-style_by None s = s
-style_by (Some ns) s = style_after_numbers 0 ns s
-
 abbrev pub style_after : List ℕ → Style → Style
-style_after sequence s = style_by (numbers_in 0 sequence) s
+style_after sequence s = option_map_or (λ ns. style_after_numbers 0 ns s) (numbers_in 0 sequence) s
 
 -- ---- the text, and the style of each of its bytes
 

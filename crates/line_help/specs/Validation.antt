@@ -15,8 +15,7 @@ has_message (Invalid (Some message)) = true
 has_message (Valid (Some message)) = true
 has_message result = false
 
--- the messages: for an open bracket that the closing bracket of another kind meets, and for a
--- closing bracket if none is open
+-- the messages: a closing bracket of another kind meets an open one; a closing one meets none
 abbrev pub not_closed : ℕ → List ℕ
 not_closed opening =
     codes "Mismatched brackets: '" ++ (encode_utf8 opening ++ codes "' is not properly closed")
@@ -71,8 +70,7 @@ ValidIsBalanced = (text : List ℕ) → (bracket_verdict text ≡ Valid None) �
 
 -- it is incomplete if and only if they aren't, and some text after it would balance them
 abbrev pub IncompleteIsBegun : Type 0
-IncompleteIsBegun =
-    (text : List ℕ) → (bracket_verdict text ≡ Incomplete)
+IncompleteIsBegun = (text : List ℕ) → (bracket_verdict text ≡ Incomplete)
     ↔ ((¬ Balanced all_kinds text) × ((more : List ℕ) × Balanced all_kinds (text ++ more)))
 
 -- it is invalid, with a message, if and only if no text after it would balance them
@@ -85,8 +83,8 @@ InvalidIsLost =
 -- Either all before it is balanced, so it is unpaired; or the innermost open bracket is of another
 -- kind, so that one isn't closed
 abbrev pub NamesWhatFails : List ℕ → ℕ → List ℕ → Type 0
-NamesWhatFails before closing
-    message = (Balanced all_kinds before × (message ≡ message_of_unpaired closing))
+NamesWhatFails before closing message =
+    (Balanced all_kinds before × (message ≡ message_of_unpaired closing))
     ⊎ ((front : List ℕ) × (opening : ℕ) × (inner : List ℕ) × (more : List ℕ)
     × (before ≡ front ++ (opening ∷ inner)) × (is_opening opening ≡ true)
     × Balanced all_kinds inner × (partner opening ≢ closing) × (message ≡ not_closed opening)

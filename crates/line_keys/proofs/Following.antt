@@ -6,19 +6,17 @@ use Rattle.line_config.specs.declared.errors.ReadlineError.TheVariants.{Eof, Int
 use Rattle.line_keys.specs.declared.command.Cmd.{Cmd}
 use Rattle.line_keys.specs.declared.key.KeyEvent.{KeyEvent}
 use Rattle.line_keys.specs.declared.events.Event.TheVariants.{Any}
-use Rattle.line_keys.specs.CustomBindings.{Custom, BindingAnswers, HandlerFails, IsRefusalOf, answer_by}
+use Rattle.line_keys.specs.CustomBindings.{Custom, BindingAnswers, HandlerFails, IsRefusalOf, answer_by, Meaning}
 use Rattle.script.specs.Scripts.{Ends, Asks, Goes}
-use Rattle.line_keys.specs.Coming.{Coming, key_at, paste_at, from_key_at, answer_map}
 use Rattle.line_keys.specs.Commands.{holds_text, Copied}
 use Rattle.line_keys.specs.CustomKeys.{Situation, custom_answer, or_any, handler_arguments_for}
 use Rattle.line_keys.specs.Events.{single}
-use Rattle.line_keys.specs.KeyFeeds.{IsReaderRefusal, KeyFeed, InputItem, InputOf, Key, Paste, item_at, behind, ReadAs, ReadsBy}
+use Rattle.line_keys.specs.KeyFeeds.{IsReaderRefusal, KeyFeed, InputItem, InputOf, Key, Paste, item_at, behind, ReadAs, ReadsBy, Coming, key_at, paste_at, from_key_at, answer_map}
 use Rattle.line_keys.specs.Refreshing.{Shown, Ask, KnownDisplay, Draws, IsDrawFault}
-use Rattle.line_keys.specs.Handling.{Meaning}
-use Rattle.line_keys.specs.PhraseScripts.{Input, KeyAsk, Answer, KeyScript, PhrasePart, Needs, Shows, Reads, Becomes, Refuses, Upto, steps, answer_part, needs_if, memory_then, copy_of_command, with_read, with_key, with_paste, from_key, show_then, keep_then, script_if_answered, reply_then, input_after_ask, shown_after_ask, after, and_then}
+use Rattle.line_keys.specs.PhraseScripts.{Input, KeyAsk, Answer, KeyScript, PhrasePart, Needs, Shows, Reads, Becomes, Refuses, Upto, steps, answer_part, needs_if, memory_then, with_read, from_key, show_then, keep_then, script_if_answered, reply_then, input_after_ask, shown_after_ask, after, and_then}
 use Rattle.script.proofs.ScriptLaws.{ok_not_err, value_or, fault_or, err_in}
 use Rattle.line_keys.specs.Replies.{Reply, fails, with_memory}
-use Rattle.line_keys.specs.Follows.{Stage, stage, KeyMade, key_world, Happens, Follows, Because, CutDrawing, silent}
+use Rattle.line_keys.specs.InputStates.{Stage, stage, KeyMade, key_world, Happens, Follows, Because, CutDrawing, silent}
 
 err_same : {X Y : Type 0} (e f : ReadlineError) → err_in X e ≡ Err f → err_in Y e ≡ Err f
 err_same {X} e f is = ap (λ (r : Result X ReadlineError). Err (fault_or Memory r)) is
@@ -262,18 +260,18 @@ module _ {S Y : Type 0} (d : KnownDisplay S) (item : InputItem) (next : InputOf 
   }
 
 module _ {S Y : Type 0} (d : KnownDisplay S) (custom : Custom) where
-  pub no_key : (next : KeyEvent → PhrasePart Y) (w : S) (i : Input) (f f' : KeyFeed) (e : ReadlineError) → ReadsBy Key key_at f f' (Err e) → Follows d custom (with_key next) w i w i f f' (Err e)
+  pub no_key : (next : KeyEvent → PhrasePart Y) (w : S) (i : Input) (f f' : KeyFeed) (e : ReadlineError) → ReadsBy Key key_at f f' (Err e) → Follows d custom (with_read Key next) w i w i f f' (Err e)
   no_key next w i f f' e reads = read_stops d Key next custom w i f f' e reads
 
   pub key_follows : (next : KeyEvent → PhrasePart Y) (k : KeyEvent) (w w' : S) (i i' : Input) (f f1 f2 : KeyFeed) (r : Result Y ReadlineError) → ReadsBy Key key_at f f1 (Ok k)
-      → Follows d custom (next k) w i w' i' f1 f2 r → Follows d custom (with_key next) w i w' i' f f2 r
+      → Follows d custom (next k) w i w' i' f1 f2 r → Follows d custom (with_read Key next) w i w' i' f f2 r
   key_follows next k w w' i i' f f1 f2 r first second = read_follows d Key next custom k w w' i i' f f1 f2 r first second
 
-  pub no_paste : (next : List ℕ → PhrasePart Y) (w : S) (i : Input) (f f' : KeyFeed) (e : ReadlineError) → ReadsBy Paste paste_at f f' (Err e) → Follows d custom (with_paste next) w i w i f f' (Err e)
+  pub no_paste : (next : List ℕ → PhrasePart Y) (w : S) (i : Input) (f f' : KeyFeed) (e : ReadlineError) → ReadsBy Paste paste_at f f' (Err e) → Follows d custom (with_read Paste next) w i w i f f' (Err e)
   no_paste next w i f f' e reads = read_stops d Paste next custom w i f f' e reads
 
   pub paste_follows : (next : List ℕ → PhrasePart Y) (text : List ℕ) (w w' : S) (i i' : Input) (f f1 f2 : KeyFeed) (r : Result Y ReadlineError) → ReadsBy Paste paste_at f f1 (Ok text)
-      → Follows d custom (next text) w i w' i' f1 f2 r → Follows d custom (with_paste next) w i w' i' f f2 r
+      → Follows d custom (next text) w i w' i' f1 f2 r → Follows d custom (with_read Paste next) w i w' i' f f2 r
   paste_follows next text w w' i i' f f1 f2 r first second = read_follows d Paste next custom text w w' i i' f f1 f2 r first second
 
 -- a read that is the whole part
@@ -386,7 +384,7 @@ key_stops d s k next w i f e decides = decides_stop d s.custom next (custom_answ
 -- ---- a command that is made of another one
 
 pub granted_follows : {S : Type 0} (d : KnownDisplay S) (custom : Custom) (cmd : Cmd) (w : S) (i : Input) (f : KeyFeed) (r : Result Cmd ReadlineError) → Copied cmd r
-    → Follows d custom (copy_of_command cmd) w i w i f f r
+    → Follows d custom (memory_then (holds_text cmd) (answer_part cmd)) w i w i f f r
 granted_follows d custom cmd w i f (Ok c) copied =
     needing_follows d custom (holds_text cmd) (answer_part cmd) w w i i f f (Ok c) (ends_follow d custom (answer_part cmd) w i f c (ap (λ (y : Cmd). answer_part y) (sym copied.ok)))
 granted_follows d custom cmd w i f (Err e) copied = needed_follows d custom (holds_text cmd) (answer_part cmd) w i f e copied.err.0 copied.err.1

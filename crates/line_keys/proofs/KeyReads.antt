@@ -5,8 +5,7 @@ use Rattle.line_config.specs.declared.errors.ReadlineError.{ReadlineError}
 use Rattle.line_keys.specs.declared.key.KeyEvent.{KeyEvent}
 use Rattle.line_keys.specs.declared.tty.Event.{Event}
 use Rattle.line_keys.specs.declared.tty.Event.TheVariants.{KeyPress}
-use Rattle.line_keys.specs.Coming.{Coming, key_at, from_key_at, press_at, answer_map}
-use Rattle.line_keys.specs.KeyFeeds.{KeyFeed, InputItem, Key, behind, ReadAs, ReadsBy}
+use Rattle.line_keys.specs.KeyFeeds.{KeyFeed, InputItem, Key, behind, ReadAs, ReadsBy, Coming, key_at, from_key_at, answer_map}
 
 abbrev of_press : Result Event ReadlineError → Result KeyEvent ReadlineError
 of_press (Ok (KeyPress k)) = Ok k
@@ -48,7 +47,7 @@ module _ {X : Type 0} (g : KeyEvent → X) (f f' : KeyFeed) where
   }
 
 module _ (f f' : KeyFeed) where
-  pub key_of_press : (k : KeyEvent) → ReadsBy Key press_at f f' (Ok (KeyPress k)) → ReadsBy Key key_at f f' (Ok k)
+  pub key_of_press : (k : KeyEvent) → ReadsBy Key (from_key_at KeyPress) f f' (Ok (KeyPress k)) → ReadsBy Key key_at f f' (Ok k)
   key_of_press k reads = record {
     taken = λ told. press_as (key_at f.coming) (Ok (KeyPress k)) (behind Key f.coming) f'.coming (reads.taken told);
     told = reads.told;
@@ -58,7 +57,7 @@ module _ (f f' : KeyFeed) where
     reason = reads.reason;
   }
 
-  pub no_press : (e : ReadlineError) → ReadsBy Key press_at f f' (Err e) → ReadsBy Key key_at f f' (Err e)
+  pub no_press : (e : ReadlineError) → ReadsBy Key (from_key_at KeyPress) f f' (Err e) → ReadsBy Key key_at f f' (Err e)
   no_press e reads = record {
     taken = λ told. press_as (key_at f.coming) (Err e) (behind Key f.coming) f'.coming (reads.taken told);
     told = reads.told;

@@ -1,7 +1,7 @@
 -- The place of an event's entry: what stands there, and what an edit there makes of the map.
 use Rattle.std.proofs.Common.{◌≡◌, ℕ, zero, suc, ◌<◌, ◌≤◌, Bool, true, false, cond, List, [], ◌∷◌, ◌++◌, Option, Some, None, length, get_or, set, refl, sym, ◌∙◌, ap, subst, arith, ltb, length-set, true≢false}
-use Rattle.std.specs.Prelude.{IsSome, position, remove, find as first_passing, IsFalse, option_map}
-use Rattle.std.specs.List.{position_or_len, slice_get}
+use Rattle.std.specs.Prelude.{IsSome, position, remove, find as first_passing, AllPairs, IsFalse, option_map}
+use Rattle.std.specs.List.{AllByRecursion, position_or_len, slice_get}
 use Rattle.std.specs.Option.{option_or}
 use Rattle.std.specs.Cmp.{decided}
 use Rattle.std.proofs.lemmas.List.Folds.{find_at, find-set, find_past, find-append}
@@ -10,7 +10,7 @@ use Rattle.std.proofs.lemmas.List.Sums.{position_or_len_is}
 use Rattle.std.proofs.lemmas.Option.{slice_get-get_or, slice_get_past}
 use Rattle.std.proofs.lemmas.Bool.Decides.{nat_tests}
 use Rattle.line_keys.specs.declared.events.Event.{Event}
-use Rattle.line_keys.specs.Bound.{same_event, find, has_event, map_with, less_at, AreDistinct, IsNormal, AreNormal, IsMap}
+use Rattle.line_keys.specs.Events.{same_event, find, has_event, map_with, IsNormal, IsMap}
 use Rattle.line_keys.proofs.SameEventsLemmas.{same_event-decides}
 
 -- ---- lists and tests of any kind
@@ -71,6 +71,12 @@ or_nothing (Some x) = refl
 
 -- ---- entries and events
 
+abbrev AreDistinct : {H : Type 0} → List (Event × H) → Type 0
+AreDistinct entries = AllPairs (λ a b. IsFalse (same_event a.0 b.0)) entries
+
+abbrev AreNormal : {H : Type 0} → List (Event × H) → Type 0
+AreNormal entries = AllByRecursion (λ b. IsNormal b.0) entries
+
 -- what has the event e hasn't the event o
 other : (e o x : Event) → x ≡ e → same_event e o ≡ false → same_event x o ≡ false
 other e o x at is = subst (λ (y : Event). same_event y o ≡ false) (sym at) is
@@ -109,7 +115,7 @@ module _ {H : Type 0} (e : Event) (entries : List (Event × H)) where
       (find_past (has_event o) entries i b d (other e o (get_or entries i d).0 (here i d at) is) (other e o b.0 (kept ∙ here i d at) is))
 
   pub bound_at_place : (i : ℕ) (d b : Event × H) → position (has_event e) entries ≡ Some i → b.0 ≡ (get_or entries i d).0
-      → (o : Event) → find o (set entries i b) ≡ map_with e b.1 (λ x. find x entries) o
+      → (o : Event) → find o (set entries i b) ≡ map_with e (Some b.1) (λ x. find x entries) o
   bound_at_place i d b at kept o = set_by o i d b (same_event e o) refl at kept
 
   -- a new entry after the others
@@ -125,7 +131,7 @@ module _ {H : Type 0} (e : Event) (entries : List (Event × H)) where
       ap (option_map (λ (x : Event × H). x.1)) (find-append (has_event o) entries (b ∷ []) ∙ rw fails (or_nothing (first_passing (has_event o) entries)))
 
   pub bound_behind : (b : Event × H) → position (has_event e) entries ≡ None → b.0 ≡ e
-      → (o : Event) → find o (entries ++ b ∷ []) ≡ map_with e b.1 (λ x. find x entries) o
+      → (o : Event) → find o (entries ++ b ∷ []) ≡ map_with e (Some b.1) (λ x. find x entries) o
   bound_behind b at new o = pushed_by o b (same_event e o) refl at new
 
   -- the entry taken out
@@ -142,14 +148,14 @@ module _ {H : Type 0} (e : Event) (entries : List (Event × H)) where
       ap (option_map (λ (x : Event × H). x.1)) (find-remove (has_event o) entries i d w.0 (other e o (get_or entries i d).0 (here i d at) is))
 
   pub unbound_at_place : (i : ℕ) (d : Event × H) → position (has_event e) entries ≡ Some i → AreDistinct entries
-      → (o : Event) → find o (remove entries i) ≡ less_at e (λ x. find x entries) o
+      → (o : Event) → find o (remove entries i) ≡ map_with e None (λ x. find x entries) o
   unbound_at_place i d at distinct o = removed_by o i d (same_event e o) refl at distinct
 
   kept_by : (o : Event) (same : Bool) → same_event e o ≡ same → position (has_event e) entries ≡ None → find o entries ≡ cond same None (find o entries)
   kept_by o true is at = subst (λ (x : Event). find x entries ≡ None) ((same_event-decides e o).0 is) (sym (found_nowhere at))
   kept_by o false is at = refl
 
-  pub nothing_unbound : position (has_event e) entries ≡ None → (o : Event) → find o entries ≡ less_at e (λ x. find x entries) o
+  pub nothing_unbound : position (has_event e) entries ≡ None → (o : Event) → find o entries ≡ map_with e None (λ x. find x entries) o
   nothing_unbound at o = kept_by o (same_event e o) refl at
 
 -- ---- no two entries have one event, after each edit

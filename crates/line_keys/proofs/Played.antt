@@ -3,9 +3,8 @@
 use Rattle.std.specs.Prelude.{List, [], ◌∷◌, Result, Ok, Err}
 use Rattle.line_config.specs.declared.errors.ReadlineError.{ReadlineError}
 use Rattle.script.specs.Played.{Played as PlayedBy, play_of as played_by}
-use Rattle.line_keys.specs.Coming.{Coming}
-use Rattle.line_keys.specs.KeyFeeds.{item_at, behind}
-use Rattle.line_keys.specs.Follows.{Stage, stage}
+use Rattle.line_keys.specs.KeyFeeds.{item_at, behind, Coming}
+use Rattle.line_keys.specs.InputStates.{Stage, stage}
 use Rattle.line_keys.specs.PhraseScripts.{Input, KeyAsk, Answer, KeyScript, Needs, Shows, Reads, Becomes, Refuses}
 use Rattle.line_keys.specs.Refreshing.{Shown, Ask}
 

@@ -5,7 +5,7 @@ use Rattle.std.proofs.lemmas.Bool.Decides.{nat_tests}
 use Rattle.std.specs.Char.{is_control}
 use Rattle.line_keys.specs.declared.command.Cmd.TheVariants.{SelfInsert}
 use Rattle.line_keys.specs.Keys.{none, control_key, key_of}
-use Rattle.line_keys.specs.Quoting.{QuotedAsSent, control_of, quoted_command}
+use Rattle.line_keys.specs.Common.{QuotedAsSent, control_of, quoted_command}
 
 low_told : (c : ℕ) → nat_lt c 0x20 ≡ true → control_of (c + 0x40) ≡ SelfInsert 1 c
 low_told c low =

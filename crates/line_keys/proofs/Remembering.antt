@@ -6,7 +6,7 @@ use Rattle.line_keys.specs.declared.command.Cmd.{Cmd}
 use Rattle.line_keys.specs.CustomBindings.{Custom}
 use Rattle.line_keys.specs.Commands.{holds_text}
 use Rattle.line_keys.specs.KeyFeeds.{KeyFeed}
-use Rattle.line_keys.specs.Follows.{Follows}
+use Rattle.line_keys.specs.InputStates.{Follows}
 use Rattle.line_keys.specs.PhraseScripts.{Input, answer_part, keep_then}
 use Rattle.line_keys.specs.Refreshing.{KnownDisplay}
 use Rattle.line_keys.specs.Vi.{Remembers, insert_mode_if, remember_if, with_last}

@@ -7,7 +7,7 @@ use Rattle.line_keys.specs.declared.command.Cmd.{Cmd}
 use Rattle.line_keys.specs.declared.command.Cmd.TheVariants.{Insert, QuotedInsert, Noop, Unknown}
 use Rattle.line_keys.specs.declared.key.KeyEvent.{KeyEvent}
 use Rattle.line_keys.specs.CustomBindings.{Custom}
-use Rattle.line_keys.specs.Commands.{holds_text, flags_of}
+use Rattle.line_keys.specs.Commands.{holds_text, flags_of, anew}
 use Rattle.line_keys.specs.declared.keymap.common.CommonAction.{CommonAction as CommonAction}
 use Rattle.line_keys.specs.declared.keymap.common.CommonAction.TheVariants as commons
 use Rattle.line_keys.specs.declared.keymap.emacs.EmacsAction.{EmacsAction as EmacsAction}
@@ -19,30 +19,24 @@ use Rattle.line_keys.specs.declared.keymap.vi.table.ViAction.{ViAction as Comman
 use Rattle.line_keys.specs.declared.keymap.vi.table.ViAction.TheVariants as commands
 use Rattle.line_keys.specs.declared.keymap.vi.table.InsertAction.{InsertAction}
 use Rattle.line_keys.specs.declared.keymap.vi.table.InsertAction.TheVariants as inserts
-use Rattle.line_keys.specs.Common.{common, common_action, common_done, command_or, binding_or, decision_of, sequence, terminal_command}
+use Rattle.line_keys.specs.Common.{common, common_action, common_done, command_or, binding_or, decision_of, sequence, terminal_command, is_paste_start, quote_of_paste, quote_of_key, quoted_command, quotes, quote_part}
 use Rattle.line_keys.specs.Counts.{Counted, count_and_key, rest_of_count, count_or_key, rest_of_count_in, rest_of_count_by, count_from_key, count_with_key, how_often, is_plus, count_times, typed_count}
 use Rattle.line_keys.specs.declared.keymap.custom.Followed.{Followed}
 use Rattle.line_keys.specs.declared.keymap.custom.Followed.TheVariants.{Bound, Unbound}
 use Rattle.line_keys.specs.CustomKeys.{Situation, rest_of_sequence, sequence_upto, key_sequence, sequence_or, sequence_answer, situation, custom_answer}
-use Rattle.line_keys.specs.Emacs.{after_first_key, emacs_command, emacs_counted, emacs_decided, emacs_action, emacs_done, emacs_phrase, move_to_char, second_command}
+use Rattle.line_keys.specs.Emacs.{after_first_key, emacs_command, emacs_decided, emacs_action, emacs_done, emacs_phrase, move_to_char, second_command}
 use Rattle.line_keys.specs.KeyFeeds.{InputItem, InputOf, Key, Paste}
 use Rattle.script.specs.Scripts.{Ends, Asks}
-use Rattle.line_keys.specs.NextPhrase.{phrase, phrase_from}
-use Rattle.line_keys.specs.PhraseScripts.{Input, KeyScript, PhrasePart, steps, answer_part, needs_if, memory_then, with_read, from_key, show_then, keep_then, script_if_answered, reply_script, reply_then, input_after_ask, shown_after_ask, after, and_then}
-use Rattle.line_keys.specs.Quoting.{is_paste_start, quote_of_paste, quote_of_key, quoted_command, quotes, quote_part}
-use Rattle.line_keys.specs.Redone.{anew, anew_or}
+use Rattle.line_keys.specs.InputStates.{phrase, phrase_from}
+use Rattle.line_keys.specs.PhraseScripts.{Input, KeyScript, PhrasePart, steps, answer_part, needs_if, memory_then, with_read, from_key, show_then, keep_then, script_if_answered, reply_script, reply_then, input_after_ask, shown_after_ask, after, and_then, anew_or, own_by, Settles, takes_commands}
 use Rattle.line_keys.specs.Refreshing.{Shown, DoingInsert, DoneInserting}
 use Rattle.line_keys.specs.Replies.{Reply}
-use Rattle.line_keys.specs.Settled.{own_by_key, Settles}
 use Rattle.line_buffer.specs.declared.types.Movement.TheVariants.{WholeLine}
 use Rattle.line_keys.specs.declared.command.InputMode.TheVariants.{Command}
 use Rattle.line_keys.specs.declared.key.KeyCode.TheVariants.{Char}
-use Rattle.line_keys.specs.Keys.{key_with, none, char_with}
-use Rattle.line_keys.specs.Modes.{takes_commands}
-use Rattle.line_keys.specs.SameKeys.{same_key}
+use Rattle.line_keys.specs.Keys.{key_with, none, char_with, same_key}
 use Rattle.line_keys.specs.Vi.{changes, command_of, in_mode, key_replacement, command_of_operator, move_or, is_new, remember_if, with_last, command_done, command_table, insert_done, insert_table, vi_counted, vi_command, vi_insert, change_part, insert_part, insert_mode_if}
-use Rattle.line_keys.specs.ViMotions.{motion_done, motion_of, motion_after, change, motion_with_count, vi_motion}
-use Rattle.line_keys.specs.ViSearches.{search_part, search_of, search_of_next_key}
+use Rattle.line_keys.specs.ViMotions.{motion_done, motion_of, motion_after, change, motion_by, vi_motion, search_part, search_of, search_of_next_key}
 use Rattle.line_keys.specs.ViTables.{action_of, insert_action}
 
 -- ---- parts
@@ -54,7 +48,7 @@ after_settles : {X Y : Type 0} (next : X → Input → Shown → KeyScript Y) �
     → (own : Bool) (s : KeyScript X) (i : Input) (w : Shown) → Settles own s → Settles own (after next i w s)
 after_settles next h true (Ends x) i w is = h x i w
 after_settles next h false (Ends x) i w is = absurd (true≢false (sym is))
-after_settles next h own (Asks ask later) i w is = λ x. after_settles next h (own_by_key own ask) (later x) (input_after_ask ask i) (shown_after_ask ask x w) (is x)
+after_settles next h own (Asks ask later) i w is = λ x. after_settles next h (own_by own ask) (later x) (input_after_ask ask i) (shown_after_ask ask x w) (is x)
 
 pub then_settles : {X Y : Type 0} (next : X → Input → Shown → PhrasePart Y) → ((x : X) (i : Input) (w : Shown) → Settled (next x i w)) → (p : PhrasePart X) (i : Input) (w : Shown) → Settled p → Settled (and_then i w p next)
 unfolding and_then
@@ -208,7 +202,7 @@ emacs_decided_settles s k = key_decided_settles (Some s.n) s k (emacs_command s 
 
 emacs_settles : (custom : Custom) (i : Input) (w : Shown) (k : KeyEvent) → Settled (emacs_phrase custom i w k)
 emacs_settles custom i w k =
-    then_settles (emacs_counted custom) (λ f j v. emacs_decided_settles (situation custom j v (how_often f.0) (is_plus f.0)) f.1) (count_and_key i.mode k) i w (key_counted_settles i.mode k)
+    then_settles (λ f j v. emacs_decided (situation custom j v (how_often f.0) (is_plus f.0)) f.1) (λ f j v. emacs_decided_settles (situation custom j v (how_often f.0) (is_plus f.0)) f.1) (count_and_key i.mode k) i w (key_counted_settles i.mode k)
 
 -- ---- Vi
 
@@ -228,8 +222,8 @@ motion_settles n i None = answered_settles _
 
 motion_key_settles : (operator : KeyEvent) (n : ℕ) (i : Input) (w : Shown) (k : KeyEvent) → Settled (motion_after operator n i w k)
 motion_key_settles operator n i w k =
-    either_settles (same_key k operator) (answer_part (Some WholeLine)) (and_then i w (count_and_key i.mode k) (motion_with_count operator n)) (answered_settles (Some WholeLine))
-    (then_settles (motion_with_count operator n)
+    either_settles (same_key k operator) (answer_part (Some WholeLine)) (and_then i w (count_and_key i.mode k) (λ f j v. motion_by operator (count_times n f.0) j f.1)) (answered_settles (Some WholeLine))
+    (then_settles (λ f j v. motion_by operator (count_times n f.0) j f.1)
     (λ f j v. motion_settles (count_times n f.0) j (motion_of (same_key operator change) (count_times n f.0) f.1)) (count_and_key i.mode k) i w (key_counted_settles i.mode k))
 
 vi_motion_settles : (operator : KeyEvent) (n : ℕ) (i : Input) (w : Shown) → Settled (vi_motion operator n i w)

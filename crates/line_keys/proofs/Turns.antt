@@ -7,15 +7,14 @@ use Rattle.line_keys.specs.declared.command.Cmd.{Cmd}
 use Rattle.line_keys.specs.declared.key.KeyEvent.{KeyEvent}
 use Rattle.line_keys.specs.declared.events.Event.TheVariants.{KeySeq}
 use Rattle.line_keys.specs.CustomBindings.{Custom, BindingAnswers}
-use Rattle.line_keys.specs.Coming.{key_at}
 use Rattle.line_keys.specs.Counts.{Counted, rest_of_count, rest_of_count_in, rest_of_count_by, prompt_for}
 use Rattle.line_keys.specs.declared.keymap.custom.Followed.{Followed}
 use Rattle.line_keys.specs.declared.keymap.custom.Followed.TheVariants.{Bound, Unbound}
 use Rattle.line_keys.specs.CustomKeys.{Situation, rest_of_sequence, sequence_upto, key_sequence, sequence_or, sequence_answer, handler_arguments_for}
-use Rattle.line_keys.specs.KeyFeeds.{KeyFeed, Key, ReadsBy}
-use Rattle.line_keys.specs.Follows.{Follows}
+use Rattle.line_keys.specs.KeyFeeds.{KeyFeed, Key, ReadsBy, key_at}
+use Rattle.line_keys.specs.InputStates.{Follows}
 use Rattle.line_keys.specs.Refreshing.{Line, Prompted, KnownDisplay, Draws}
-use Rattle.line_keys.specs.PhraseScripts.{Input, PhrasePart, Upto, steps, answer_part, show_then, script_if_answered, reply_then, memory_then, with_key, with_read}
+use Rattle.line_keys.specs.PhraseScripts.{Input, PhrasePart, Upto, steps, answer_part, show_then, script_if_answered, reply_then, memory_then, with_read}
 use Rattle.line_keys.proofs.Following.{as_follows, ask_follows, ask_stops, read_follows, read_stops, ends_follow, memory_follows, needing_follows, needed_follows, decides_stop, decides_follow}
 
 module _ (on : ℤ → KeyEvent → Option ℤ) (c : ℤ) where
@@ -28,12 +27,12 @@ module _ (on : ℤ → KeyEvent → Option ℤ) (c : ℤ) where
   abbrev reads_more : PhrasePart Counted
   reads_more = Upto (rest_of_count_in on c)
 
-  same_reads : (n : ℕ) → rest_of_count_in on c n ≡ steps (with_key counted) n
+  same_reads : (n : ℕ) → rest_of_count_in on c n ≡ steps (with_read Key counted) n
   unfolding rest_of_count with_read
   same_reads zero = refl
   same_reads (suc n) = refl
 
-  counting_reads : reads_more ≡ with_key counted
+  counting_reads : reads_more ≡ with_read Key counted
   unfolding with_read
   counting_reads = λ i. Upto (λ n. same_reads n i)
 
@@ -55,12 +54,12 @@ module _ (on : ℤ → KeyEvent → Option ℤ) (c : ℤ) where
     module _ {A : Type 0} (u : A) (w w1 : S) (f f1 : KeyFeed) (asked : Draws d (Prompted (prompt_for c)) w w1 (Ok u)) where
       pub count_stops : (e : ReadlineError) → ReadsBy Key key_at f f1 (Err e) → Follows d custom (rest_of_count on c) w i w1 i f f1 (Err e)
       count_stops e read = asked_on w w1 f f1 (Err e) (ask_follows d custom (Prompted (prompt_for c)) (λ shown. reads_more) u w w1 w1 i i f f1 (Err e) asked
-          (as_follows d custom reads_more (with_key counted) w1 w1 i i f f1 (Err e) (read_stops d Key counted custom w1 i f f1 e read) counting_reads))
+          (as_follows d custom reads_more (with_read Key counted) w1 w1 i i f f1 (Err e) (read_stops d Key counted custom w1 i f f1 e read) counting_reads))
 
       turn : (w2 : S) (f2 : KeyFeed) (k : KeyEvent) (r : Result Counted ReadlineError) → ReadsBy Key key_at f f1 (Ok k) → Follows d custom (counted k) w1 i w2 i f1 f2 r
           → Follows d custom (rest_of_count on c) w i w2 i f f2 r
       turn w2 f2 k r read later = asked_on w w2 f f2 r (ask_follows d custom (Prompted (prompt_for c)) (λ shown. reads_more) u w w1 w2 i i f f2 r asked
-          (as_follows d custom reads_more (with_key counted) w1 w2 i i f f2 r (read_follows d Key counted custom k w1 w2 i i f f1 f2 r read later) counting_reads))
+          (as_follows d custom reads_more (with_read Key counted) w1 w2 i i f f2 r (read_follows d Key counted custom k w1 w2 i i f f1 f2 r read later) counting_reads))
 
       pub count_goes_on : (w2 : S) (f2 : KeyFeed) (k : KeyEvent) (more : ℤ) (r : Result Counted ReadlineError) → ReadsBy Key key_at f f1 (Ok k) → Some more ≡ on c k
           → Follows d custom (rest_of_count on more) w1 i w2 i f1 f2 r → Follows d custom (rest_of_count on c) w i w2 i f f2 r
@@ -90,12 +89,12 @@ module _ (s : Situation) (keys : List KeyEvent) where
   abbrev read_next : KeyEvent → PhrasePart Followed
   read_next k = reply_then (on_next k) (sequence_answer s (keys ++ k ∷ []))
 
-  reads_on : s.custom.begins keys ≡ true → (n : ℕ) → sequence_upto s keys n ≡ steps (with_key read_next) n
+  reads_on : s.custom.begins keys ≡ true → (n : ℕ) → sequence_upto s keys n ≡ steps (with_read Key read_next) n
   unfolding with_read reply_then
   reads_on begun zero = rw begun refl
   reads_on begun (suc n) = rw begun refl
 
-  following_reads : s.custom.begins keys ≡ true → rest_of_sequence s keys ≡ with_key read_next
+  following_reads : s.custom.begins keys ≡ true → rest_of_sequence s keys ≡ with_read Key read_next
   unfolding rest_of_sequence with_read
   following_reads begun = λ i. Upto (λ n. reads_on begun n i)
 
@@ -117,11 +116,11 @@ module _ (s : Situation) (keys : List KeyEvent) where
 
     module _ (f1 : KeyFeed) (begun : s.custom.begins keys ≡ true) where
       pub sequence_stops : (e : ReadlineError) → ReadsBy Key key_at f f1 (Err e) → Follows d s.custom (rest_of_sequence s keys) w i w i f f1 (Err e)
-      sequence_stops e read = as_follows d s.custom (rest_of_sequence s keys) (with_key read_next) w w i i f f1 (Err e) (read_stops d Key read_next s.custom w i f f1 e read) (following_reads begun)
+      sequence_stops e read = as_follows d s.custom (rest_of_sequence s keys) (with_read Key read_next) w w i i f f1 (Err e) (read_stops d Key read_next s.custom w i f f1 e read) (following_reads begun)
 
       module _ (k : KeyEvent) (read : ReadsBy Key key_at f f1 (Ok k)) where
         on_read : (f2 : KeyFeed) (r : Result Followed ReadlineError) → Follows d s.custom (read_next k) w i w i f1 f2 r → Follows d s.custom (rest_of_sequence s keys) w i w i f f2 r
-        on_read f2 r later = as_follows d s.custom (rest_of_sequence s keys) (with_key read_next) w w i i f f2 r (read_follows d Key read_next s.custom k w w i i f f1 f2 r read later) (following_reads begun)
+        on_read f2 r later = as_follows d s.custom (rest_of_sequence s keys) (with_read Key read_next) w w i i f f2 r (read_follows d Key read_next s.custom k w w i i f f1 f2 r read later) (following_reads begun)
 
         unanswered : (e : ReadlineError) → e ≡ Memory → Follows d s.custom (read_next k) w i w i f1 f1 (Err e)
         unfolding reply_then memory_then

@@ -12,14 +12,13 @@ use Rattle.line_keys.specs.declared.command.Cmd.TheVariants.{Insert as InsertTex
 use Rattle.line_keys.specs.declared.command.InputMode.{InputMode}
 use Rattle.line_keys.specs.declared.command.InputMode.TheVariants.{Command, Insert, Replace as Overwriting}
 use Rattle.line_keys.specs.declared.key.KeyCode.TheVariants.{BracketedPasteStart, Char}
-use Rattle.line_keys.specs.Coming.{Coming, Pressed, Pasted, Ends, End}
 use Rattle.line_keys.specs.CustomBindings.{Custom}
 use Rattle.line_keys.specs.Common.{common_action}
 use Rattle.line_keys.specs.Counts.{rest_of_count}
 use Rattle.line_keys.specs.CustomKeys.{key_sequence, rest_of_sequence}
 use Rattle.line_keys.specs.Keys.{key_with, none, alt}
-use Rattle.line_keys.specs.NextPhrase.{phrase}
-use Rattle.line_keys.specs.KeyFeeds.{Key, Paste}
+use Rattle.line_keys.specs.InputStates.{phrase}
+use Rattle.line_keys.specs.KeyFeeds.{Key, Paste, Coming, Pressed, Pasted, Ends, End}
 use Rattle.line_keys.specs.PhraseScripts.{Input, steps, answer_part, memory_then, with_read, from_key, show_then, keep_then, reply_then, and_then, KeyAsk, Needs, Reads, Becomes}
 use Rattle.line_keys.specs.Vi.{vi_command, vi_counted, command_table, vi_insert, insert_table}
 use Rattle.line_keys.specs.ViMotions.{motion_of}

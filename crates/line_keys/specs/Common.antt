@@ -1,27 +1,26 @@
--- The keys of both modes, and what comes before the tables: bindings, and the keys that a terminal
--- would turn into a signal or the end of input.
-use Rattle.std.specs.Prelude.{ℕ, ◌==◌, Bool, true, not, ◌&&◌, List, [], ◌∷◌, ◌++◌, length, codes, Option, Some, None, if◌then◌else◌}
+-- The keys of both modes, quoted insertion among them, and what comes before the tables: bindings,
+-- and the keys that a terminal would turn into a signal or the end of input.
+use Rattle.std.specs.Prelude.{◌≡◌, ℕ, ◌-◌, ◌==◌, nat_le, nat_lt, Bool, true, not, ◌&&◌, ◌||◌, IsTrue, List, [], ◌∷◌, ◌++◌, length, codes, Option, Some, None, unwrap_or, if◌then◌else◌}
+use Rattle.std.specs.Char.{is_control}
 use Rattle.line_buffer.specs.declared.types.Movement.TheVariants.{BeginningOfLine, EndOfLine, BackwardChar, ForwardChar, BackwardWord, ForwardWord}
 use Rattle.line_buffer.specs.declared.types.Word.TheVariants.{Big}
 use Rattle.line_buffer.specs.declared.types.At.TheVariants.{AfterEnd}
 use Rattle.line_buffer.specs.declared.types.Anchor.TheVariants.{Before}
 use Rattle.line_config.specs.declared.settings.EditMode.{EditMode}
 use Rattle.line_keys.specs.declared.command.Cmd.{Cmd}
-use Rattle.line_keys.specs.declared.command.Cmd.TheVariants.{AcceptOrInsertLine, EndOfFile, ForwardSearchHistory, LineDownOrNextHistory, LineUpOrPreviousHistory, Move, Noop, ReverseSearchHistory, TransposeChars, Undo, Unknown, Yank, Interrupt, Suspend}
-use Rattle.line_keys.specs.declared.key.KeyCode.TheVariants.{BracketedPasteStart, Delete, Down, End, Enter, Home, Left, Right, UnknownEscSeq, Up, Char}
+use Rattle.line_keys.specs.declared.command.Cmd.TheVariants.{AcceptOrInsertLine, EndOfFile, ForwardSearchHistory, LineDownOrNextHistory, LineUpOrPreviousHistory, Move, Noop, ReverseSearchHistory, TransposeChars, Undo, Unknown, Yank, Interrupt, Suspend, Insert, QuotedInsert, SelfInsert}
+use Rattle.line_keys.specs.declared.key.KeyCode.TheVariants.{BracketedPasteStart, Delete, Down, End, Enter, Home, Left, Right, UnknownEscSeq, Up, Char, Backspace, Esc, Tab}
 use Rattle.line_keys.specs.declared.key.KeyEvent.{KeyEvent}
 use Rattle.line_keys.specs.CustomKeys.{Situation, custom_answer, key_sequence}
 use Rattle.line_keys.specs.declared.keymap.common.CommonAction.{CommonAction}
 use Rattle.line_keys.specs.declared.keymap.common.CommonAction.TheVariants.{Give, Paste, Quote}
 use Rattle.line_keys.specs.declared.keymap.custom.Followed.{Followed}
 use Rattle.line_keys.specs.declared.keymap.custom.Followed.TheVariants.{Bound, Unbound}
-use Rattle.line_keys.specs.Keys.{none, ctrl}
-use Rattle.line_keys.specs.Modes.{is_emacs}
-use Rattle.line_keys.specs.PhraseScripts.{PhrasePart, answer_part, and_then, reply_then}
-use Rattle.line_keys.specs.Quoting.{quote_of_paste, quote_part}
-use Rattle.line_keys.specs.Redone.{anew_or}
+use Rattle.line_keys.specs.KeyFeeds.{Key, Paste as PastedText}
+use Rattle.line_keys.specs.Keys.{none, ctrl, key_of}
+use Rattle.line_keys.specs.PhraseScripts.{Input, PhrasePart, is_emacs, is_vi_command, answer_part, anew_or, with_read, and_then, reply_then}
 use Rattle.line_keys.specs.Refreshing.{Shown}
-use Rattle.line_keys.specs.Tables.{Row, always, by_count, by_sign, moves, kills, key_named, char, only, look}
+use Rattle.line_keys.specs.Tables.{Row, always, by_count, by_sign, moves, kills, key_named, char, each_char, is_code, only, look}
 
 -- 5C is the backslash
 abbrev pub signal_rows : List (Row Cmd)
@@ -76,12 +75,59 @@ common_reading_rows =
     ∷ char (codes "V") ctrl (always Quote)
     ∷ []
 
-abbrev pub common_rows : EditMode → Shown → List (Row CommonAction)
-common_rows mode shown = common_command_rows mode shown ++ common_reading_rows
-
 -- the action of a key in both modes, if it has a row
 unfoldable pub common_action : EditMode → Shown → ℕ → Bool → KeyEvent → Option CommonAction
-common_action mode shown n positive k = look n positive k (common_rows mode shown)
+common_action mode shown n positive k =
+    look n positive k (common_command_rows mode shown ++ common_reading_rows)
+
+-- ---- quoted insertion: the character that the next key was sent as is inserted
+
+-- Ctrl with a character from @ to _ was sent as the control character 64 below it
+abbrev pub control_of : ℕ → Cmd
+control_of c = if nat_le 0x40 c && nat_le c 0x5F then SelfInsert 1 (c - 0x40) else Unknown
+
+-- Backspace was sent as 7F; a terminal may also send 08 for it
+abbrev pub quoted_rows : List (Row Cmd)
+quoted_rows =
+    each_char none (λ c. always (SelfInsert 1 c))
+    ∷ each_char ctrl (λ c. always (control_of c))
+    ∷ key_named Tab none (always (SelfInsert 1 0x09))
+    ∷ key_named Enter none (always (SelfInsert 1 0x0D))
+    ∷ key_named Esc none (always (SelfInsert 1 0x1B))
+    ∷ key_named Backspace none (always (SelfInsert 1 0x7F))
+    ∷ []
+
+-- the command of a quoted key; one that was sent as no single character inserts none
+abbrev pub quoted_command : KeyEvent → Cmd
+quoted_command k = unwrap_or (look 1 true k quoted_rows) Unknown
+
+-- a pasted text is read and inserted
+abbrev pub quote_of_paste : PhrasePart Cmd
+quote_of_paste = with_read PastedText (λ text. answer_part (Insert 1 text))
+
+-- the key that announces a pasted text
+abbrev pub is_paste_start : KeyEvent → Bool
+is_paste_start k = (k.1.0 == 0) && is_code k.0 BracketedPasteStart
+
+abbrev pub quote_of_key : KeyEvent → PhrasePart Cmd
+quote_of_key k = if is_paste_start k then quote_of_paste else answer_part (quoted_command k)
+
+-- the setting is on, and text can be typed
+abbrev pub quotes : Input → Bool
+quotes input = input.modal_commands && not (is_vi_command input.mode input.input_mode)
+
+-- one more key is read, which is not looked up in any other table or binding
+abbrev pub quote_part : Input → PhrasePart Cmd
+quote_part input = if quotes input then with_read Key quote_of_key else answer_part QuotedInsert
+
+-- a character that its key tells: 08 comes as Backspace, and the control characters from 80 on as
+-- one key
+abbrev pub is_told : ℕ → Bool
+is_told c = not (c == 0x08) && (nat_lt c 0x80 || not (is_control c))
+
+-- if the quoted key tells its character, this is inserted
+abbrev pub QuotedAsSent : Type 0
+QuotedAsSent = (c : ℕ) → IsTrue (is_told c) → quoted_command (key_of c none) ≡ SelfInsert 1 c
 
 -- ---- a key without a row
 

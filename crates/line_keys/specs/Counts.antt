@@ -68,13 +68,10 @@ abbrev pub count_from_char : ℕ → Option ℤ
 count_from_char char =
     if char == 0x2D then Some (neg_ℤ (pos 1)) else option_map pos (digit_char char)
 
-abbrev pub count_from_digit : ℕ → Option ℤ
-count_from_digit d = if d == 0 then None else Some (pos d)
-
 -- the count that a key starts: in Emacs mode with Alt, in Vi's command mode by a digit other than 0
 abbrev pub count_from_key : EditMode → KeyEvent → Option ℤ
 count_from_key Emacs k = option_and_then count_from_char (char_with alt k)
-count_from_key Vi k = option_and_then count_from_digit (digit_of k)
+count_from_key Vi k = option_and_then (λ d. if d == 0 then None else Some (pos d)) (digit_of k)
 
 -- ---- a count and the key after it
 

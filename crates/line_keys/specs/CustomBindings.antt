@@ -1,18 +1,67 @@
--- The answers of bindings, depending on what they are shown.
-use Rattle.std.specs.Prelude.{◌≡◌, Bool, List, Option, Some, None, Result, IfOk, IfErr, IsTrue, option_map}
+-- What a handler is shown, and the answers of bindings, depending on it.
+use Rattle.std.specs.Prelude.{◌≡◌, ℕ, Bool, List, Option, Some, None, Result, IfOk, IfErr, IsTrue, option_copied, option_map}
 use Rattle.std.specs.declared.dyn_box.DynBox.{DynBox}
 use Rattle.std.specs.declared.alloc.Global.{Global}
 use Rattle.line_config.specs.declared.errors.ReadlineError.{ReadlineError}
 use Rattle.line_config.specs.declared.errors.ReadlineError.TheVariants.{Handler, Memory}
+use Rattle.line_config.specs.declared.settings.EditMode.{EditMode}
 use Rattle.line_keys.specs.declared.command.Cmd.{Cmd}
+use Rattle.line_keys.specs.declared.command.InputMode.{InputMode}
+use Rattle.line_keys.specs.declared.handler.EventContext.{EventContext}
 use Rattle.line_keys.specs.declared.handler.EventHandler.{EventHandler}
 use Rattle.line_keys.specs.declared.handler.EventHandler.TheVariants.{Simple, Conditional}
 use Rattle.line_keys.specs.declared.key.KeyEvent.{KeyEvent}
 use Rattle.line_keys.specs.declared.events.Event.{Event}
-use Rattle.line_keys.specs.Bound.{find, begins as some_begins}
+use Rattle.line_keys.specs.Events.{find, begins as some_begins}
 use Rattle.line_keys.specs.Commands.{holds_text}
-use Rattle.line_keys.specs.Handling.{Meaning, Showing}
+use Rattle.line_keys.specs.Refreshing.{Shown}
 use Rattle.line_keys.specs.Replies.{Reply, gives_at_once, fails}
+
+-- the editor's state, as a handler sees it
+pub record Seen : Type 0 where
+  pub mode : EditMode
+  pub input_mode : InputMode
+  pub hinted : Bool
+  pub completion : Option (List ℕ)
+  pub line : List ℕ
+  pub place : ℕ
+
+-- all that a handler is shown
+pub record Showing : Type 0 where
+  pub event : Event
+  -- the count, and whether it isn't negative
+  pub count : ℕ
+  pub positive : Bool
+  pub seen : Seen
+
+abbrev pub Meaning : Type 0
+Meaning = Showing → Reply (Option Cmd)
+
+abbrev pub handler_view_of : EditMode → InputMode → Shown → Seen
+handler_view_of mode input s = record {
+  mode = mode;
+  input_mode = input;
+  hinted = s.hinted;
+  completion = s.completion;
+  line = s.line;
+  place = s.place;
+}
+
+abbrev pub handler_view_in : EventContext → Seen
+handler_view_in c = record {
+  mode = c.mode;
+  input_mode = c.input_mode;
+  hinted = c.has_hint;
+  completion = option_copied c.hint_text;
+  line = c.line.now;
+  place = c.pos;
+}
+
+abbrev pub handler_arguments : Event → ℕ → Bool → EventContext → Showing
+handler_arguments e n positive c =
+    record { event = e; count = n; positive = positive; seen = handler_view_in c }
+
+-- ---- the answers
 
 -- a plain command answers with a copy of itself; a handler's meaning is a parameter, since it comes
 -- with its box
@@ -42,8 +91,7 @@ answer_by (Some meaning) s = meaning s
 
 -- a bound handler fails when it is shown this
 abbrev pub HandlerFails : Custom → Type 0
-HandlerFails custom =
-    (e : Event) × (s : Showing) × IsTrue (fails (answer_by (custom.answers e) s))
+HandlerFails custom = (e : Event) × (s : Showing) × IsTrue (fails (answer_by (custom.answers e) s))
 
 -- the errors of a binding: Handler if it fails, Memory if it takes memory
 abbrev pub IsRefusalOf : {A : Type 0} → Reply A → ReadlineError → Type 0

@@ -8,10 +8,9 @@ use Rattle.line_keys.specs.declared.events.Event.TheVariants.{Any, KeySeq}
 use Rattle.line_keys.specs.declared.key.KeyEvent.{KeyEvent}
 use Rattle.line_keys.specs.declared.keymap.custom.Followed.{Followed}
 use Rattle.line_keys.specs.declared.keymap.custom.Followed.TheVariants.{Bound, Unbound}
-use Rattle.line_keys.specs.CustomBindings.{Custom, answer_by}
+use Rattle.line_keys.specs.CustomBindings.{Custom, answer_by, Meaning, Showing, handler_view_of}
 use Rattle.line_keys.specs.Events.{single}
 use Rattle.line_keys.specs.KeyFeeds.{Key}
-use Rattle.line_keys.specs.Handling.{Meaning, Showing, handler_view_of}
 use Rattle.line_keys.specs.PhraseScripts.{Input, Reads, KeyScript, PhrasePart, Upto, memory_then, error_script, reply_script}
 use Rattle.line_keys.specs.Refreshing.{Shown}
 use Rattle.line_keys.specs.Replies.{Reply, with_memory}
@@ -26,21 +25,13 @@ pub record Situation : Type 0 where
   pub positive : Bool
 
 abbrev pub situation : Custom → Input → Shown → ℕ → Bool → Situation
-situation custom input shown n positive = record {
-  custom = custom;
-  input = input;
-  shown = shown;
-  n = n;
-  positive = positive;
-}
+situation custom input shown n positive =
+    record { custom = custom; input = input; shown = shown; n = n; positive = positive }
 
 abbrev pub handler_arguments_for : Situation → Event → Showing
-handler_arguments_for s e = record {
-  event = e;
-  count = s.n;
-  positive = s.positive;
-  seen = handler_view_of s.input.mode s.input.input_mode s.shown;
-}
+handler_arguments_for s e =
+    let seen = handler_view_of s.input.mode s.input.input_mode s.shown in
+    record { event = e; count = s.n; positive = s.positive; seen = seen }
 
 -- the binding of one key, else that of any key, for which the key's event is built in memory
 abbrev pub or_any : Custom → Option Meaning → Option Meaning
@@ -72,8 +63,7 @@ abbrev pub sequence_upto : Situation → List KeyEvent → ℕ → KeyScript Fol
 sequence_upto s keys zero = if s.custom.begins keys then error_script Memory else in_vain keys
 sequence_upto s keys (suc n) =
     if s.custom.begins keys
-    then Asks (Reads Key)
-    (λ k. reply_script (sequence_or (sequence_upto s (keys ++ k ∷ []) n))
+    then Asks (Reads Key) (λ k. reply_script (sequence_or (sequence_upto s (keys ++ k ∷ []) n))
     (sequence_answer s (keys ++ k ∷ [])))
     else in_vain keys
 

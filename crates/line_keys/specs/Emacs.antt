@@ -1,5 +1,5 @@
 -- The keys of Emacs mode.
-use Rattle.std.specs.Prelude.{ℕ, Bool, List, [], ◌∷◌, ◌++◌, Option, Some, None, codes, unwrap_or}
+use Rattle.std.specs.Prelude.{ℕ, Bool, List, [], ◌∷◌, ◌++◌, Option, Some, None, codes, unwrap_or, option_map}
 use Rattle.line_buffer.specs.declared.types.CharSearch.{CharSearch}
 use Rattle.line_buffer.specs.declared.types.Movement.{Movement}
 use Rattle.line_buffer.specs.declared.types.Movement.TheVariants.{BeginningOfLine, EndOfLine, BackwardChar, ForwardChar, BackwardWord, ForwardWord, ViCharSearch}
@@ -11,7 +11,7 @@ use Rattle.line_keys.specs.declared.key.KeyCode.TheVariants.{BackTab, Backspace,
 use Rattle.line_keys.specs.declared.key.KeyEvent.{KeyEvent}
 use Rattle.line_keys.specs.CustomBindings.{Custom}
 use Rattle.line_keys.specs.Common.{at_hint, common, decision_of}
-use Rattle.line_keys.specs.Counts.{Counted, count_and_key, how_often, is_plus}
+use Rattle.line_keys.specs.Counts.{count_and_key, how_often, is_plus}
 use Rattle.line_keys.specs.CustomKeys.{Situation, situation, key_sequence}
 use Rattle.line_keys.specs.declared.keymap.custom.Followed.{Followed}
 use Rattle.line_keys.specs.declared.keymap.custom.Followed.TheVariants.{Bound, Unbound}
@@ -19,10 +19,10 @@ use Rattle.line_keys.specs.declared.keymap.emacs.EmacsAction.{EmacsAction}
 use Rattle.line_keys.specs.declared.keymap.emacs.EmacsAction.TheVariants.{Give, Seek, LeadOn}
 use Rattle.line_keys.specs.declared.keymap.vi.motion.Search.TheVariants.{ForwardBefore, Backward}
 use Rattle.line_keys.specs.Keys.{none, ctrl, alt, ctrl_alt, char_with}
-use Rattle.line_keys.specs.PhraseScripts.{Input, PhrasePart, Phrase, answer_part, from_key, and_then}
+use Rattle.line_keys.specs.PhraseScripts.{Input, PhrasePart, answer_part, from_key, and_then}
 use Rattle.line_keys.specs.Refreshing.{Shown}
 use Rattle.line_keys.specs.Tables.{Row, always, by_count, by_sign, moves, kills, key_named, char, each_char, only, look}
-use Rattle.line_keys.specs.ViSearches.{search_of}
+use Rattle.line_keys.specs.ViMotions.{search_of}
 
 -- back over words, and forward over them
 abbrev pub back : ℕ → Movement
@@ -82,15 +82,10 @@ emacs_command_rows shown =
 
 abbrev pub emacs_reading_rows : List (Row EmacsAction)
 emacs_reading_rows =
-    char (codes "]") ctrl
-    (by_sign (λ n. Seek ForwardBefore) (λ n. Seek Backward))
-    ∷ char (codes "]") ctrl_alt
-    (by_sign (λ n. Seek Backward) (λ n. Seek ForwardBefore))
+    char (codes "]") ctrl (by_sign (λ n. Seek ForwardBefore) (λ n. Seek Backward))
+    ∷ char (codes "]") ctrl_alt (by_sign (λ n. Seek Backward) (λ n. Seek ForwardBefore))
     ∷ char (codes "X") ctrl (always LeadOn)
     ∷ []
-
-abbrev pub emacs_rows : Shown → List (Row EmacsAction)
-emacs_rows shown = typed_rows ++ (emacs_command_rows shown ++ emacs_reading_rows)
 
 -- the key after C-X
 abbrev pub second_rows : List (Row Cmd)
@@ -103,14 +98,14 @@ second_rows =
 
 -- the action of a key, if it has a row
 unfoldable pub emacs_action : Shown → ℕ → Bool → KeyEvent → Option EmacsAction
-emacs_action shown n positive k = look n positive k (emacs_rows shown)
+emacs_action shown n positive k =
+    look n positive k (typed_rows ++ (emacs_command_rows shown ++ emacs_reading_rows))
 
 -- ---- keys after which more is read
 
 -- the move by a search for a character, if one was typed
 abbrev pub move_to_char : ℕ → (ℕ → CharSearch) → Option ℕ → Cmd
-move_to_char n search (Some c) = Move (ViCharSearch n (search c))
-move_to_char n search None = Unknown
+move_to_char n search c = unwrap_or (option_map (λ c. Move (ViCharSearch n (search c))) c) Unknown
 
 abbrev pub second_command : ℕ → Bool → KeyEvent → Cmd
 second_command n positive k = unwrap_or (look n positive k second_rows) Unknown
@@ -129,8 +124,6 @@ emacs_done s k (Some LeadOn) =
     and_then s.input s.shown (key_sequence s k) (λ f input shown. after_first_key s.n s.positive f)
 emacs_done s k None = common s k
 
--- ---- a key
-
 abbrev pub emacs_command : Situation → KeyEvent → PhrasePart Cmd
 emacs_command s k = emacs_done s k (emacs_action s.shown s.n s.positive k)
 
@@ -138,12 +131,7 @@ emacs_command s k = emacs_done s k (emacs_action s.shown s.n s.positive k)
 abbrev pub emacs_decided : Situation → KeyEvent → PhrasePart Cmd
 emacs_decided s k = decision_of (Some s.n) s k (emacs_command s k)
 
--- the key after a count
-abbrev pub emacs_counted : Custom → Counted → Input → Shown → Phrase
-emacs_counted custom f input shown =
-    emacs_decided (situation custom input shown (how_often f.0) (is_plus f.0)) f.1
-
--- the phrase whose first key is k
-abbrev pub emacs_phrase : Custom → Input → Shown → KeyEvent → Phrase
-emacs_phrase custom input shown k =
-    and_then input shown (count_and_key input.mode k) (emacs_counted custom)
+-- the phrase whose first key is k, which may start a count
+abbrev pub emacs_phrase : Custom → Input → Shown → KeyEvent → PhrasePart Cmd
+emacs_phrase custom input shown k = and_then input shown (count_and_key input.mode k) (λ f i seen.
+    emacs_decided (situation custom i seen (how_often f.0) (is_plus f.0)) f.1)

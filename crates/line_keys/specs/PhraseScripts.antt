@@ -1,16 +1,19 @@
--- Phrases: what one command reads, draws and remembers, step by step, and its answer.
-use Rattle.std.specs.Prelude.{ℕ, zero, suc, ⊤, Bool, true, false, List, Option, Some, None}
+-- Phrases: what one command reads, draws and remembers, step by step, its answer, and the prompt
+-- that is shown then.
+use Rattle.std.specs.Prelude.{ℕ, zero, suc, ⊤, Bool, true, false, Option, Some, None, if◌then◌else◌, IsTrue}
 use Rattle.script.specs.Scripts.{Script, Ends, Asks}
 use Rattle.line_buffer.specs.declared.types.CharSearch.{CharSearch}
 use Rattle.line_config.specs.declared.settings.EditMode.{EditMode}
+use Rattle.line_config.specs.declared.settings.EditMode.TheVariants.{Emacs, Vi}
 use Rattle.line_config.specs.declared.errors.ReadlineError.{ReadlineError}
 use Rattle.line_config.specs.declared.errors.ReadlineError.TheVariants.{Handler, Memory}
 use Rattle.line_keys.specs.declared.command.Cmd.{Cmd}
 use Rattle.line_keys.specs.declared.command.InputMode.{InputMode}
+use Rattle.line_keys.specs.declared.command.InputMode.TheVariants.{Command}
 use Rattle.line_keys.specs.declared.key.KeyEvent.{KeyEvent}
-use Rattle.line_keys.specs.Commands.{holds_text}
-use Rattle.line_keys.specs.KeyFeeds.{InputItem, InputOf, Key, Paste}
-use Rattle.line_keys.specs.Refreshing.{Shown, Ask}
+use Rattle.line_keys.specs.Commands.{anew, holds_text}
+use Rattle.line_keys.specs.KeyFeeds.{InputItem, InputOf, Key}
+use Rattle.line_keys.specs.Refreshing.{Shown, Ask, Line, Message, Prompted}
 use Rattle.line_keys.specs.Replies.{Reply}
 
 -- what is remembered from one command to the next
@@ -23,6 +26,19 @@ pub record Input : Type 0 where
   pub search : Option CharSearch
   -- whether the commands act that go on over several keys
   pub modal_commands : Bool
+
+abbrev pub is_emacs : EditMode → Bool
+is_emacs Emacs = true
+is_emacs Vi = false
+
+abbrev pub takes_commands : InputMode → Bool
+takes_commands Command = true
+takes_commands mode = false
+
+-- Vi is in command mode
+abbrev pub is_vi_command : EditMode → InputMode → Bool
+is_vi_command Emacs input_mode = false
+is_vi_command Vi input_mode = takes_commands input_mode
 
 -- ---- steps, in order, and the answer after them
 
@@ -58,23 +74,20 @@ pub data PhrasePart (X : Type 0) : Type 0 where
 abbrev pub steps : {X : Type 0} → PhrasePart X → ℕ → KeyScript X
 steps (Upto made) = made
 
-abbrev pub Phrase : Type 0
-Phrase = PhrasePart Cmd
-
 unfoldable pub answer_part : {X : Type 0} → X → PhrasePart X
 answer_part x = Upto (λ n. Ends x)
 
 -- memory is taken only if this holds
 abbrev pub needs_if : {X : Type 0} → Bool → KeyScript X → KeyScript X
-needs_if true later = Asks Needs (λ none. later)
-needs_if false later = later
+needs_if takes later = if takes then Asks Needs (λ none. later) else later
 
 unfoldable pub memory_then : {X : Type 0} → Bool → PhrasePart X → PhrasePart X
 memory_then takes next = Upto (λ n. needs_if takes (steps next n))
 
--- a command made from another one, with a copy of its text
-abbrev pub copy_of_command : Cmd → PhrasePart Cmd
-copy_of_command cmd = memory_then (holds_text cmd) (answer_part cmd)
+-- a repeated command, with a copy of its text; if it can't be repeated, the other one
+abbrev pub anew_or : Cmd → Option ℕ → Shown → Cmd → PhrasePart Cmd
+anew_or other new shown cmd =
+    let made = anew other new shown cmd in memory_then (holds_text made) (answer_part made)
 
 abbrev pub read_upto : {Y : Type 0} → (item : InputItem) → (InputOf item → PhrasePart Y) → ℕ
     → KeyScript Y
@@ -85,17 +98,9 @@ unfoldable pub with_read : {Y : Type 0} → (item : InputItem) → (InputOf item
     → PhrasePart Y
 with_read item next = Upto (read_upto item next)
 
--- one key is read
-abbrev pub with_key : {Y : Type 0} → (KeyEvent → PhrasePart Y) → PhrasePart Y
-with_key = with_read Key
-
 -- one key is read, and this is its result
 unfoldable pub from_key : {X : Type 0} → (KeyEvent → X) → PhrasePart X
-from_key f = with_key (λ k. answer_part (f k))
-
--- a pasted text is read
-abbrev pub with_paste : {Y : Type 0} → (List ℕ → PhrasePart Y) → PhrasePart Y
-with_paste = with_read Paste
+from_key f = with_read Key (λ k. answer_part (f k))
 
 unfoldable pub show_then : {X : Type 0} → Ask → (Shown → PhrasePart X) → PhrasePart X
 show_then ask next = Upto (λ n. Asks (Shows ask) (λ shown. steps (next shown) n))
@@ -130,7 +135,20 @@ after next input shown (Asks ask later) =
 
 -- a part, then what its answer leads to, which sees the line and the memory as the steps left them
 unfoldable pub and_then : {X Y : Type 0} → Input → Shown → PhrasePart X →
-    (X → Input → Shown → PhrasePart Y)
-    → PhrasePart Y
+    (X → Input → Shown → PhrasePart Y) → PhrasePart Y
 and_then input shown p next =
     Upto (λ n. after (λ x input shown. steps (next x input shown) n) input shown (steps p n))
+
+-- ---- which prompt is shown: the session's own, or that of a count
+
+-- the session's own prompt is shown after the request, depending on whether it was before
+abbrev pub own_by : Bool → KeyAsk → Bool
+own_by own (Shows Line) = true
+own_by own (Shows (Message text kind)) = true
+own_by own (Shows (Prompted prompt)) = false
+own_by own ask = own
+
+-- if the steps lead to an answer, the session's own prompt is shown
+abbrev pub Settles : {X : Type 0} → Bool → KeyScript X → Type 0
+Settles own (Ends x) = IsTrue own
+Settles own (Asks ask later) = (x : Answer ask) → Settles (own_by own ask) (later x)

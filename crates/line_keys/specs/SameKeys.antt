@@ -8,13 +8,10 @@ use Rattle.line_keys.specs.declared.key.KeyEvent.{KeyEvent}
 use Rattle.line_keys.specs.declared.key.KeyCode.{KeyCode}
 use Rattle.line_keys.specs.declared.key.KeyCode.TheVariants.{UnknownEscSeq, Backspace, BackTab, BracketedPasteStart, BracketedPasteEnd, Char, Delete, Down, End, Enter, Esc, F, Home, Insert, Left, Null, PageDown, PageUp, Right, Tab, Up}
 use Rattle.line_keys.specs.contracts.key.KeyCodePartialEq.TheImpl as code_eq
-use Rattle.line_keys.specs.contracts.key.KeyEventPartialEq.TheImpl as key_eq
+use Rattle.line_keys.specs.Keys.{same_key}
 
 abbrev pub same_code : KeyCode → KeyCode → Bool
 same_code = (code_eq.ghosts).eq
-
-abbrev pub same_key : KeyEvent → KeyEvent → Bool
-same_key = (key_eq.ghosts).eq
 
 abbrev pub same_keys : List KeyEvent → List KeyEvent → Bool
 same_keys = pointwise same_key

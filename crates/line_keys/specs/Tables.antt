@@ -1,5 +1,5 @@
 -- Tables from keys to actions: rows, and the lookup of a key.
-use Rattle.std.specs.Prelude.{ℕ, ◌==◌, Bool, true, false, ◌&&◌, List, [], ◌∷◌, if◌then◌else◌, Option, Some, None}
+use Rattle.std.specs.Prelude.{ℕ, ◌==◌, Bool, true, false, ◌&&◌, List, [], ◌∷◌, get_or, if◌then◌else◌, Option, Some, None, is_some, unwrap_or}
 use Rattle.line_buffer.specs.declared.types.Movement.{Movement}
 use Rattle.line_keys.specs.declared.command.Cmd.{Cmd}
 use Rattle.line_keys.specs.declared.command.Cmd.TheVariants.{Move, Kill}
@@ -7,6 +7,7 @@ use Rattle.line_keys.specs.declared.flags.Modifiers.{Modifiers}
 use Rattle.line_keys.specs.declared.key.KeyCode.{KeyCode}
 use Rattle.line_keys.specs.declared.key.KeyCode.TheVariants.{BackTab, Backspace, BracketedPasteStart, Char, Delete, Down, End, Enter, Esc, Home, Left, Right, Tab, UnknownEscSeq, Up}
 use Rattle.line_keys.specs.declared.key.KeyEvent.{KeyEvent}
+use Rattle.line_keys.specs.Keys.{char_in}
 
 -- ---- what a row gives, depending on the count: its amount and whether it isn't negative
 
@@ -62,38 +63,22 @@ is_code UnknownEscSeq UnknownEscSeq = true
 is_code Up Up = true
 is_code a b = false
 
-abbrev pub is_char : KeyCode → Bool
-is_char (Char c) = true
-is_char code = false
-
-abbrev pub char_of : KeyCode → ℕ
-char_of (Char c) = c
-char_of code = 0
-
 -- a key with a name
 abbrev pub key_named : {X : Type 0} → KeyCode → Modifiers → Giving X → Row X
-key_named code modifiers gives = record {
-  fits = is_code code;
-  modifiers = modifiers;
-  stands = true;
-  gives = λ other. gives;
-}
+key_named code modifiers gives =
+    record { fits = is_code code; modifiers = modifiers; stands = true; gives = λ other. gives }
 
-abbrev pub first_of : List ℕ → ℕ
-first_of [] = 0
-first_of (c ∷ cs) = c
-
--- a character's key
+-- the key of a text's one character
 abbrev pub char : {X : Type 0} → List ℕ → Modifiers → Giving X → Row X
-char text modifiers gives = key_named (Char (first_of text)) modifiers gives
+char text modifiers gives = key_named (Char (get_or text 0 0)) modifiers gives
 
 -- the key of each character; what the row gives depends on it
 abbrev pub each_char : {X : Type 0} → Modifiers → (ℕ → Giving X) → Row X
 each_char modifiers gives = record {
-  fits = is_char;
+  fits = λ code. is_some (char_in code);
   modifiers = modifiers;
   stands = true;
-  gives = λ code. gives (char_of code);
+  gives = λ code. gives (unwrap_or (char_in code) 0);
 }
 
 -- a row that applies only on a condition

@@ -1,5 +1,5 @@
 -- The keys of Vi mode.
-use Rattle.std.specs.Prelude.{◌≡◌, IsTrue, IfOk, IfErr, ℕ, Bool, true, false, not, ◌&&◌, if◌then◌else◌, Option, Some, None, unwrap_or, Result}
+use Rattle.std.specs.Prelude.{◌≡◌, IsTrue, IfOk, IfErr, ℕ, Bool, true, false, not, ◌&&◌, if◌then◌else◌, Option, Some, None, unwrap_or, option_map, Result}
 use Rattle.line_buffer.specs.declared.types.Movement.{Movement}
 use Rattle.line_config.specs.declared.errors.ReadlineError.{ReadlineError}
 use Rattle.line_config.specs.declared.errors.ReadlineError.TheVariants.{Memory}
@@ -21,13 +21,10 @@ use Rattle.line_keys.specs.Common.{common, decision_of}
 use Rattle.line_keys.specs.Counts.{Counted, count_and_key, how_often, typed_count}
 use Rattle.line_keys.specs.CustomKeys.{Situation, situation}
 use Rattle.line_keys.specs.Keys.{key_with, none}
-use Rattle.line_keys.specs.Modes.{takes_commands}
-use Rattle.line_keys.specs.PhraseScripts.{Input, PhrasePart, answer_part, show_then, keep_then, from_key, memory_then, and_then}
-use Rattle.line_keys.specs.Redone.{anew_or}
+use Rattle.line_keys.specs.PhraseScripts.{Input, PhrasePart, takes_commands, answer_part, anew_or, show_then, keep_then, from_key, memory_then, and_then}
 use Rattle.line_keys.specs.Refreshing.{Shown, DoingInsert, DoneInserting}
 use Rattle.line_keys.specs.Tables.{look}
-use Rattle.line_keys.specs.ViMotions.{vi_motion}
-use Rattle.line_keys.specs.ViSearches.{opposite_of, search_movement, search_of_next_key}
+use Rattle.line_keys.specs.ViMotions.{opposite, search_movement, search_of_next_key, vi_motion}
 use Rattle.line_keys.specs.ViTables.{action_of, insert_action, replace_rows}
 
 -- ---- the modes and the last change
@@ -55,19 +52,15 @@ pub record Remembers (is : Bool) (cmd : Cmd) (input input' : Input)
 abbrev pub change_part : Cmd → Input → Shown → PhrasePart Cmd
 change_part cmd input shown = remember_if (flags_of cmd).is_change cmd input
 
-abbrev pub is_typing : Cmd → Bool
-is_typing (SelfInsert n c) = true
-is_typing cmd = false
-
--- what typed characters continue: other typed ones, or the change that they replace
-abbrev pub goes_on : Cmd → Bool
-goes_on (SelfInsert n c) = true
-goes_on (Replace m text) = true
-goes_on cmd = false
+-- a typed character continues the last command: typed ones, or the change that they replace
+abbrev pub goes_on : Cmd → Cmd → Bool
+goes_on (SelfInsert n c) (SelfInsert m d) = true
+goes_on (SelfInsert n c) (Replace m text) = true
+goes_on cmd last = false
 
 -- in insert mode too, except for characters that continue the last one
 abbrev pub is_new : Cmd → Input → Bool
-is_new cmd input = (flags_of cmd).is_change && not (is_typing cmd && goes_on input.last)
+is_new cmd input = (flags_of cmd).is_change && not (goes_on cmd input.last)
 
 abbrev pub insert_part : Cmd → Input → Shown → PhrasePart Cmd
 insert_part cmd input shown = remember_if (is_new cmd input) cmd input
@@ -87,21 +80,17 @@ command_of operators.Dedent = Dedent
 command_of operators.Indent = Indent
 
 abbrev pub insert_mode_if : Bool → Input → Input
-insert_mode_if true input = in_mode Insert input
-insert_mode_if false input = input
+insert_mode_if changing input = if changing then in_mode Insert input else input
 
 abbrev pub command_of_operator : (Movement → Cmd) → Option Movement → Cmd
-command_of_operator operator (Some m) = operator m
-command_of_operator operator None = Unknown
+command_of_operator operator m = unwrap_or (option_map operator m) Unknown
 
 abbrev pub operation : Situation → KeyEvent → (Movement → Cmd) → Input → PhrasePart Cmd
-operation s k operator input =
-    and_then input s.shown (vi_motion k s.n input s.shown)
+operation s k operator input = and_then input s.shown (vi_motion k s.n input s.shown)
     (λ m input shown. answer_part (command_of_operator operator m))
 
 abbrev pub move_or : Cmd → Option Movement → Cmd
-move_or other (Some m) = Move m
-move_or other None = other
+move_or other m = unwrap_or (option_map Move m) other
 
 -- the character that replaces those under the cursor
 abbrev pub key_replacement : ℕ → KeyEvent → Cmd
@@ -112,18 +101,17 @@ abbrev pub command_done : Option ℕ → Situation → KeyEvent → Option ViAct
 command_done new s k (Some (action.Give cmd)) = answer_part cmd
 command_done new s k (Some (action.Insert cmd)) =
     keep_then (in_mode Insert s.input) (show_then DoingInsert (λ shown. answer_part cmd))
-command_done new s k (Some (action.Turn mode cmd)) = keep_then (in_mode mode s.input)
-    (answer_part cmd)
-command_done new s k (Some (action.Operate o)) =
-    let input = insert_mode_if (changes o) s.input in
+command_done new s k (Some (action.Turn mode cmd)) =
+    keep_then (in_mode mode s.input) (answer_part cmd)
+command_done new s k (Some (action.Operate o)) = let input = insert_mode_if (changes o) s.input in
     keep_then input (operation s k (command_of o) input)
 command_done new s k (Some (action.Search way)) =
     and_then s.input s.shown (search_of_next_key way s.n s.input)
     (λ m input shown. answer_part (move_or Unknown m))
-command_done new s k (Some action.Again) = answer_part
-    (move_or Noop (search_movement s.n s.input.search))
+command_done new s k (Some action.Again) =
+    answer_part (move_or Noop (search_movement s.n s.input.search))
 command_done new s k (Some action.Back) =
-    answer_part (move_or Noop (search_movement s.n (opposite_of s.input.search)))
+    answer_part (move_or Noop (search_movement s.n (option_map opposite s.input.search)))
 command_done new s k (Some action.Repeat) = anew_or Noop new s.shown s.input.last
 command_done new s k (Some action.Replace) = from_key (key_replacement s.n)
 command_done new s k None = common s k
@@ -131,15 +119,11 @@ command_done new s k None = common s k
 unfoldable pub command_table : Option ℕ → Situation → KeyEvent → PhrasePart Cmd
 command_table new s k = command_done new s k (action_of s.input.modal_commands s.n k)
 
--- a bound command gets the count if one was typed
-abbrev pub vi_command_decided : Option ℕ → Situation → KeyEvent → PhrasePart Cmd
-vi_command_decided new s k =
-    decision_of new s k (and_then s.input s.shown (command_table new s k) change_part)
-
--- the key after a count
+-- the key after a count; a bound command gets the count if one was typed
 unfoldable pub vi_counted : Custom → Counted → Input → Shown → PhrasePart Cmd
 vi_counted custom f input shown =
-    vi_command_decided (typed_count f.0) (situation custom input shown (how_often f.0) true) f.1
+    let new = typed_count f.0 in let s = situation custom input shown (how_often f.0) true in
+    decision_of new s f.1 (and_then input shown (command_table new s f.1) change_part)
 
 unfoldable pub vi_command : Custom → KeyEvent → Input → Shown → PhrasePart Cmd
 vi_command custom k input shown =
@@ -158,8 +142,8 @@ command_mode_then input next =
 
 abbrev pub insert_done : Custom → Input → Shown → KeyEvent → Option InsertAction → PhrasePart Cmd
 insert_done custom input shown k (Some (inserting.Give cmd)) = answer_part cmd
-insert_done custom input shown k (Some (inserting.Typed c)) = answer_part
-    (char_command input.input_mode c)
+insert_done custom input shown k (Some (inserting.Typed c)) =
+    answer_part (char_command input.input_mode c)
 insert_done custom input shown k (Some (inserting.Leave cmd)) =
     command_mode_then input (λ input shown. answer_part cmd)
 insert_done custom input shown k (Some (inserting.Command c)) =
@@ -172,11 +156,8 @@ insert_table custom input shown k =
 
 -- a handler isn't shown a count
 unfoldable pub vi_insert : Custom → KeyEvent → Input → Shown → PhrasePart Cmd
-vi_insert custom k input shown =
-    decision_of None (situation custom input shown 0 true) k
+vi_insert custom k input shown = decision_of None (situation custom input shown 0 true) k
     (and_then input shown (insert_table custom input shown k) insert_part)
-
--- ---- both
 
 -- the phrase whose first key is k
 abbrev pub vi_phrase : Custom → Input → Shown → KeyEvent → PhrasePart Cmd

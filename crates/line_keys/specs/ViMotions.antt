@@ -1,22 +1,52 @@
--- The motion after an operator of Vi.
-use Rattle.std.specs.Prelude.{ℕ, Bool, true, List, [], ◌∷◌, Option, Some, None, codes, if◌then◌else◌}
+-- Vi's searches for a character, and the motion after an operator.
+use Rattle.std.specs.Prelude.{ℕ, Bool, true, List, [], ◌∷◌, Option, Some, None, option_map, codes, if◌then◌else◌}
+use Rattle.line_buffer.specs.declared.types.CharSearch.{CharSearch}
+use Rattle.line_buffer.specs.declared.types.CharSearch.TheVariants as sought
 use Rattle.line_buffer.specs.declared.types.Movement.{Movement}
-use Rattle.line_buffer.specs.declared.types.Movement.TheVariants.{WholeLine, BeginningOfLine, EndOfLine, BackwardWord, ForwardWord, ViFirstPrint, BackwardChar, ForwardChar, LineUp, LineDown}
+use Rattle.line_buffer.specs.declared.types.Movement.TheVariants.{WholeLine, BeginningOfLine, EndOfLine, BackwardWord, ForwardWord, ViFirstPrint, BackwardChar, ForwardChar, LineUp, LineDown, ViCharSearch}
 use Rattle.line_buffer.specs.declared.types.Word.TheVariants.{Big, Vi}
 use Rattle.line_buffer.specs.declared.types.At.TheVariants.{Start, AfterEnd}
 use Rattle.line_keys.specs.declared.key.KeyCode.TheVariants.{Backspace, Char}
 use Rattle.line_keys.specs.declared.key.KeyEvent.{KeyEvent}
 use Rattle.line_keys.specs.declared.keymap.vi.motion.Motion.{Motion}
 use Rattle.line_keys.specs.declared.keymap.vi.motion.Motion.TheVariants.{Go, Seek, Again, Back}
+use Rattle.line_keys.specs.declared.keymap.vi.motion.Search.{Search}
 use Rattle.line_keys.specs.declared.keymap.vi.motion.Search.TheVariants.{Forward, ForwardBefore, Backward, BackwardAfter}
 use Rattle.std.specs.Option.{option_or}
-use Rattle.line_keys.specs.Keys.{key_with, none, ctrl}
-use Rattle.line_keys.specs.PhraseScripts.{Input, PhrasePart, answer_part, with_key, and_then}
+use Rattle.line_keys.specs.KeyFeeds.{Key}
+use Rattle.line_keys.specs.Keys.{char_with, key_with, none, ctrl, same_key}
+use Rattle.line_keys.specs.PhraseScripts.{Input, PhrasePart, answer_part, keep_then, with_read, and_then}
 use Rattle.line_keys.specs.Tables.{Row, always, by_count, key_named, char, look}
 use Rattle.line_keys.specs.Refreshing.{Shown}
-use Rattle.line_keys.specs.SameKeys.{same_key}
-use Rattle.line_keys.specs.Counts.{Counted, count_and_key, count_times}
-use Rattle.line_keys.specs.ViSearches.{opposite_of, search_movement, search_of_next_key}
+use Rattle.line_keys.specs.Counts.{count_and_key, count_times}
+
+abbrev pub search_of : Search → ℕ → CharSearch
+search_of Forward = sought.Forward
+search_of ForwardBefore = sought.ForwardBefore
+search_of Backward = sought.Backward
+search_of BackwardAfter = sought.BackwardAfter
+
+abbrev pub opposite : CharSearch → CharSearch
+opposite (sought.Forward c) = sought.Backward c
+opposite (sought.ForwardBefore c) = sought.BackwardAfter c
+opposite (sought.Backward c) = sought.Forward c
+opposite (sought.BackwardAfter c) = sought.ForwardBefore c
+
+-- the movement by a search, if there is one
+abbrev pub search_movement : ℕ → Option CharSearch → Option Movement
+search_movement n s = option_map (λ x. ViCharSearch n x) s
+
+-- a search that names its character is remembered
+abbrev pub search_part : Search → ℕ → Input → Option ℕ → PhrasePart (Option Movement)
+search_part way n input (Some c) = keep_then (record input { search = Some (search_of way c) })
+    (answer_part (Some (ViCharSearch n (search_of way c))))
+search_part way n input None = answer_part None
+
+-- the movement to a character, which is that of the next key
+abbrev pub search_of_next_key : Search → ℕ → Input → PhrasePart (Option Movement)
+search_of_next_key way n input = with_read Key (λ k. search_part way n input (char_with none k))
+
+-- ---- motions
 
 abbrev pub motion_rows : List (Row Motion)
 motion_rows =
@@ -63,7 +93,7 @@ abbrev pub motion_done : ℕ → Input → Option Motion → PhrasePart (Option 
 motion_done n input (Some (Go movement)) = answer_part (Some movement)
 motion_done n input (Some (Seek search)) = search_of_next_key search n input
 motion_done n input (Some Again) = answer_part (search_movement n input.search)
-motion_done n input (Some Back) = answer_part (search_movement n (opposite_of input.search))
+motion_done n input (Some Back) = answer_part (search_movement n (option_map opposite input.search))
 motion_done n input None = answer_part None
 
 -- c
@@ -73,16 +103,13 @@ change = key_with (Char 0x63) none
 abbrev pub motion_by : KeyEvent → ℕ → Input → KeyEvent → PhrasePart (Option Movement)
 motion_by operator n input k = motion_done n input (motion_of (same_key operator change) n k)
 
--- a second count is multiplied by the operator's
-abbrev pub motion_with_count : KeyEvent → ℕ → Counted → Input → Shown → PhrasePart (Option Movement)
-motion_with_count operator n f input shown = motion_by operator (count_times n f.0) input f.1
-
--- the operator's key again stands for the row
+-- the operator's key again stands for the row; a second count is multiplied by the operator's
 abbrev pub motion_after : KeyEvent → ℕ → Input → Shown → KeyEvent → PhrasePart (Option Movement)
 motion_after operator n input shown k =
     if same_key k operator then answer_part (Some WholeLine)
-    else and_then input shown (count_and_key input.mode k) (motion_with_count operator n)
+    else and_then input shown (count_and_key input.mode k)
+    (λ f input shown. motion_by operator (count_times n f.0) input f.1)
 
 -- the motion after an operator's key, if the operator has this count
 abbrev pub vi_motion : KeyEvent → ℕ → Input → Shown → PhrasePart (Option Movement)
-vi_motion operator n input shown = with_key (motion_after operator n input shown)
+vi_motion operator n input shown = with_read Key (motion_after operator n input shown)

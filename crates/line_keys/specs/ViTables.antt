@@ -123,13 +123,10 @@ vi_reading_rows =
     ∷ char (codes "c") none (always (action.Operate operators.Change))
     ∷ []
 
-abbrev pub vi_command_rows : Bool → List (Row ViAction)
-vi_command_rows modal =
-    vi_move_rows ++ (vi_edit_rows modal ++ (vi_turn_rows modal ++ vi_reading_rows))
-
 -- the action of a key in command mode, if it has a row
 unfoldable pub action_of : Bool → ℕ → KeyEvent → Option ViAction
-action_of modal n k = look n true k (vi_command_rows modal)
+action_of modal n k = look n true k
+    (vi_move_rows ++ (vi_edit_rows modal ++ (vi_turn_rows modal ++ vi_reading_rows)))
 
 -- the key after `r`
 abbrev pub replace_rows : List (Row Cmd)

@@ -4,7 +4,7 @@ ghost use Rattle.std.specs.Prelude.{◌≡◌, ◌↔◌, ◌++◌, List, IsTrue
 ghost use Rattle.line_keys.specs.declared.key.KeyEvent.{KeyEvent};
 ghost use Rattle.line_keys.specs.declared.events.Event.{Event};
 ghost use Rattle.line_keys.specs.declared.events.Event.TheVariants.{KeySeq};
-ghost use Rattle.line_keys.specs.Bound.{find, has_event, begins, map_with, less_at, IsMap, IsNormal};
+ghost use Rattle.line_keys.specs.Events.{find, has_event, begins, map_with, IsMap, IsNormal};
 ghost use Rattle.line_keys.specs.Events.{normal_event, single};
 
 use crate::events::Event;
@@ -30,7 +30,7 @@ pub struct EventMap<H> {
 impl<H> Model for EventMap<H> {
     ghost use Rattle.std.specs.Prelude.{List};
     ghost use Rattle.line_keys.specs.declared.events.Event.{Event};
-    ghost use Rattle.line_keys.specs.Bound.{IsMap};
+    ghost use Rattle.line_keys.specs.Events.{IsMap};
 
     ghost Value = { List (Event × H) };
 
@@ -62,7 +62,7 @@ impl<H: Drop> EventMap<H> {
         ensures old { IfOk result (λ old. old ≡ find (normal_event event) self.old) }
         ensures bound { let before = λ (o : Event). find o self.old in
             OnOk result ((e : Event)
-            → find e self.new ≡ map_with (normal_event event) handler before e) }
+            → find e self.new ≡ map_with (normal_event event) (Some handler) before e) }
         ensures refused { IfErr result (λ e. (e ≡ ReadlineError.Memory)
             × (find (normal_event event) self.old ≡ None)) }
         ensures kept { OnErr result (self.new ≡ self.old) }
@@ -74,7 +74,7 @@ impl<H: Drop> EventMap<H> {
     pub fn unbind_sequence(&mut self, event: Event) -> Option<H>
         ensures old { result ≡ find (normal_event event) self.old }
         ensures unbound { let before = λ (o : Event). find o self.old in
-            (e : Event) → find e self.new ≡ less_at (normal_event event) before e }
+            (e : Event) → find e self.new ≡ map_with (normal_event event) None before e }
     {
         unbind_in(&mut self.entries, event.normalize())
     }
@@ -142,7 +142,8 @@ fn bind_in<H: Drop>(
 ) -> Result<Option<H>, ReadlineError>
     ensures old { IfOk result (λ old. old ≡ find event entries.old.items) }
     ensures bound { let before = λ (o : Event). find o entries.old.items in
-        OnOk result ((e : Event) → find e entries.new.items ≡ map_with event handler before e) }
+        OnOk result ((e : Event)
+        → find e entries.new.items ≡ map_with event (Some handler) before e) }
     ensures refused { IfErr result (λ e. (e ≡ ReadlineError.Memory)
         × (find event entries.old.items ≡ None)) }
     ensures kept { OnErr result (entries.new.items ≡ entries.old.items) }
@@ -165,7 +166,7 @@ fn unbind_in<H: Drop>(entries: &mut Vec<(Event, H)>, event: Event) -> Option<H>
     ensures old { result ≡ find event entries.old.items }
     ensures unbound { let before = λ (o : Event). find o entries.old.items in
         IsMap entries.old.items
-        → (e : Event) → find e entries.new.items ≡ less_at event before e }
+        → (e : Event) → find e entries.new.items ≡ map_with event None before e }
     ensures map { IsMap entries.old.items → IsMap entries.new.items }
 {
     match place(entries.as_slice(), &event) {

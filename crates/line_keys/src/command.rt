@@ -2,7 +2,7 @@
 
 ghost use Rattle.std.specs.Prelude.{◌≡◌, IfOk, IfErr, IsSome};
 ghost use Rattle.line_config.specs.declared.errors.ReadlineError.{ReadlineError};
-ghost use Rattle.line_keys.specs.Redone.{movement_with_count};
+ghost use Rattle.line_keys.specs.Commands.{movement_with_count};
 
 use crate::texts::Text;
 use line_buffer::{Anchor, Movement, RepeatCount};

@@ -130,7 +130,7 @@ pub enum Event {
 
 impl Event {
     ghost use Rattle.line_keys.specs.Events.{begins_with, key_number, normal_event, single};
-    ghost use Rattle.line_keys.specs.Bound.{same_event};
+    ghost use Rattle.line_keys.specs.Events.{same_event};
 
     /// The event of one key.
     pub fn from_key(alloc: Global, key: KeyEvent) -> Result<Self, ReadlineError>

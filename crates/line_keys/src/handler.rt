@@ -1,7 +1,7 @@
 //! What bindings do.
 
 ghost use Rattle.std.specs.Prelude.{◌≡◌, option_copied};
-ghost use Rattle.line_keys.specs.Handling.{Meaning};
+ghost use Rattle.line_keys.specs.CustomBindings.{Meaning};
 ghost use Rattle.line_keys.specs.Replies.{Replies, itself};
 
 use crate::command::{Cmd, InputMode};
@@ -23,7 +23,7 @@ pub struct EventContext<'r> {
 }
 
 impl<'r> EventContext<'r> {
-    ghost use Rattle.line_keys.specs.Handling.{handler_view_in, handler_view_of};
+    ghost use Rattle.line_keys.specs.CustomBindings.{handler_view_in, handler_view_of};
 
     /// The state of a line, in these modes.
     pub fn new<W: Refresher>(mode: EditMode, input_mode: InputMode, wrt: &'r W) -> Self
@@ -85,7 +85,7 @@ impl<'r> EventContext<'r> {
 
 /// A binding whose command depends on the editor's state.
 pub trait ConditionalEventHandler: Drop {
-    ghost use Rattle.line_keys.specs.Handling.{handler_arguments};
+    ghost use Rattle.line_keys.specs.CustomBindings.{handler_arguments};
 
     ghost meaning: { Self → Meaning };
 
@@ -117,8 +117,7 @@ pub enum EventHandler {
 
 /// A type that decides on a command: an `EventHandler`, or a stand-in for one.
 pub trait Decides: Drop {
-    ghost use Rattle.line_keys.specs.CustomBindings.{BindingAnswers as Decision};
-    ghost use Rattle.line_keys.specs.Handling.{handler_arguments};
+    ghost use Rattle.line_keys.specs.CustomBindings.{BindingAnswers as Decision, handler_arguments};
 
     ghost decides: { Self → Meaning };
 

@@ -10,8 +10,7 @@ mod quoted;
 pub mod vi;
 
 ghost use Rattle.std.specs.Prelude.{◌≡◌, ◌<◌, OnOk, MatchResult, None};
-ghost use Rattle.line_keys.specs.Coming.{key_at};
-ghost use Rattle.line_keys.specs.KeyFeeds.{Key, ReadsBy};
+ghost use Rattle.line_keys.specs.KeyFeeds.{Key, ReadsBy, key_at};
 ghost use Rattle.line_keys.specs.Requests.{AsksInOrder, Begins, IsLater, abort_in, first_request};
 
 use crate::binding::EventMap;
@@ -42,8 +41,8 @@ impl<'b, D: Decides> InputState<'b, D> {
     ghost use Rattle.line_keys.specs.declared.command.Cmd.TheVariants.{Noop};
     ghost use Rattle.line_keys.specs.declared.command.InputMode.TheVariants.{Command, Insert};
     ghost use Rattle.line_keys.specs.InputStates.{FollowsOn, input_of, new_input};
-    ghost use Rattle.line_keys.specs.NextPhrase.{phrase, phrase_from};
-    ghost use Rattle.line_keys.specs.Modes.{is_emacs, is_vi_command};
+    ghost use Rattle.line_keys.specs.InputStates.{phrase, phrase_from};
+    ghost use Rattle.line_keys.specs.PhraseScripts.{is_emacs, is_vi_command};
 
     /// A state with the mode and the modal commands of the configuration, and an empty memory.
     pub fn new(

@@ -6,11 +6,10 @@ ghost use Rattle.line_keys.specs.declared.key.KeyEvent.{KeyEvent};
 ghost use Rattle.line_keys.specs.declared.events.Event.{Event};
 ghost use Rattle.std.specs.Prelude.{ℕ, true};
 ghost use Rattle.line_keys.specs.CustomBindings.{Custom};
-ghost use Rattle.line_keys.specs.NextPhrase.{phrase};
-ghost use Rattle.line_keys.specs.PhraseScripts.{Input, steps};
+ghost use Rattle.line_keys.specs.InputStates.{phrase};
+ghost use Rattle.line_keys.specs.PhraseScripts.{Input, steps, Settles};
 ghost use Rattle.line_keys.specs.Refreshing.{Shown};
-ghost use Rattle.line_keys.specs.Settled.{Settles};
-ghost use Rattle.line_keys.specs.Quoting.{QuotedAsSent};
+ghost use Rattle.line_keys.specs.Common.{QuotedAsSent};
 
 use crate::events::Event;
 use crate::key::KeyEvent;

@@ -1,9 +1,8 @@
 //! Repeats commands, as Vi's `.` does.
 
-ghost use Rattle.std.specs.Prelude.{◌≡◌, length, min, unwrap_or, []};
-ghost use Rattle.line_keys.specs.declared.command.Cmd.TheVariants.{Noop, Replace};
-ghost use Rattle.line_keys.specs.Commands.{Copied};
-ghost use Rattle.line_keys.specs.Redone.{anew, command_anew, insertion_anew, range_anew};
+ghost use Rattle.std.specs.Prelude.{◌≡◌, length, min, unwrap_or, None, []};
+ghost use Rattle.line_keys.specs.declared.command.Cmd.TheVariants.{Noop, Replace, SelfInsert};
+ghost use Rattle.line_keys.specs.Commands.{Copied, anew, command_anew, range_anew};
 
 use crate::command::{Cmd, recounted};
 use crate::refresh::Refresher;
@@ -84,7 +83,7 @@ impl Cmd {
 
 /// The typed character, with the text typed after it.
 fn typed(n: RepeatCount, c: char, last: Option<Text>) -> Cmd
-    ensures { result ≡ insertion_anew n c last }
+    ensures { result ≡ command_anew None last (SelfInsert n c) }
 {
     match last {
         Some(text) => Cmd::Insert(n, text),

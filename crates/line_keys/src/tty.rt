@@ -1,7 +1,7 @@
 //! The terminal's input: keys.
 
 ghost use Rattle.std.specs.Prelude.{◌≡◌, Option};
-ghost use Rattle.line_keys.specs.Coming.{key_at, press_at, paste_at};
+ghost use Rattle.line_keys.specs.KeyFeeds.{from_key_at, key_at, paste_at};
 ghost use Rattle.line_keys.specs.KeyFeeds.{KeyFeed, Key, Paste, ReadsBy, SomeRead};
 ghost use Rattle.line_keys.specs.Requests.{Asked, NextKey, WaitForInput, NextChar, PastedText};
 ghost use Rattle.line_keys.specs.Common.{signal_of};
@@ -50,7 +50,8 @@ pub trait RawReader {
 
     /// The next report of the terminal: a key.
     fn wait_for_input(&mut self, single_esc_abort: bool) -> Result<Event, ReadlineError>
-        ensures reads { ReadsBy Key press_at (feed self.old) (feed self.new) result }
+        ensures reads { ReadsBy Key (from_key_at Event.KeyPress)
+            (feed self.old) (feed self.new) result }
         ensures asks { asked self.old (WaitForInput single_esc_abort) self.new };
 
     /// The next character, whatever key it would belong to. Each reader says for itself what

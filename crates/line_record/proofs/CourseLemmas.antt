@@ -1,11 +1,12 @@
 -- The texts that a record holds were texts of the line.
 use Rattle.std.proofs.Common.{ℕ, zero, suc, Bool, true, false, List, [], ◌∷◌, drop, Option, Some, None, refl, inl, inr, if◌then◌else◌, arith}
+use Rattle.std.specs.Prelude.{option_map, unwrap_or}
 use Rattle.std.proofs.lemmas.Bool.Decides.{nat_tests}
 use Rattle.line_buffer.specs.Event.{ChangeEvent}
 use Rattle.line_buffer.specs.Event.ChangeEvent.{StartKilling, StopKilling}
 use Rattle.line_buffer.specs.Replay.{text_after_event}
 use Rattle.line_record.specs.Change.{Change}
-use Rattle.line_record.specs.Held.{HeldItem, Undone, text_of, steps_with_change, steps_with_join, steps_with_change_if, record_after_event, change_of, join_of, record_after_close, closes, has_mark, group_with_change, text_back, ahead_back, record_ahead}
+use Rattle.line_record.specs.Held.{HeldItem, Undone, text_of, step_of, steps_with_change, steps_with_change_if, record_after_event, change_of, join_of, record_after_close, closes, has_mark, group_with_change, text_back, ahead_back, record_ahead}
 use Rattle.line_record.specs.Held.HeldItem.{Opened, Stepped}
 use Rattle.line_record.specs.Items.{ahead_after}
 use Rattle.line_record.specs.RecordCourse.{RecordCall, RecordCourse, new_course, after_call, after_calls, text_ahead, IsAmong}
@@ -32,7 +33,7 @@ ahead_more (u ∷ ahead) seen t h = (inr h.0, inr h.1, ahead_more ahead seen t h
 
 -- a step that is recorded
 stepped_on_seen : (o : Option Change) (c : Change) (text earlier : List ℕ) (newest : HeldItem) (held : List HeldItem) (seen : List (List ℕ)) → IsAmong text seen → IsAmong earlier seen
-    → IsAmong (text_of newest) seen → HeldSeen held seen → HeldSeen (steps_with_join o c text earlier newest held) seen
+    → IsAmong (text_of newest) seen → HeldSeen held seen → HeldSeen (unwrap_or (option_map (λ j. step_of j earlier ∷ held) o) (step_of c text ∷ (newest ∷ held))) seen
 unfolding HeldSeen
 stepped_on_seen (Some joined) c text earlier newest held seen t e n h = (e, h)
 stepped_on_seen None c text earlier newest held seen t e n h = (t, (n, h))

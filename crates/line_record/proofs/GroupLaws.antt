@@ -1,17 +1,18 @@
 -- A group that is undone as one.
 use Rattle.std.proofs.Common.{◌≡◌, ℕ, ◌+◌, Bool, true, false, List, [], ◌∷◌, ◌++◌, length, drop, Option, Some, None, refl, sym, ap, subst, ◌∙◌, if◌then◌else◌, arith}
-use Rattle.std.specs.List.{replace_range}
+use Rattle.std.specs.Prelude.{option_map, unwrap_or}
+use Rattle.std.specs.List.{AllByRecursion, replace_range}
 use Rattle.std.proofs.lemmas.Bool.{and_parts}
 use Rattle.std.proofs.lemmas.Bool.Decides.{nat_tests}
 use Rattle.line_buffer.specs.Event.{ChangeEvent}
 use Rattle.line_buffer.specs.Event.ChangeEvent.{StartKilling, StopKilling, Delete, InsertChar, InsertStr, Replace}
 use Rattle.line_buffer.specs.Replay.{text_after_event}
 use Rattle.line_record.specs.Change.{Change}
-use Rattle.line_record.specs.Held.{HeldItem, change_of, join_of, step_of, steps_with_change, steps_with_join, steps_with_change_if, record_after_event, has_mark, closes, record_after_close, text_back}
+use Rattle.line_record.specs.Held.{HeldItem, change_of, join_of, step_of, steps_with_change, steps_with_change_if, record_after_event, has_mark, closes, record_after_close, text_back}
 use Rattle.line_record.specs.Held.HeldItem.{Opened, Stepped}
 use Rattle.line_record.specs.RecordCourse.{RecordCall, RecordCourse, after_call, after_calls}
 use Rattle.line_record.specs.RecordCourse.RecordCall.{Told, Begun}
-use Rattle.line_record.specs.Laws.{stays_open, AllStayOpen, UndoTakesTheGroupBack}
+use Rattle.line_record.specs.Laws.{stays_open, UndoTakesTheGroupBack}
 use Rattle.line_record.proofs.NotedLemmas.{none_there, nothing_put}
 use Rattle.line_record.proofs.RecordLaws.{no_mark}
 
@@ -46,7 +47,7 @@ unchanged (Replace at removed added) text h =
     nothing_swapped text at removed added (none_there removed b.0) (none_there added b.1)
 
 joined_inside : (o : Option Change) (c d : Change) (place : ℕ) (begun_on text after earlier : List ℕ) (newer older : List HeldItem) → text_begun newer earlier ≡ begun_on
-    → Inside begun_on older (steps_with_join o c text earlier (Stepped earlier place d true) (newer ++ (Opened begun_on ∷ older))) after
+    → Inside begun_on older (unwrap_or (option_map (λ j. step_of j earlier ∷ (newer ++ (Opened begun_on ∷ older))) o) (step_of c text ∷ (Stepped earlier place d true ∷ (newer ++ (Opened begun_on ∷ older))))) after
 unfolding text_begun
 joined_inside (Some g) c d place begun_on text after earlier newer older h = record { newer = step_of g earlier ∷ newer; are = refl; begun = h }
 joined_inside None c d place begun_on text after earlier newer older h = record { newer = step_of c text ∷ (Stepped earlier place d true ∷ newer); are = refl; begun = h }
@@ -72,7 +73,7 @@ call_inside (Told e) c begun_on older s i =
 call_inside Begun c begun_on older s i = record { newer = Opened c.text ∷ i.newer; are = ap (λ held. Opened c.text ∷ held) i.are; begun = i.begun }
 call_inside _ c begun_on older s i = cc
 
-calls_inside : (calls : List RecordCall) (c : RecordCourse) (begun_on : List ℕ) (older : List HeldItem) → AllStayOpen calls → Inside begun_on older c.held c.text
+calls_inside : (calls : List RecordCall) (c : RecordCourse) (begun_on : List ℕ) (older : List HeldItem) → AllByRecursion (λ call. stays_open call ≡ true) calls → Inside begun_on older c.held c.text
     → Inside begun_on older (after_calls calls c).held (after_calls calls c).text
 unfolding after_calls
 calls_inside [] c begun_on older s i = i

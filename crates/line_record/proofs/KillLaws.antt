@@ -1,6 +1,6 @@
 -- A run of kills comes back by one yank.
 use Rattle.std.proofs.Common.{◌≡◌, ◌≢◌, ℕ, ◌+◌, ◌-◌, ◌<◌, ◌≤◌, ◌==◌, inl, inr, ◌||◌, Bool, true, false, List, [], ◌∷◌, ◌++◌, length, take, drop, Option, None, Some, refl, sym, ap, subst, ◌∙◌, arith, add-zero, IsUtf8, IsCharBoundary, IfSome, is_some, slice_range, slice_set, slice_index_or, if◌then◌else◌, nat_lt, nat_le}
-use Rattle.std.specs.List.{replace_range}
+use Rattle.std.specs.List.{AllByRecursion, replace_range}
 use Rattle.std.proofs.lemmas.List.{append-nil, length-drop, length-take-le, length-set, get_or-set_same, length-append}
 use Rattle.std.proofs.Math.Bool.{or_assoc, or-false}
 use Rattle.std.proofs.Math.Seq.{get_or-append_seam}
@@ -16,13 +16,13 @@ use Rattle.line_buffer.specs.declared.types.Movement.TheVariants.{BeginningOfLin
 use Rattle.line_buffer.specs.Event.ChangeEvent.{StartKilling, StopKilling}
 use Rattle.line_buffer.specs.Insertions.{yank, insertion_of, no_insertion, with_text_at_cursor}
 use Rattle.line_buffer.specs.Line.{Line, without_range}
-use Rattle.line_buffer.specs.Range.{range_of, deletion_events, deletion_line, kill_events, kill_line}
+use Rattle.line_buffer.specs.Range.{range_of, deletion_events, deletion_line, kill_events, kill as killed_in}
 use Rattle.line_buffer.specs.Replay.{insertion}
 use Rattle.line_buffer.proofs.InsertionLemmas.{one_insertion}
 use Rattle.line_record.specs.declared.kill_ring.Action.{Action}
 use Rattle.line_record.specs.declared.kill_ring.Action.TheVariants.{Other, Kill, Yank}
 use Rattle.line_record.specs.Change.{StandsAt, text_with_exchange}
-use Rattle.line_record.specs.Laws.{is_directed, AllDirected, line_killed, ring_killed, some_taken, KillsComeBack}
+use Rattle.line_record.specs.Laws.{is_directed, line_killed, ring_killed, some_taken, KillsComeBack}
 use Rattle.line_record.specs.Ring.{Ring, IsRing, joined_text, slot_after, slots_with_text, ring_with_kill, ring_with_kill_after, ring_with_new_kill, mode_of, ring_all}
 use Rattle.line_record.proofs.DirectedLemmas.{Onward, Back, IsDirected, directed}
 use Rattle.line_record.proofs.Exchange.{exchanged, joined_right, joined_left}
@@ -244,16 +244,16 @@ one_kill (Some span) false first l r h run = record {
   ring = killed_any false r run.text (slice_range l.text span.from span.upto) (mode_of span.direction) run.ring;
 }
 
-all_kills : (ms : List Movement) (some : Bool) (first : List ℕ) (l : Line) (r : Ring) → AllDirected ms → Run some first l r
+all_kills : (ms : List Movement) (some : Bool) (first : List ℕ) (l : Line) (r : Ring) → AllByRecursion (λ m. is_directed m ≡ true) ms → Run some first l r
     → Run (some || some_taken ms l) first (line_killed ms l) (ring_killed ms l r)
 all_kills [] some first l r d run = subst (λ b. Run b first l r) (sym (or-false some)) run
 all_kills (m ∷ ms) some first l r d run =
     let here = one_kill (range_of m l) some first l r (directed m l d.0 run.line.utf8 run.line.cursor) run in
-    let told : Run (some || is_some (range_of m l)) first (kill_line m l) (ring_all (kill_events m l) r) =
-    subst (λ es. Run (some || is_some (range_of m l)) first (kill_line m l) (ring_all es r)) (sym (directed_events m l d.0)) here in
-    subst (λ b. Run b first (line_killed ms (kill_line m l)) (ring_killed ms (kill_line m l) (ring_all (kill_events m l) r)))
-    (or_assoc some (is_some (range_of m l)) (some_taken ms (kill_line m l)))
-    (all_kills ms (some || is_some (range_of m l)) first (kill_line m l) (ring_all (kill_events m l) r) d.1 told)
+    let told : Run (some || is_some (range_of m l)) first (killed_in m l).line (ring_all (kill_events m l) r) =
+    subst (λ es. Run (some || is_some (range_of m l)) first (killed_in m l).line (ring_all es r)) (sym (directed_events m l d.0)) here in
+    subst (λ b. Run b first (line_killed ms (killed_in m l).line) (ring_killed ms (killed_in m l).line (ring_all (kill_events m l) r)))
+    (or_assoc some (is_some (range_of m l)) (some_taken ms (killed_in m l).line))
+    (all_kills ms (some || is_some (range_of m l)) first (killed_in m l).line (ring_all (kill_events m l) r) d.1 told)
 
 put_in_room : (g : Bool) (text : List ℕ) (l : Line) → g ≡ true
     → (if g || nat_le (length l.text + length text) l.limit then record { answer = Some (l.place == length l.text); events = insertion l.place text ∷ []; line = with_text_at_cursor text l } else no_insertion l).line.text

@@ -1,5 +1,6 @@
 -- What noting an event does to the record of texts.
 use Rattle.std.proofs.Common.{◌≡◌, ℕ, ◌+◌, ◌==◌, ◌&&◌, not, Bool, true, false, List, [], ◌∷◌, ◌++◌, length, take, drop, Option, Some, None, refl, sym, ap, subst, add-zero, ◌∙◌, eqb-true, IsUtf8, encode_utf8, if◌then◌else◌}
+use Rattle.std.specs.Prelude.{option_map, unwrap_or}
 use Rattle.std.proofs.lemmas.Bool.{and_parts}
 use Rattle.std.proofs.lemmas.List.{append-nil, take-append-drop, nil_from_length}
 use Rattle.unicode_segmentation.specs.Segments.{is_alphanumeric}
@@ -9,8 +10,8 @@ use Rattle.line_buffer.specs.Replay.{Swaps, Replays}
 use Rattle.line_buffer.specs.declared.types.Direction.{Direction}
 use Rattle.line_record.specs.Change.{Change, place_of, old_text_of, new_text_of, text_after_undo, text_with_exchange, StandsAt, StandsIn}
 use Rattle.line_record.specs.Change.Change.{Inserted, Deleted, Replaced}
-use Rattle.line_record.specs.Held.{HeldItem, step_of, steps_with_change, steps_with_join, steps_with_change_if, record_after_event, change_of, join_of, is_one_alphanumeric}
-use Rattle.line_record.specs.Items.{Item, Items, items_with_texts, DoneStand, ItemsStand, record_on, ahead_on, items_with_change, items_with_join, items_with_change_if, items_after_event, ahead_after, RecordsEvent, RecordsEventIn}
+use Rattle.line_record.specs.Held.{HeldItem, step_of, steps_with_change, steps_with_change_if, record_after_event, change_of, join_of, is_one_alphanumeric}
+use Rattle.line_record.specs.Items.{Item, Items, items_with_texts, DoneStand, ItemsStand, record_on, ahead_on, items_with_change, items_with_change_if, items_after_event, ahead_after, RecordsEvent, RecordsEventIn}
 use Rattle.line_record.specs.Items.Item.{Open, Lone, Group}
 use Rattle.line_record.specs.LogSteps.{event_of}
 use Rattle.line_record.specs.declared.report.Report.{Report}
@@ -39,7 +40,7 @@ Joins e before after = (d g : Change) → join_of e d ≡ Some g → StandsIn d 
 
 noted_joined : (e : ChangeEvent) (c d : Change) (items : List Item) (before after : List ℕ) (o : Option Change) → join_of e d ≡ o → Follows c before after → Joins e before after
     → DoneStand (Lone d ∷ items) before
-    → Noted (items_with_join o c d items) (steps_with_join o c before (text_after_undo d before) (step_of d (text_after_undo d before)) (items_with_texts items (text_after_undo d before))) after
+    → Noted (unwrap_or (option_map (λ j. Lone j ∷ items) o) (Lone c ∷ (Lone d ∷ items))) (unwrap_or (option_map (λ j. step_of j (text_after_undo d before) ∷ items_with_texts items (text_after_undo d before)) o) (step_of c before ∷ (step_of d (text_after_undo d before) ∷ items_with_texts items (text_after_undo d before)))) after
 unfolding Joins
 noted_joined e c d items before after (Some g) is f j s = noted_new g items (text_after_undo d before) after (j d g is s.0.0) s.1
 noted_joined e c d items before after None is f j s = noted_new c (Lone d ∷ items) before after f s

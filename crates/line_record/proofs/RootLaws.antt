@@ -1,10 +1,11 @@
 -- A record that is undone altogether gives the text that it began on.
 use Rattle.std.proofs.Common.{◌≡◌, ℕ, zero, suc, Bool, true, false, List, [], ◌∷◌, length, drop, Option, Some, None, refl, sym, ap, subst, ◌∙◌, if◌then◌else◌}
+use Rattle.std.specs.Prelude.{option_map, unwrap_or}
 use Rattle.line_buffer.specs.Event.{ChangeEvent}
 use Rattle.line_buffer.specs.Event.ChangeEvent.{StartKilling, StopKilling}
 use Rattle.line_buffer.specs.Replay.{text_after_event}
 use Rattle.line_record.specs.Change.{Change}
-use Rattle.line_record.specs.Held.{HeldItem, Undone, text_of, change_of, join_of, steps_with_change, steps_with_join, steps_with_change_if, has_mark, closes, group_with_change, record_after_close, text_back, ahead_back, record_ahead}
+use Rattle.line_record.specs.Held.{HeldItem, Undone, text_of, change_of, join_of, step_of, steps_with_change, steps_with_change_if, has_mark, closes, group_with_change, record_after_close, text_back, ahead_back, record_ahead}
 use Rattle.line_record.specs.Held.HeldItem.{Opened, Stepped}
 use Rattle.line_record.specs.Items.{ahead_after}
 use Rattle.line_record.specs.RecordCourse.{RecordCall, RecordCourse, new_course, after_call, after_calls, text_ahead}
@@ -41,7 +42,7 @@ record HeldRooted (first : List ℕ) (held : List HeldItem) (text : List ℕ) : 
   marks : MarksSit held text
 
 stepped_on_rooted : (o : Option Change) (c d : Change) (place : ℕ) (first text after earlier : List ℕ) (held : List HeldItem) → HeldRooted first (Stepped earlier place d true ∷ held) text
-    → HeldRooted first (steps_with_join o c text earlier (Stepped earlier place d true) held) after
+    → HeldRooted first (unwrap_or (option_map (λ j. step_of j earlier ∷ held) o) (step_of c text ∷ (Stepped earlier place d true ∷ held))) after
 unfolding MarkSits MarksSit
 stepped_on_rooted (Some g) c d place first text after earlier held h = record { begun = h.begun; marks = h.marks }
 stepped_on_rooted None c d place first text after earlier held h = record { begun = h.begun; marks = (tt, h.marks) }

@@ -2,7 +2,7 @@
 use Rattle.std.proofs.Common.{◌≡◌, ℕ, List, [], ◌∷◌, refl, sym, ap, subst, ◌∙◌, inl, inr, IsUtf8}
 use Rattle.line_buffer.specs.Event.{ChangeEvent}
 use Rattle.line_buffer.specs.Event.ChangeEvent.{StartKilling, StopKilling}
-use Rattle.line_buffer.specs.Replay.{text_after_event, text_after_events, Swaps, Replays, ReplaysAll, TakesAll, Reports, StopsAmong, wants_or}
+use Rattle.line_buffer.specs.Replay.{text_after_event, text_after_events, Swaps, Replays, TakesAll, Reports, StopsAmong, wants_or}
 use Rattle.line_record.specs.Held.{HeldItem, Undone, record_after_event}
 use Rattle.line_record.specs.Items.{Items, ItemsStand, record_on, ahead_on, ahead_after, RecordsEventIn, record_refuses}
 use Rattle.line_record.specs.RecordCourse.{record_after_events, ahead_all}
@@ -50,7 +50,7 @@ pub record RecordedAll (events : List ChangeEvent) (s t : Items) (before after :
 
 -- a listener of which the record is a part
 module _ {S : Type 0} (takes : S → ChangeEvent → S → Type 0) (part : S → Items) (takes_part : (s : S) (e : ChangeEvent) (t : S) → takes s e t → RecordsEventIn (part s) e (part t)) where
-  pub all_recorded : (events : List ChangeEvent) (s t : S) (before after : List ℕ) → TakesAll takes s events t → ReplaysAll events before after
+  pub all_recorded : (events : List ChangeEvent) (s t : S) (before after : List ℕ) → TakesAll takes s events t → TakesAll (λ a e b. Replays e a b) before events after
       → ItemsStand (part s) before → IsUtf8 before → RecordedAll events (part s) (part t) before after
   all_recorded [] s t before after told replays h u = record {
     stand = subst (λ x. ItemsStand (part x) after) (sym told) (subst (ItemsStand (part s)) (sym replays) h);

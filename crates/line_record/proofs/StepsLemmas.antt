@@ -10,11 +10,11 @@ use Rattle.line_buffer.specs.Event.{ChangeEvent}
 use Rattle.line_record.specs.Change.Change.{Inserted}
 use Rattle.line_record.specs.Held.{join_of, text_inserted_by}
 use Rattle.line_record.specs.Logged.{join_at, Adjoin, place_of_span}
-use Rattle.line_record.specs.Items.{Item, changes_of, changes_of_all, group_of}
+use Rattle.line_record.specs.Items.{Item, changes_of, changes_of_all, group_of, join_of_items}
 use Rattle.line_record.specs.Items.Item.{Open, Lone}
-use Rattle.line_record.specs.LogSteps.{item_in, items_in, AreSteps, item_from, item_inserted, is_open, join_of_item, join_of_items}
+use Rattle.line_record.specs.LogSteps.{item_in, items_in, AreSteps, item_from, item_inserted, is_open}
 use Rattle.line_record.proofs.EndLemmas.{changes_of-item_from, group_pushed}
-use Rattle.line_record.proofs.LogLemmas.{mapped_twice, joined_at_is}
+use Rattle.line_record.proofs.LogLemmas.{joined_at_is}
 use Rattle.line_record.proofs.StoredLemmas.{before_last, inserted_last}
 use Rattle.line_record.proofs.SpanLemmas.{take_lower, slice_same, adjoin_le, adjoin_cut, adjoin_drop, adjoin_at, SpansAre, place_inside, spans_cut, span_pushed}
 
@@ -158,12 +158,12 @@ step_inserted edits steps items n s d h some =
 pub newest_item : (items : List Item) (n : ℕ) → n < length items → reverse (take (n + 1) items) ≡ get_or items n Open ∷ reverse (take n items)
 newest_item items n h = ap reverse (take_more items n Open h) ∙ reverse-append (take n items) (get_or items n Open ∷ [])
 
-not_lone : (e : ChangeEvent) (closed : Bool) (cs : List Change) → (not closed && (length cs == 1)) ≡ false → join_of_item e (item_from closed cs) ≡ None
-not_lone e true [] h = refl
-not_lone e false [] h = refl
-not_lone e true (c ∷ []) h = refl
-not_lone e false (c ∷ []) h = cc
-not_lone e _ (c ∷ (d ∷ cs)) h = refl
+not_lone : (e : ChangeEvent) (closed : Bool) (cs : List Change) (items : List Item) → (not closed && (length cs == 1)) ≡ false → join_of_items e (item_from closed cs ∷ items) ≡ None
+not_lone e true [] items h = refl
+not_lone e false [] items h = refl
+not_lone e true (c ∷ []) items h = refl
+not_lone e false (c ∷ []) items h = cc
+not_lone e _ (c ∷ (d ∷ cs)) items h = refl
 
 is_lone : (closed : Bool) (cs : List Change) (d : Change) → (not closed && (length cs == 1)) ≡ true → item_from closed cs ≡ Lone (get_or cs 0 d)
 is_lone true cs d h = cc
@@ -183,8 +183,8 @@ pub joins_none : (e : ChangeEvent) (edits : List Change) (steps : List Step) (it
     → (not s.closed && (s.last - s.first == 1)) ≡ false → join_of_items e (reverse (take (n + 1) items)) ≡ None
 joins_none e edits steps items n s h inside lone =
     ap (join_of_items e) (newest_item items n inside)
-    ∙ ap (option_map (λ y. y ∷ reverse (take n items))) (ap (join_of_item e) h.item
-    ∙ not_lone e s.closed (slice_range edits s.first s.last) (ap (λ k. not s.closed && (k == 1)) (slice_length edits s.first s.last h.inside) ∙ lone))
+    ∙ ap (λ x. join_of_items e (x ∷ reverse (take n items))) h.item
+    ∙ not_lone e s.closed (slice_range edits s.first s.last) (reverse (take n items)) (ap (λ k. not s.closed && (k == 1)) (slice_length edits s.first s.last h.inside) ∙ lone)
 
 -- a lone step is joined as its change is
 joins_lone : (e : ChangeEvent) (edits : List Change) (steps : List Step) (items : List Item) (n : ℕ) (s : Step) (d : Change) → StepAt edits steps items n s → n < length items
@@ -199,8 +199,7 @@ joins_lone e edits steps items n s d h inside lone =
     let read : get_or cs 0 d ≡ get_or edits s.first d =
     get_or-take (s.last - s.first) (drop s.first edits) 0 d (omega (arith, one)) ∙ get_or-drop s.first edits 0 d ∙ ap (λ k. get_or edits k d) at in
     ap (join_of_items e) (newest_item items n inside)
-    ∙ ap (λ x. option_map (λ y. y ∷ reverse (take n items)) (join_of_item e x)) (h.item ∙ is_lone s.closed cs d here ∙ ap Lone read)
-    ∙ mapped_twice Lone (λ y. y ∷ reverse (take n items)) (join_of e (get_or edits s.first d))
+    ∙ ap (λ x. join_of_items e (x ∷ reverse (take n items))) (h.item ∙ is_lone s.closed cs d here ∙ ap Lone read)
 
 no_join : (J : Option (List Change)) (f : Change → List Change) (g : Change → List Item) (o : Option Change) → J ≡ option_map f o → false ≡ is_some J → (J ≡ None) × (option_map g o ≡ None)
 no_join J f g None e h = (e, refl)

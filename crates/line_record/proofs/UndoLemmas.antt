@@ -6,11 +6,12 @@ use Rattle.std.proofs.Math.Seq.{take-add, drop-append-add}
 use Rattle.std.proofs.lemmas.Grind.{flat_map-append}
 use Rattle.std.proofs.lemmas.List.Folds.{list_any-append}
 use native.Mathlib.Decide.{dec_le}
+use Rattle.std.specs.Prelude.{option_map, slice_get}
 use Rattle.std.specs.List.{list_any}
 use Rattle.line_buffer.specs.Line.{Line}
 use Rattle.line_record.specs.Change.{Change, place_of, old_text_of, new_text_of, text_after_undo, text_after_redo, redo_place, StandsIn, all_taken_back, all_made_anew, AllStandIn, AllFitIn, newest_of}
-use Rattle.line_record.specs.Held.{HeldItem, is_step, line_before_item, line_back, has_step, ahead_back, line_after_item, line_ahead, record_ahead, Undone}
-use Rattle.line_record.specs.Items.{Item, Items, changes_of, before_item, after_item, item_with_text, items_with_texts, ahead_with_texts, DoneStand, UndoneFit, ItemsStand, record_on, ahead_on, line_after_undo, line_after_redo, lines_back, lines_ahead, nearest_changes, undo_one, redo_one, is_step_item, nearest_is_change, UndoesItems, last_changes, CutUndo, changes_of_all}
+use Rattle.line_record.specs.Held.{HeldItem, is_step, line_before_item, line_back, has_step, ahead_back, line_ahead, record_ahead, Undone}
+use Rattle.line_record.specs.Items.{Item, Items, changes_of, before_item, after_item, item_with_text, items_with_texts, ahead_with_texts, DoneStand, UndoneFit, ItemsStand, record_on, ahead_on, line_after_undo, line_after_redo, lines_back, lines_ahead, nearest_changes, undo_some, redo_one, is_step_item, UndoesItems, last_changes, CutUndo, changes_of_all}
 use Rattle.line_record.specs.Items.Item.{Open, Lone, Group}
 use Rattle.line_record.proofs.Exchange.{exchanged}
 use Rattle.line_record.proofs.StepLemmas.{lines_back_text, lines_ahead_text, lines_back_but_place}
@@ -100,7 +101,7 @@ group_ahead : (c : Change) (cs : List Change) (l : Line) → lines_ahead (c ∷ 
 group_ahead c [] l = refl
 group_ahead c (d ∷ cs) l = group_ahead d cs (line_after_redo c l)
 
-item_ahead : (x : Item) (l : Line) → lines_ahead (changes_of x) l ≡ line_after_item (record { held = item_with_text x l.text; text = after_item x l.text }) l
+item_ahead : (x : Item) (l : Line) → lines_ahead (changes_of x) l ≡ line_ahead (record { held = item_with_text x l.text; text = after_item x l.text } ∷ []) l
 item_ahead Open l = refl
 item_ahead (Lone c) l = refl
 item_ahead (Group c cs) l = group_ahead c cs l
@@ -127,8 +128,8 @@ module _ (end counter : ℕ) (first : Items) (before after later : Line) (undone
   So_far done undone_items = Undoing end counter first (both done undone_items) before after undone
 
   -- one item more
-  pub undo_turn : (done undone_items : List Item) (next : Items) (b : Bool) → So_far done undone_items → counter < end → Some b ≡ nearest_is_change done
-      → next ≡ undo_one done undone_items → later ≡ lines_back (nearest_changes done) after → Undoing end (counter + 1) first next before later (undone || b)
+  pub undo_turn : (done undone_items : List Item) (next : Items) (b : Bool) → So_far done undone_items → counter < end → Some b ≡ option_map is_step_item (slice_get done 0)
+      → next ≡ undo_some 1 done undone_items → later ≡ lines_back (nearest_changes done) after → Undoing end (counter + 1) first next before later (undone || b)
   undo_turn [] undone_items next b u less is items line = cc
   undo_turn (x ∷ done) undone_items next b u less is items line =
       let newer = take counter first.done in
@@ -147,8 +148,8 @@ module _ (end counter : ℕ) (first : Items) (before after later : Line) (undone
       }
 
   -- no item is left
-  pub nothing_left : {E : Type 0} (done undone_items : List Item) (next : Items) → So_far done undone_items → None ≡ nearest_is_change done
-      → next ≡ undo_one done undone_items → later ≡ lines_back (nearest_changes done) after → UndoesItems {E = E} end first next before later (Ok undone)
+  pub nothing_left : {E : Type 0} (done undone_items : List Item) (next : Items) → So_far done undone_items → None ≡ option_map is_step_item (slice_get done 0)
+      → next ≡ undo_some 1 done undone_items → later ≡ lines_back (nearest_changes done) after → UndoesItems {E = E} end first next before later (Ok undone)
   nothing_left [] undone_items next u is items line =
       let rest : [] ≡ drop counter first.done = ap (λ (s : Items). s.done) u.items in
       let short : length first.done ≤ counter = omega (arith, ap length rest, length-drop counter first.done) in

@@ -1,5 +1,5 @@
 -- The record of texts: steps and open marks, the newest first, and the effect of each call on it.
-use Rattle.std.specs.Prelude.{ℕ, zero, suc, ◌+◌, ◌==◌, ◌&&◌, ◌||◌, not, Bool, true, false, if◌then◌else◌, List, [], ◌∷◌, ◌++◌, ◌-◌, drop, length, encode_utf8, Option, Some, None}
+use Rattle.std.specs.Prelude.{ℕ, zero, suc, ◌+◌, ◌==◌, ◌&&◌, ◌||◌, not, Bool, true, false, if◌then◌else◌, List, [], ◌∷◌, ◌++◌, ◌-◌, drop, length, encode_utf8, Option, Some, None, option_map, unwrap_or}
 use Rattle.unicode_segmentation.specs.Grapheme.{graphemes}
 use Rattle.unicode_segmentation.specs.Segments.{is_alphanumeric}
 use Rattle.line_buffer.specs.Event.{ChangeEvent}
@@ -32,33 +32,20 @@ change_of (Replace at before after) =
     if (length before == 0) && (length after == 0) then None else Some (Replaced at before after)
 change_of mark = None
 
--- an alphanumeric character typed right after an insertion
-abbrev pub join_of_char : ℕ → ℕ → Change → Option Change
-join_of_char at c (Inserted place text) =
+-- the change of an event and the change right before it as one, if they can be joined: an
+-- alphanumeric character typed right after an insertion, an alphanumeric cluster deleted right
+-- after a deletion or right before it, a replacement right after another
+abbrev pub join_of : ChangeEvent → Change → Option Change
+join_of (InsertChar at c) (Inserted place text) =
     if is_alphanumeric c && (at == place + length text)
     then Some (Inserted place (text ++ encode_utf8 c)) else None
-join_of_char at c other = None
-
--- an alphanumeric cluster deleted right after a deletion, or right before it
-abbrev pub join_of_deletion : ℕ → List ℕ → Change → Option Change
-join_of_deletion at text (Deleted place deleted) =
+join_of (Delete at text direction) (Deleted place deleted) =
     if not (is_one_alphanumeric text) then None
     else if at == place then Some (Deleted place (deleted ++ text))
     else if at + length text == place then Some (Deleted at (text ++ deleted))
     else None
-join_of_deletion at text other = None
-
--- a replacement right after another
-abbrev pub join_of_replacement : ℕ → List ℕ → List ℕ → Change → Option Change
-join_of_replacement at before after (Replaced place was is) =
+join_of (Replace at before after) (Replaced place was is) =
     if at == place + length is then Some (Replaced place (was ++ before) (is ++ after)) else None
-join_of_replacement at before after other = None
-
--- the change of an event and the change right before it as one, if they can be joined
-abbrev pub join_of : ChangeEvent → Change → Option Change
-join_of (Delete at text direction) d = join_of_deletion at text d
-join_of (InsertChar at c) d = join_of_char at c d
-join_of (Replace at before after) d = join_of_replacement at before after d
 join_of e d = None
 
 -- a step of one change
@@ -66,18 +53,13 @@ abbrev pub step_of : Change → List ℕ → HeldItem
 step_of c text = Stepped text (undo_place c) c true
 
 -- a joined change adds no step and keeps the step's text
-abbrev pub steps_with_join : Option Change → Change → List ℕ → List ℕ → HeldItem → List HeldItem
-    → List HeldItem
-steps_with_join (Some joined) c text earlier newest held = step_of joined earlier ∷ held
-steps_with_join None c text earlier newest held = step_of c text ∷ (newest ∷ held)
+abbrev pub join_of_steps : ChangeEvent → List HeldItem → Option (List HeldItem)
+join_of_steps e (Stepped text place d true ∷ held) =
+    option_map (λ j. step_of j text ∷ held) (join_of e d)
+join_of_steps e held = None
 
 abbrev pub steps_with_change : ChangeEvent → Change → List ℕ → List HeldItem → List HeldItem
-steps_with_change e c text (Stepped earlier place d true ∷ held) =
-    steps_with_join (join_of e d) c text earlier (Stepped earlier place d true) held
-steps_with_change e c text (Stepped earlier place d false ∷ held) =
-    step_of c text ∷ (Stepped earlier place d false ∷ held)
-steps_with_change e c text (Opened earlier ∷ held) = step_of c text ∷ (Opened earlier ∷ held)
-steps_with_change e c text [] = step_of c text ∷ []
+steps_with_change e c text held = unwrap_or (join_of_steps e held) (step_of c text ∷ held)
 
 abbrev pub steps_with_change_if : ChangeEvent → Option Change → List ℕ → List HeldItem
     → List HeldItem
@@ -102,9 +84,8 @@ closes (Stepped text place newest joinable ∷ held) = has_mark held
 
 -- a newer change added to the step that closes a group
 abbrev pub group_with_change : Change → List HeldItem → List HeldItem
-group_with_change c [] = []
-group_with_change c (Opened text ∷ held) = Opened text ∷ held
 group_with_change c (Stepped text place newest joinable ∷ held) = Stepped text place c false ∷ held
+group_with_change c held = held
 
 -- the marks are closed: they go, and the steps newer than the oldest of them become one, to which
 -- nothing is joined
@@ -159,17 +140,13 @@ ahead_back (suc n) (h ∷ held) text ahead =
     ahead_back n held (text_of h) (record { held = h; text = text } ∷ ahead)
 
 -- the redo of an item: a step's cursor goes after its newest change, a mark leaves it
-abbrev pub line_after_item : Undone → Line → Line
-line_after_item u l =
-    elim u.held [
-      | Opened text ↦ record l { text = u.text }
-      | Stepped text place newest joinable ↦
-          record l { text = u.text; place = redo_place newest }
-    ]
+abbrev pub place_ahead : HeldItem → ℕ → ℕ
+place_ahead (Opened text) place = place
+place_ahead (Stepped text before newest joinable) place = redo_place newest
 
 abbrev pub line_ahead : List Undone → Line → Line
 line_ahead [] l = l
-line_ahead (u ∷ ahead) l = line_after_item u l
+line_ahead (u ∷ ahead) l = record l { text = u.text; place = place_ahead u.held l.place }
 
 abbrev pub has_step_ahead : List Undone → Bool
 has_step_ahead [] = false
@@ -186,6 +163,5 @@ text_inserted_by (Deleted at text) = None
 text_inserted_by (Replaced at before after) = Some after
 
 abbrev pub last_inserted : List HeldItem → Option (List ℕ)
-last_inserted [] = None
-last_inserted (Opened text ∷ held) = None
 last_inserted (Stepped text place newest joinable ∷ held) = text_inserted_by newest
+last_inserted held = None

@@ -1,6 +1,6 @@
 -- The record's value: the changes done and undone, each side nearest first, and the texts that they
 -- stand for on a line's text. Also the effect of undo and redo on the record and its line.
-use Rattle.std.specs.Prelude.{◌≡◌, ◌<◌, ◌≤◌, ℕ, Bool, true, false, List, [], ◌∷◌, ◌++◌, drop, length, ◌-◌, Option, Some, None, is_some, IsUtf8, take, reverse, flat_map, Result, IfOk, OnOk, OnErr}
+use Rattle.std.specs.Prelude.{◌≡◌, ◌<◌, ◌≤◌, ℕ, Bool, true, false, List, [], ◌∷◌, ◌++◌, drop, length, ◌-◌, Option, Some, None, is_some, option_map, unwrap_or, slice_get, IsUtf8, take, reverse, flat_map, Result, IfOk, OnOk, OnErr}
 use Rattle.line_buffer.specs.Event.{ChangeEvent}
 use Rattle.line_buffer.specs.Event.ChangeEvent.{StartKilling, StopKilling}
 use Rattle.line_buffer.specs.Line.{Line}
@@ -114,15 +114,13 @@ pub record EndedBy (closed : Bool) (items after : List Item) (text : List ℕ) :
 abbrev pub first_items : ℕ → Items → Items
 first_items n s = record { done = drop (length s.done - n) s.done; undone = [] }
 
--- the nearest item done moves to the undone
-abbrev pub undo_one : List Item → List Item → Items
-undo_one [] undone = record { done = []; undone = undone }
-undo_one (x ∷ items) undone = record { done = items; undone = x ∷ undone }
+-- the nearest n items done move to the undone
+abbrev pub undo_some : ℕ → List Item → List Item → Items
+undo_some n done undone = record { done = drop n done; undone = reverse (take n done) ++ undone }
 
 -- the nearest item undone moves back
 abbrev pub redo_one : List Item → List Item → Items
-redo_one done [] = record { done = done; undone = [] }
-redo_one done (x ∷ items) = record { done = x ∷ done; undone = items }
+redo_one done undone = record { done = take 1 undone ++ done; undone = drop 1 undone }
 
 abbrev pub is_step_item : Item → Bool
 is_step_item Open = false
@@ -133,19 +131,14 @@ abbrev pub nearest_changes : List Item → List Change
 nearest_changes [] = []
 nearest_changes (x ∷ items) = changes_of x
 
--- whether the nearest item is a step, if there is one
-abbrev pub nearest_is_change : List Item → Option Bool
-nearest_is_change [] = None
-nearest_is_change (x ∷ items) = Some (is_step_item x)
+-- the items with an event's change joined to the nearest one, if the two can be joined
+abbrev pub join_of_items : ChangeEvent → List Item → Option (List Item)
+join_of_items e (Lone d ∷ items) = option_map (λ j. Lone j ∷ items) (join_of e d)
+join_of_items e items = None
 
 -- a change noted after the items done
-abbrev pub items_with_join : Option Change → Change → Change → List Item → List Item
-items_with_join (Some joined) c d items = Lone joined ∷ items
-items_with_join None c d items = Lone c ∷ (Lone d ∷ items)
-
 abbrev pub items_with_change : ChangeEvent → Change → List Item → List Item
-items_with_change e c (Lone d ∷ items) = items_with_join (join_of e d) c d items
-items_with_change e c items = Lone c ∷ items
+items_with_change e c items = unwrap_or (join_of_items e items) (Lone c ∷ items)
 
 abbrev pub items_with_change_if : ChangeEvent → Option Change → List Item → List Item
 items_with_change_if e None items = items
@@ -234,15 +227,12 @@ last_changes n items = changes_of_all (reverse (take n items))
 pub record UndoesItems {E : Type 0} (n : ℕ) (old new : Items) (before after : Line)
     (result : Result Bool E) : Type 0 where
   pub answer : IfOk result (λ b. b ≡ list_any is_step_item (take n old.done))
-  pub items : OnOk result (new ≡ record {
-    done = drop n old.done;
-    undone = reverse (take n old.done) ++ old.undone;
-  })
+  pub items : OnOk result (new ≡ undo_some n old.done old.undone)
   pub back : TakesBack (last_changes n old.done) before after result
 
 -- the nearest undone item is redone, if there is one, and the answer is whether it is a change
 pub record RedoesItem {E : Type 0} (old new : Items) (before after : Line)
     (result : Result (Option Bool) E) : Type 0 where
-  pub answer : IfOk result (λ o. o ≡ nearest_is_change old.undone)
+  pub answer : IfOk result (λ o. o ≡ option_map is_step_item (slice_get old.undone 0))
   pub items : OnOk result (new ≡ redo_one old.done old.undone)
   pub anew : MakesAnew (nearest_changes old.undone) before after result

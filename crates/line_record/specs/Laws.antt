@@ -1,8 +1,9 @@
 -- Laws of the record and of the kill ring.
 use Rattle.std.specs.Prelude.{◌≡◌, ℕ, ◌<◌, ◌≢◌, Bool, true, false, List, [], ◌∷◌, length, take, Some, slice_get, is_some, ◌||◌, IsUtf8, IsCharBoundary}
+use Rattle.std.specs.List.{AllByRecursion}
 use Rattle.line_buffer.specs.Line.{Line}
 use Rattle.line_buffer.specs.Insertions.{yank}
-use Rattle.line_buffer.specs.Range.{range_of, kill_events, kill_line}
+use Rattle.line_buffer.specs.Range.{range_of, kill_events, kill}
 use Rattle.line_buffer.specs.declared.types.Movement.{Movement}
 use Rattle.line_buffer.specs.declared.types.Movement.TheVariants.{EndOfLine, BeginningOfLine, EndOfBuffer, BeginningOfBuffer, BackwardWord, ForwardWord, ViCharSearch}
 use Rattle.line_record.specs.declared.kill_ring.Action.TheVariants.{Kill}
@@ -15,16 +16,14 @@ use Rattle.line_record.specs.Ring.{RingCall, no_kills, all_kills_after, ring_aft
 
 -- whatever is done to a line with a new record, an undo leaves a text that the line had before
 abbrev pub UndoLeavesAnEarlierText : Type 0
-UndoLeavesAnEarlierText =
-    (calls : List RecordCall) (text : List ℕ) (n : ℕ) →
+UndoLeavesAnEarlierText = (calls : List RecordCall) (text : List ℕ) (n : ℕ) →
     let c = after_calls calls (new_course text) in
     IsAmong (text_back n c.held c.text) c.seen
 
 -- undoing everything restores the text that the line had when its record was new; so a record
 -- without items is on that text
 abbrev pub UndoOfAllGivesTheFirstText : Type 0
-UndoOfAllGivesTheFirstText =
-    (calls : List RecordCall) (text : List ℕ) →
+UndoOfAllGivesTheFirstText = (calls : List RecordCall) (text : List ℕ) →
     let c = after_calls calls (new_course text) in
     text_back (length c.held) c.held c.text ≡ text
 
@@ -35,16 +34,13 @@ text_after_all (x ∷ items) text = after_item x (text_after_all items text)
 
 -- the recorded changes, made on the text before the first of them, lead to the line's text
 abbrev pub RecordGivesTheText : Type 0
-RecordGivesTheText =
-    (s : Items) (text : List ℕ) → ItemsStand s text → IsUtf8 text →
+RecordGivesTheText = (s : Items) (text : List ℕ) → ItemsStand s text → IsUtf8 text →
     text_after_all s.done (text_back (length (record_on s text)) (record_on s text) text) ≡ text
 
 -- a group in which nothing was recorded leaves the record as it was
 abbrev pub EmptyGroupLeavesNothing : Type 0
-EmptyGroupLeavesNothing =
-    (text : List ℕ) (held : List HeldItem) → has_mark held ≡ false →
-    (record_after_close (Opened text ∷ held) ≡ held)
-    × (closes (Opened text ∷ held) ≡ false)
+EmptyGroupLeavesNothing = (text : List ℕ) (held : List HeldItem) → has_mark held ≡ false →
+    (record_after_close (Opened text ∷ held) ≡ held) × (closes (Opened text ∷ held) ≡ false)
 
 -- calls that leave a group open: events, and marks set inside it
 abbrev pub stays_open : RecordCall → Bool
@@ -52,23 +48,18 @@ stays_open (Told e) = true
 stays_open Begun = true
 stays_open call = false
 
-abbrev pub AllStayOpen : List RecordCall → Type 0
-AllStayOpen [] = Unit {0}
-AllStayOpen (call ∷ calls) = (stays_open call ≡ true) × AllStayOpen calls
-
 -- a group that isn't nested and recorded something is undone as one: text and record are those from
 -- before the group
 abbrev pub UndoTakesTheGroupBack : Type 0
-UndoTakesTheGroupBack =
-    (c : RecordCourse) (calls : List RecordCall) → has_mark c.held ≡ false → AllStayOpen calls →
+UndoTakesTheGroupBack = (c : RecordCourse) (calls : List RecordCall) → has_mark c.held ≡ false →
+    AllByRecursion (λ call. stays_open call ≡ true) calls →
     let inside = after_calls calls (after_call Begun c) in
     let undone = after_call (TakenBack 1) (after_call Ended inside) in
     closes inside.held ≡ true → (undone.text ≡ c.text) × (undone.held ≡ c.held)
 
 -- redoing what was undone last restores the text and the record from before
 abbrev pub RedoGivesTheTextBack : Type 0
-RedoGivesTheTextBack =
-    (h : HeldItem) (held : List HeldItem) (ahead : List Undone) (l : Line) →
+RedoGivesTheTextBack = (h : HeldItem) (held : List HeldItem) (ahead : List Undone) (l : Line) →
     let undone = ahead_back 1 (h ∷ held) l.text ahead in
     ((line_ahead undone (line_back 1 (h ∷ held) l)).text ≡ l.text)
     × (record_ahead undone held ≡ h ∷ held)
@@ -84,41 +75,35 @@ is_directed (ForwardWord n at word) = true
 is_directed (ViCharSearch n search) = true
 is_directed movement = false
 
-abbrev pub AllDirected : List Movement → Type 0
-AllDirected [] = Unit {0}
-AllDirected (m ∷ movements) = (is_directed m ≡ true) × AllDirected movements
-
 -- a line and a ring after kills
 abbrev pub line_killed : List Movement → Line → Line
 line_killed [] l = l
-line_killed (m ∷ movements) l = line_killed movements (kill_line m l)
+line_killed (m ∷ movements) l = line_killed movements (kill m l).line
 
 abbrev pub ring_killed : List Movement → Line → Ring → Ring
 ring_killed [] l r = r
 ring_killed (m ∷ movements) l r =
-    ring_killed movements (kill_line m l) (ring_all (kill_events m l) r)
+    ring_killed movements (kill m l).line (ring_all (kill_events m l) r)
 
 -- one of the kills deletes something
 abbrev pub some_taken : List Movement → Line → Bool
 some_taken [] l = false
-some_taken (m ∷ movements) l = is_some (range_of m l) || some_taken movements (kill_line m l)
+some_taken (m ∷ movements) l = is_some (range_of m l) || some_taken movements (kill m l).line
 
 -- a run of such kills, and then one yank, restore the text
 abbrev pub KillsComeBack : Type 0
-KillsComeBack =
-    (movements : List Movement) (l : Line) (r : Ring) → AllDirected movements
-    → some_taken movements l ≡ true
-    → IsUtf8 l.text → IsCharBoundary l.text l.place → l.growth ≡ true
-    → IsRing (length r.slots) r.size r.place r.last → 0 < r.size → r.last ≢ Kill
-    → (text : List ℕ) × (slice_get (ring_killed movements l r).slots
-    (ring_killed movements l r).place ≡ Some text)
+KillsComeBack = (movements : List Movement) (l : Line) (r : Ring) →
+    AllByRecursion (λ m. is_directed m ≡ true) movements → some_taken movements l ≡ true →
+    IsUtf8 l.text → IsCharBoundary l.text l.place → l.growth ≡ true →
+    IsRing (length r.slots) r.size r.place r.last → 0 < r.size → r.last ≢ Kill →
+    let q = ring_killed movements l r in
+    (text : List ℕ) × (slice_get q.slots q.place ≡ Some text)
     × ((yank text 1 (line_killed movements l)).line.text ≡ l.text)
 
 -- a new ring that is never turned holds the last runs of kills, as many as it has slots, and lends
 -- the newest
 abbrev pub RingHoldsTheLastRuns : Type 0
-RingHoldsTheLastRuns =
-    (size : ℕ) (calls : List RingCall) → 0 < size →
+RingHoldsTheLastRuns = (size : ℕ) (calls : List RingCall) → 0 < size →
     let r = ring_after_all calls (new_ring size) in
     let runs = (all_kills_after calls no_kills).runs in
     (newest_first r ≡ take size runs) × (slice_get r.slots r.place ≡ slice_get runs 0)

@@ -1,5 +1,5 @@
 -- The meaning of the steps over a log.
-use Rattle.std.specs.Prelude.{◌≡◌, ◌≤◌, ℕ, Bool, true, false, if◌then◌else◌, nat_lt, List, [], ◌∷◌, map, reverse, length, take, drop, slice_range, Option, Some, None, unwrap_or, ⊤, option_map}
+use Rattle.std.specs.Prelude.{◌≡◌, ◌≤◌, ℕ, Bool, true, false, if◌then◌else◌, nat_lt, List, [], ◌∷◌, map, reverse, length, take, drop, slice_range, Option, Some, None, unwrap_or, ⊤}
 use Rattle.line_record.specs.Change.{Change, newest_of}
 use Rattle.line_record.specs.Items.{Item, Items}
 use Rattle.line_record.specs.Items.Item.{Open, Lone, Group}
@@ -7,7 +7,7 @@ use Rattle.line_record.specs.Logged.{Adjoin}
 use Rattle.line_record.specs.declared.steps.Step.{Step}
 use Rattle.line_buffer.specs.Event.{ChangeEvent}
 use Rattle.line_buffer.specs.Event.ChangeEvent.{Delete, InsertChar, InsertStr, Replace}
-use Rattle.line_record.specs.Held.{join_of, text_inserted_by}
+use Rattle.line_record.specs.Held.{text_inserted_by}
 use Rattle.line_record.specs.declared.report.Report.{Report}
 use Rattle.line_record.specs.declared.report.Report.TheVariants as told
 
@@ -24,15 +24,6 @@ event_of (told.Char at c) = InsertChar at c
 event_of (told.Text at text) = InsertStr at text.now
 event_of (told.Deletion at text direction) = Delete at text.now direction
 event_of (told.Replacement at removed added) = Replace at removed.now added.now
-
--- the nearest item with an event's change joined to it, if the two can be joined
-abbrev pub join_of_item : ChangeEvent → Item → Option Item
-join_of_item e (Lone d) = option_map Lone (join_of e d)
-join_of_item e x = None
-
-abbrev pub join_of_items : ChangeEvent → List Item → Option (List Item)
-join_of_items e [] = None
-join_of_items e (x ∷ items) = option_map (λ y. y ∷ items) (join_of_item e x)
 
 -- the text that an item inserted last
 abbrev pub item_inserted : Item → Option (List ℕ)
@@ -83,5 +74,4 @@ mark_within (Some i) n = if nat_lt i n then Some i else None
 
 -- the oldest mark after one more item
 abbrev pub mark_with : Option ℕ → Bool → ℕ → Option ℕ
-mark_with mark true n = Some (unwrap_or mark n)
-mark_with mark false n = mark
+mark_with mark opens n = if opens then Some (unwrap_or mark n) else mark

@@ -28,31 +28,17 @@ text_ahead [] text = text
 text_ahead (u ∷ ahead) text = u.text
 
 abbrev pub after_call : RecordCall → RecordCourse → RecordCourse
-after_call (Told e) c =
-    record {
-      text = text_after_event e c.text;
-      held = record_after_event e c.text c.held;
-      ahead = ahead_after e c.ahead;
-      seen = text_after_event e c.text ∷ c.seen;
-    }
-after_call Begun c =
-    record { text = c.text; held = Opened c.text ∷ c.held; ahead = []; seen = c.seen }
-after_call Ended c = record
-    { text = c.text; held = record_after_close c.held; ahead = []; seen = c.seen }
-after_call (TakenBack n) c =
-    record {
-      text = text_back n c.held c.text;
-      held = drop n c.held;
-      ahead = ahead_back n c.held c.text c.ahead;
-      seen = text_back n c.held c.text ∷ c.seen;
-    }
-after_call MadeAnew c =
-    record {
-      text = text_ahead c.ahead c.text;
-      held = record_ahead c.ahead c.held;
-      ahead = drop 1 c.ahead;
-      seen = text_ahead c.ahead c.text ∷ c.seen;
-    }
+after_call (Told e) c = let text = text_after_event e c.text in
+    let held = record_after_event e c.text c.held in
+    record { text = text; held = held; ahead = ahead_after e c.ahead; seen = text ∷ c.seen }
+after_call Begun c = record c { held = Opened c.text ∷ c.held; ahead = [] }
+after_call Ended c = record c { held = record_after_close c.held; ahead = [] }
+after_call (TakenBack n) c = let text = text_back n c.held c.text in
+    let ahead = ahead_back n c.held c.text c.ahead in
+    record { text = text; held = drop n c.held; ahead = ahead; seen = text ∷ c.seen }
+after_call MadeAnew c = let text = text_ahead c.ahead c.text in
+    let held = record_ahead c.ahead c.held in
+    record { text = text; held = held; ahead = drop 1 c.ahead; seen = text ∷ c.seen }
 
 unfoldable pub after_calls : List RecordCall → RecordCourse → RecordCourse
 after_calls [] c = c

@@ -1,7 +1,7 @@
 -- A kill ring: slots of killed texts, the place of the slot that a yank returns, and the last
 -- action. And the kills that were reported to it: a list of runs, the newest first, which has no
 -- slots.
-use Rattle.std.specs.Prelude.{◌≡◌, ℕ, ◌+◌, ◌-◌, ◌==◌, ◌<◌, ◌≤◌, Bool, true, false, List, [], ◌∷◌, ◌++◌, length, if◌then◌else◌, nat_lt, Option, Some, None, slice_set, slice_index_or, suc, take, drop, reverse}
+use Rattle.std.specs.Prelude.{◌≡◌, ℕ, ◌+◌, ◌-◌, ◌==◌, ◌<◌, ◌≤◌, Bool, true, false, List, [], ◌∷◌, ◌++◌, length, if◌then◌else◌, nat_lt, Option, Some, None, is_some, slice_set, slice_index_or, suc, take, drop, reverse}
 use Rattle.std.specs.List.{fold}
 use Rattle.line_buffer.specs.Event.{ChangeEvent}
 use Rattle.line_buffer.specs.Event.ChangeEvent.{StartKilling, StopKilling, Delete}
@@ -55,10 +55,8 @@ ring_with_new_kill text r =
 
 abbrev pub ring_with_kill_after : Action → List ℕ → Mode → Ring → Ring
 ring_with_kill_after Kill text mode r =
-    record r {
-      slots = slice_set r.slots r.place
-          (joined_text mode text (slice_index_or r.slots r.place []));
-    }
+    let joined = joined_text mode text (slice_index_or r.slots r.place []) in
+    record r { slots = slice_set r.slots r.place joined }
 ring_with_kill_after last text mode r = ring_with_new_kill text r
 
 -- a kill after a kill is joined to the text of its slot, any other takes the next slot; a ring
@@ -77,17 +75,6 @@ ring_after_yank r =
 abbrev pub slot_before : ℕ → ℕ → ℕ
 slot_before count place = if place == 0 then count - 1 else place - 1
 
-abbrev pub ring_one_slot_back : Ring → Ring
-ring_one_slot_back r = ring_after_yank (record r { place = slot_before (length r.slots) r.place })
-
--- a ring turns only after a yank
-abbrev pub ring_after_turn_from : Action → Ring → Ring
-ring_after_turn_from (Yank count) r = if length r.slots == 0 then r else ring_one_slot_back r
-ring_after_turn_from last r = r
-
-abbrev pub ring_after_turn : Ring → Ring
-ring_after_turn r = ring_after_turn_from r.last r
-
 -- the length of the yanked text, and the text that replaces it
 abbrev pub yank_exchange_after : Action → Ring → Option (ℕ × List ℕ)
 yank_exchange_after (Yank count) r =
@@ -98,6 +85,12 @@ yank_exchange_after last r = None
 abbrev pub yank_exchange : Ring → Option (ℕ × List ℕ)
 yank_exchange r = yank_exchange_after r.last r
 
+-- a ring turns only after a yank
+abbrev pub ring_after_turn : Ring → Ring
+ring_after_turn r =
+    if is_some (yank_exchange r)
+    then ring_after_yank (record r { place = slot_before (length r.slots) r.place }) else r
+
 abbrev pub mode_of : Direction → Mode
 mode_of Forward = Append
 mode_of Backward = Prepend
@@ -106,8 +99,8 @@ mode_of Backward = Prepend
 abbrev pub ring_step : ChangeEvent → Ring → Ring
 ring_step StartKilling r = record r { killing = true }
 ring_step StopKilling r = record r { killing = false }
-ring_step (Delete at text direction) r = if r.killing then ring_with_kill text
-    (mode_of direction) r else r
+ring_step (Delete at text direction) r =
+    if r.killing then ring_with_kill text (mode_of direction) r else r
 ring_step e r = r
 
 -- a ring that has slots keeps texts deleted between the two marks
@@ -140,13 +133,11 @@ no_kills = record { runs = []; running = false; killing = false }
 
 -- a kill is joined to the run that continues, or begins one
 abbrev pub run_with : Bool → List ℕ → Mode → List (List ℕ) → List (List ℕ)
-run_with false text mode runs = text ∷ runs
-run_with true text mode [] = text ∷ []
 run_with true text mode (run ∷ runs) = joined_text mode text run ∷ runs
+run_with running text mode runs = text ∷ runs
 
 abbrev pub kill_taken : List ℕ → Mode → Kills → Kills
-kill_taken text mode k =
-    record { runs = run_with k.running text mode k.runs; running = true; killing = k.killing }
+kill_taken text mode k = record k { runs = run_with k.running text mode k.runs; running = true }
 
 abbrev pub kills_heard : ChangeEvent → Kills → Kills
 kills_heard StartKilling k = record k { killing = true }

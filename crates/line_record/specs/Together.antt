@@ -14,10 +14,8 @@ pub record SameNames {A B : Type 0} (first : MutBor A) (second : MutBor B) (firs
 
 module _ {A B : Type 0} where
   abbrev pub joined_takes : (A → ChangeEvent → A → Type 0) → (B → ChangeEvent → B → Type 0)
-      → Joined A B → ChangeEvent
-      → Joined A B → Type 0
-  joined_takes first second s e t =
-      SameNames s.first s.second t.first t.second
+      → Joined A B → ChangeEvent → Joined A B → Type 0
+  joined_takes first second s e t = SameNames s.first s.second t.first t.second
       × (first s.first.now e t.first.now × second s.second.now e t.second.now)
 
   -- the first one fails, and the second isn't notified; or the second one fails

@@ -52,9 +52,9 @@ impl Steps {
     ghost use Rattle.std.specs.Prelude.{◌≡◌, ◌+◌, ◌<◌, ◌≤◌, ◌++◌, true, [], ◌∷◌, length, take, drop, reverse, slice_get, slice_index_or, IfOk, OnOk, OnErr, Some, is_some, option_map, option_copied};
     ghost use Rattle.line_record.specs.Change.{AllStandIn, AllFitIn};
     ghost use Rattle.line_record.specs.Held.{change_of};
-    ghost use Rattle.line_record.specs.Items.{changes_of, is_step_item, changes_of_all, group_of, items_with_change_if, TakesBack, MakesAnew};
+    ghost use Rattle.line_record.specs.Items.{changes_of, is_step_item, changes_of_all, group_of, join_of_items, items_with_change_if, TakesBack, MakesAnew};
     ghost use Rattle.line_record.specs.Items.Item.{Open, Lone};
-    ghost use Rattle.line_record.specs.LogSteps.{JoinedIn, event_of, is_open, join_of_items, item_inserted};
+    ghost use Rattle.line_record.specs.LogSteps.{JoinedIn, event_of, is_open, item_inserted};
 
     pub fn new(alloc: Global) -> Self
         ensures { result ≡ [] }

@@ -10,9 +10,9 @@ use std::alloc::Global;
 const FEW: usize = 8;
 
 impl Changeset {
-    ghost use Rattle.std.specs.Prelude.{◌≡◌, ◌<◌, max, length, drop, IfOk, OnOk, OnErr};
+    ghost use Rattle.std.specs.Prelude.{◌≡◌, ◌<◌, max, length, drop, slice_get, option_map, IfOk, OnOk, OnErr};
     ghost use Rattle.line_record.specs.Held.{line_back, has_step, ahead_back, line_ahead, has_step_ahead, record_ahead};
-    ghost use Rattle.line_record.specs.Items.{no_items, undo_one, nearest_changes, nearest_is_change, CutUndo, AnewInPart, ItemsStand, DoneStand, UndoneFit, record_on, ahead_on, TakesBack, UndoesItems, RedoesItem, last_changes};
+    ghost use Rattle.line_record.specs.Items.{no_items, undo_some, nearest_changes, is_step_item, CutUndo, AnewInPart, ItemsStand, DoneStand, UndoneFit, record_on, ahead_on, TakesBack, UndoesItems, RedoesItem, last_changes};
 
     /// Undoes the last `n` items: steps and open marks. 0 acts as 1. Returns whether a step was
     /// among them. The cursor goes to the place of their oldest change, after the text that was
@@ -113,8 +113,9 @@ impl Changeset {
         line: &mut L,
     ) -> Result<Option<bool>, OutOfMemory>
         requires { DoneStand self.old.done (L.value line.old).text }
-        ensures answer { IfOk result (λ o. o ≡ nearest_is_change self.old.done) }
-        ensures items { OnOk result (self.new ≡ undo_one self.old.done self.old.undone) }
+        ensures answer { IfOk result (λ o. o ≡ option_map is_step_item
+            (slice_get self.old.done 0)) }
+        ensures items { OnOk result (self.new ≡ undo_some 1 self.old.done self.old.undone) }
         ensures back { TakesBack (nearest_changes self.old.done) (L.value line.old)
             (L.value line.new) result }
     {

@@ -19,7 +19,7 @@ use Rattle.line_screen.specs.Display.{is_printable}
 use Rattle.line_screen.specs.Drawing.{Widths, DrawnItem, is_letter, drawn_item, row_items, join_rows, split_rows, text_items}
 use Rattle.line_screen.specs.Drawing.DrawnItem.{NewRow, Letter, Cluster, Tab}
 use Rattle.line_screen.specs.Styles.{numbers}
-use Rattle.line_screen.specs.StyledTexts.{byte_styles, first_styles, first_of, StyledItem, row_clusters, styled_clusters, rows_styled_behind, styled_rows, styled_text}
+use Rattle.line_screen.specs.StyledTexts.{byte_styles, first_styles, first_of, StyledItem, row_clusters, styled_clusters, styled_rows, styled_text}
 use Rattle.line_screen.proofs.ItemsApart.{items_parted, split_newline, split_char, rows_are}
 use Rattle.line_screen.proofs.StyledTextLemmas.{with_style, items_if, skip_is}
 
@@ -190,7 +190,7 @@ module _ (wide : Widths) where
   row_by : (styles : List (List ℕ)) (row : List ℕ) → styled_clusters wide styles (row_clusters row) ≡ styled_by styles (row_items whole row)
   row_by styles row = clusters_by styles (row_clusters row) ∙ ap (styled_by styles) (items_if whole row (list_all is_printable row) refl)
 
-  behind_by : (styles : List (List ℕ)) (rows : List (List ℕ)) → AllUtf8 rows → rows_styled_behind wide styles rows ≡ styled_by styles (flat_map (λ r. NewRow ∷ row_items whole r) rows)
+  behind_by : (styles : List (List ℕ)) (rows : List (List ℕ)) → AllUtf8 rows → styled_rows wide false styles rows ≡ styled_by styles (flat_map (λ r. NewRow ∷ row_items whole r) rows)
   behind_by styles [] h = refl
   behind_by styles (row ∷ rows) h =
       let next = drop 1 styles in
@@ -201,7 +201,7 @@ module _ (wide : Widths) where
       ∙ ap (λ n. styled_by next items ++ styled_by (drop n next) others) (sym (row_sized row h.0).is)
       ∙ sym (by_append next items others))
 
-  rows_by : (styles : List (List ℕ)) (rows : List (List ℕ)) → AllUtf8 rows → styled_rows wide styles rows ≡ styled_by styles (join_rows whole rows)
+  rows_by : (styles : List (List ℕ)) (rows : List (List ℕ)) → AllUtf8 rows → styled_rows wide true styles rows ≡ styled_by styles (join_rows whole rows)
   rows_by styles [] h = refl
   rows_by styles (row ∷ rows) h =
       let items = row_items whole row in

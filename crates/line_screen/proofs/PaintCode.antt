@@ -1,5 +1,6 @@
 -- What the loops over spans send.
 use Rattle.std.proofs.Common.{◌≡◌, ℕ, ◌+◌, ◌<◌, ◌==◌, Bool, true, false, List, [], ◌∷◌, ◌++◌, ◌-◌, map, length, take, drop, take_at, drop_at, length-append, append-nil, if◌then◌else◌, min, get_or, Option, Some, None, zero, suc, refl, sym, ap, ap₂, ◌∙◌, arith, add-one, drop-cons}
+use Rattle.std.specs.Option.{option_to_list}
 use Rattle.std.specs.List.{concat, list_all, onto_first}
 use Rattle.std.proofs.lemmas.Bool.{eqb-true, and_parts}
 use Rattle.std.proofs.lemmas.List.{map-append, take_min, drop_min}
@@ -10,7 +11,7 @@ use Rattle.line_screen.proofs.Items.{no_newline}
 use Rattle.line_screen.specs.Display.{is_printable}
 use Rattle.line_screen.specs.Drawing.{Widths, is_letter, drawn_item, split_rows, text_items}
 use Rattle.line_screen.specs.Drawing.DrawnItem.{NewRow, Letter}
-use Rattle.line_screen.specs.Colours.{SgrSpan, span_of, spans_from, spans_in, all_spans, IsFirstSpan, skip, PaintedItem, all_unpainted, letters_in_style, painted_letters, items_painted_after, painted_clusters, painted_row, painted_rows, rows_painted_behind, painted_text, next_painted, spans_behind, bare_letters}
+use Rattle.line_screen.specs.Colours.{SgrSpan, span_of, spans_in, IsFirstSpan, skip, PaintedItem, all_unpainted, letters_in_style, painted_letters, items_painted_after, painted_clusters, painted_row, painted_rows, painted_text, next_painted, spans_behind, bare_letters}
 use Rattle.line_screen.specs.Colours.PaintedItem.{Bare}
 use Rattle.line_screen.proofs.StyledTextLemmas.{bare_of, text_unpainted}
 use Rattle.line_screen.specs.declared.drawing.painted.Spans as spans
@@ -41,11 +42,15 @@ module _ {Y : Type 0} (one : List ℕ → List ℕ → List Y) (all : List SgrSp
 
 -- nothing is left of a span that was returned
 pub asked : (paints : Mark → List span.Span) (left : spans.Spans) (next : Option (span.Span × Mark)) → left.first ≡ None → IsNextSpan paints left.mark next → IsFirstSpan paints left next
-asked paints left None is h = ap (λ o. spans_from o (map span_of (paints left.mark))) is ∙ ap (map span_of) h
-asked paints left (Some next) is h = ap (λ o. spans_from o (map span_of (paints left.mark))) is ∙ ap (map span_of) h
+asked paints left None is h = ap (λ o. map span_of (option_to_list o ++ paints left.mark)) is ∙ ap (map span_of) h
+asked paints left (Some next) is h = ap (λ o. map span_of (option_to_list o ++ paints left.mark)) is ∙ ap (map span_of) h
+
+-- all spans of a text
+abbrev pub all_spans : (Mark → List span.Span) → List SgrSpan
+all_spans paints = map span_of (paints first_mark)
 
 pub all_left : (paints : Mark → List span.Span) (left : spans.Spans) → left.first ≡ None → left.mark ≡ first_mark → spans_in paints left ≡ all_spans paints
-all_left paints left none first = ap (λ o. spans_from o (map span_of (paints left.mark))) none ∙ ap (λ m. map span_of (paints m)) first
+all_left paints left none first = ap (λ o. map span_of (option_to_list o ++ paints left.mark)) none ∙ ap (λ m. map span_of (paints m)) first
 
 pub no_spans : (paints : Mark → List span.Span) (m : Mark) → m ≡ first_mark → paints m ≡ [] → [] ≡ all_spans paints
 no_spans paints m is none = sym (ap (λ k. map span_of (paints k)) (sym is) ∙ ap (map span_of) none)
@@ -77,32 +82,19 @@ module _ (rest tail : List ℕ) (left : List (List ℕ)) (Holds : List ℕ → T
 
 -- ---- rows
 
-abbrev pub painted_left : Widths → Bool → List SgrSpan → List (List ℕ) → List PaintedItem
-painted_left wide true spans rows = painted_rows wide spans rows
-painted_left wide false spans rows = rows_painted_behind wide spans rows
-
 abbrev pub painted_from : Widths → List ℕ → Bool → List SgrSpan → ℕ → List PaintedItem
-painted_from wide text is_first spans n = painted_left wide is_first spans (drop n (split_rows text))
-
-row_step : (wide : Widths) (is_first : Bool) (spans : List SgrSpan) (row : List ℕ) (rows : List (List ℕ))
-    → painted_left wide is_first spans (row ∷ rows) ≡ next_painted wide is_first spans row ++ painted_left wide false (spans_behind is_first spans row) rows
-row_step wide true spans row rows = refl
-row_step wide false spans row rows = refl
-
-row_none : (wide : Widths) (is_first : Bool) (spans : List SgrSpan) → painted_left wide is_first spans [] ≡ []
-row_none wide true spans = refl
-row_none wide false spans = refl
+painted_from wide text is_first spans n = painted_rows wide is_first spans (drop n (split_rows text))
 
 pub rows_take : (wide : Widths) (text : List ℕ) (is_first : Bool) (spans later : List SgrSpan) (n m : ℕ) (row : List ℕ) → n < length (split_rows text) → row ≡ get_or (split_rows text) n row → m ≡ n + 1 → later ≡ spans_behind is_first spans row
     → painted_from wide text is_first spans n ≡ next_painted wide is_first spans row ++ painted_from wide text false later m
 rows_take wide text is_first spans later n m row low is more later_is =
     let rest : drop (n + 1) (split_rows text) ≡ drop m (split_rows text) = ap (λ k. drop k (split_rows text)) (sym more) in
     let split : drop n (split_rows text) ≡ row ∷ drop (n + 1) (split_rows text) = rw add-one (drop-cons (split_rows text) n row low ∙ ap (λ r. r ∷ drop (suc n) (split_rows text)) (sym is)) in
-    ap (painted_left wide is_first spans) (split ∙ ap (λ rs. row ∷ rs) rest) ∙ row_step wide is_first spans row (drop m (split_rows text))
-    ∙ ap (λ ss. next_painted wide is_first spans row ++ painted_left wide false ss (drop m (split_rows text))) (sym later_is)
+    ap (painted_rows wide is_first spans) (split ∙ ap (λ rs. row ∷ rs) rest)
+    ∙ ap (λ ss. next_painted wide is_first spans row ++ painted_rows wide false ss (drop m (split_rows text))) (sym later_is)
 
 pub rows_end : (wide : Widths) (text : List ℕ) (is_first : Bool) (spans : List SgrSpan) (n : ℕ) → drop n (split_rows text) ≡ [] → painted_from wide text is_first spans n ≡ []
-rows_end wide text is_first spans n h = ap (painted_left wide is_first spans) h ∙ row_none wide is_first spans
+rows_end wide text is_first spans n h = ap (painted_rows wide is_first spans) h
 
 -- ---- printable ASCII is one row
 
@@ -113,7 +105,7 @@ one_row (c ∷ cs) h =
     slice_split-cons_no (λ x. x == 0x0A) c cs (no_newline c parts.0) ∙ ap (onto_first c) (one_row cs parts.1)
 
 text_letters : (wide : Widths) (spans : List SgrSpan) (text : List ℕ) → list_all is_printable text ≡ true → painted_text wide spans text ≡ painted_letters spans text
-text_letters wide spans text h = ap (painted_rows wide spans) (one_row text h) ∙ append-nil (painted_row wide spans text)
+text_letters wide spans text h = ap (painted_rows wide true spans) (one_row text h) ∙ append-nil (painted_row wide spans text)
     ∙ ap (λ b. if b then painted_letters spans text else painted_clusters wide spans [] (graphemes true text)) h
 
 pub no_text : (wide : Widths) (spans : List SgrSpan) (text : List ℕ) → true ≡ (length text == 0) → painted_text wide spans text ≡ []
@@ -155,13 +147,13 @@ module _ (wide : Widths) where
   row_plain : (row : List ℕ) → Plain (painted_row wide [] row)
   row_plain row = plain_if (list_all is_printable row) (bare_letters row) (painted_clusters wide [] [] (graphemes true row)) (letters_plain row) (clusters_plain [] (graphemes true row))
 
-  behind_plain : (rows : List (List ℕ)) → Plain (rows_painted_behind wide [] rows)
+  behind_plain : (rows : List (List ℕ)) → Plain (painted_rows wide false [] rows)
   behind_plain [] = refl
-  behind_plain (row ∷ rows) = ap (λ xs. Bare NewRow ∷ xs) (plain_append (painted_row wide [] row) (rows_painted_behind wide [] rows) (row_plain row) (behind_plain rows))
+  behind_plain (row ∷ rows) = ap (λ xs. Bare NewRow ∷ xs) (plain_append (painted_row wide [] row) (painted_rows wide false [] rows) (row_plain row) (behind_plain rows))
 
-  rows_plain : (rows : List (List ℕ)) → Plain (painted_rows wide [] rows)
+  rows_plain : (rows : List (List ℕ)) → Plain (painted_rows wide true [] rows)
   rows_plain [] = refl
-  rows_plain (row ∷ rows) = plain_append (painted_row wide [] row) (rows_painted_behind wide [] rows) (row_plain row) (behind_plain rows)
+  rows_plain (row ∷ rows) = plain_append (painted_row wide [] row) (painted_rows wide false [] rows) (row_plain row) (behind_plain rows)
 
   pub bare_text : (spans : List SgrSpan) (text : List ℕ) → [] ≡ spans → map Bare (text_items wide text) ≡ painted_text wide spans text
   bare_text spans text none =

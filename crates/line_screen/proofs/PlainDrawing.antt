@@ -1,16 +1,9 @@
 -- Without styles the bytes of a drawing are those of its texts alone.
 use Rattle.std.proofs.Common.{◌≡◌, ℕ, List, [], ◌++◌, Option, Some, None, refl, sym, ap, ◌∙◌}
-use Rattle.line_buffer.specs.declared.layout.Layout.{Layout}
 use Rattle.line_buffer.specs.declared.layout.Position.{Position}
-use Rattle.line_editor.specs.RenderCalls.Call.{Draw}
-use Rattle.line_editor.specs.Redraws.{info_text}
-use Rattle.line_editor.specs.Sights.{drawn_spans}
-use Rattle.line_help.specs.Paints.{Marks}
 use Rattle.line_screen.specs.Colours.{all_unpainted, painted_text, bytes_of_all_painted, bytes_of_painted_texts, no_styles, painted_drawing, painted_full_drawing, painted_bytes}
-use Rattle.line_screen.specs.Drawing.{Widths, text_items, no_style, bytes_of_items, col_after, shown_text, drawing, full_drawing, move_bytes, clearing_bytes}
+use Rattle.line_screen.specs.Drawing.{Widths, text_items, no_style, bytes_of_items, col_after, shown_text, full_drawing, move_bytes, clearing_bytes}
 use Rattle.line_screen.specs.Laws.{PlainDrawingsAreDrawings}
-use Rattle.line_screen.specs.Measure.{widths_by}
-use Rattle.line_screen.specs.ScreenCalls.{Screen, bytes_of, drawing_bytes, old_row, styles_of}
 use Rattle.line_screen.proofs.PaintCode.{bare_text}
 use Rattle.line_screen.proofs.PaintRuns.{items_sent}
 use Rattle.line_screen.proofs.StyledTextLemmas.{text_unpainted}
@@ -32,24 +25,21 @@ module _ (columns : ℕ) (wide : Widths) where
       ∙ ap (λ x. three (plain prompt 0) x (painted info (after line (after prompt 0)))) (plain_text line (after prompt 0))
       ∙ ap (λ x. three (plain prompt 0) (plain line (after prompt 0)) x) (plain_text info (after line (after prompt 0)))
 
-  pub plain_drawing : (prompt line info : List ℕ) (finish cursor : Position) → painted_drawing columns wide no_styles prompt line info finish cursor ≡ drawing columns wide prompt line info finish cursor
+  pub plain_drawing : (prompt line info : List ℕ) (finish cursor : Position) → painted_drawing columns wide no_styles prompt line info finish cursor ≡ shown_text columns wide prompt line info ++ move_bytes finish cursor
   plain_drawing prompt line info finish cursor = ap (λ bytes. bytes ++ move_bytes finish cursor) (plain_shown prompt line info)
 
   pub plain_full : (old : ℕ) (prompt line info : List ℕ) (finish cursor : Position) → painted_full_drawing columns wide no_styles old prompt line info finish cursor ≡ full_drawing columns wide old prompt line info finish cursor
   plain_full old prompt line info finish cursor = ap (λ bytes. clearing_bytes old ++ bytes) (plain_drawing prompt line info finish cursor)
 
 -- in the place of an older drawing, or of none
-plain_bytes : (columns : ℕ) (wide : Widths) (old : Option ℕ) (prompt line info : List ℕ) (finish cursor : Position)
+abbrev pub drawing_bytes : ℕ → Widths → Option ℕ → List ℕ → List ℕ → List ℕ → Position → Position → List ℕ
+drawing_bytes columns wide None prompt line info finish cursor = shown_text columns wide prompt line info ++ move_bytes finish cursor
+drawing_bytes columns wide (Some row) prompt line info finish cursor = full_drawing columns wide row prompt line info finish cursor
+
+pub plain_bytes : (columns : ℕ) (wide : Widths) (old : Option ℕ) (prompt line info : List ℕ) (finish cursor : Position)
     → painted_bytes columns wide no_styles old prompt line info finish cursor ≡ drawing_bytes columns wide old prompt line info finish cursor
 plain_bytes columns wide None prompt line info finish cursor = plain_drawing columns wide prompt line info finish cursor
 plain_bytes columns wide (Some row) prompt line info finish cursor = plain_full columns wide row prompt line info finish cursor
-
--- the call's bytes are those of its spans, without a highlighter too
-pub drawn_bytes : (s : Screen) (marks : Option Marks) (prompt text : List ℕ) (place : ℕ) (info : Option (List ℕ)) (old : Option Layout) (new : Layout)
-    → painted_bytes s.columns (widths_by s.mode s.tab s.columns) (styles_of (drawn_spans marks new.default_prompt prompt text place (info_text info))) (old_row old) prompt text (info_text info) new.end new.cursor
-    ≡ bytes_of s (Draw prompt text place info old new marks)
-drawn_bytes s None prompt text place info old new = plain_bytes s.columns (widths_by s.mode s.tab s.columns) (old_row old) prompt text (info_text info) new.end new.cursor
-drawn_bytes s (Some m) prompt text place info old new = refl
 
 pub plain_drawings : PlainDrawingsAreDrawings
 plain_drawings = plain_full

@@ -17,7 +17,7 @@ use Rattle.line_screen.specs.Display.{is_parameter}
 use Rattle.line_screen.specs.Drawing.{no_style}
 use Rattle.line_screen.specs.Colours.{AreStyles, is_style, are_styles, span_of, style_bytes}
 use Rattle.line_screen.specs.ColourLaws.{NumbersAreStyles}
-use Rattle.line_screen.specs.Styles.{hue_number, number, numbers_of, flag, flags, flag_codes, colour_codes, colour_numbers, numbers, is_terminal, is_plain_style, flag_number}
+use Rattle.line_screen.specs.Styles.{hue_number, number, numbers_of, flag, flags, colour_codes, colour_numbers, numbers, is_terminal, is_plain_style, flag_number}
 
 digit : (n : ℕ) → n < 10 → is_parameter (48 + n) ≡ true
 digit n h = grind (arith, nat_tests)
@@ -37,9 +37,12 @@ codes_are [] = refl
 codes_are (c ∷ []) = number_is c
 codes_are (c ∷ (d ∷ codes)) = both (number c) (numbers_of (d ∷ codes)) (number_is c) (codes_are (d ∷ codes))
 
+flag_is : (b : Bool) (n : ℕ) → is_style (flag b n) ≡ true
+flag_is true n = number_is n
+flag_is false n = refl
+
 pub numbers_are : NumbersAreStyles
 numbers_are s =
-    let flag_is = λ (b : Bool) (n : ℕ). codes_are (flag_codes b n) in
     both (flags s) _
     (both (flag s.bold 1) _ (flag_is s.bold 1) (both (flag s.faint 2) _ (flag_is s.faint 2) (both (flag s.italic 3) _ (flag_is s.italic 3) (both (flag s.underline 4) _ (flag_is s.underline 4) (flag_is s.reverse 7)))))
     (both (colour_numbers 30 s.text) (colour_numbers 40 s.background) (codes_are (colour_codes 30 s.text)) (codes_are (colour_codes 40 s.background)))

@@ -7,12 +7,12 @@ use Rattle.std.proofs.lemmas.List.{drop-drop, length-append, map-append}
 use Rattle.std.proofs.lemmas.List.Concat.{flat_map-append}
 use Rattle.unicode_segmentation.specs.Grapheme.{graphemes}
 use Rattle.line_buffer.specs.declared.layout.Position.{Position}
-use Rattle.line_screen.specs.Colours.{SgrSpan, is_style, are_styles, skip, first_style, PaintedItem, items_without_style, all_unpainted, bare_letters, letters_in_style, painted_letters, painted_item, items_painted_after, painted_clusters, painted_row, rows_painted_behind, painted_rows, painted_text, bytes_of_all_painted}
+use Rattle.line_screen.specs.Colours.{SgrSpan, is_style, are_styles, skip, first_style, PaintedItem, items_without_style, all_unpainted, bare_letters, letters_in_style, painted_letters, painted_item, items_painted_after, painted_clusters, painted_row, painted_rows, painted_text, bytes_of_all_painted}
 use Rattle.line_screen.specs.Colours.PaintedItem.{Bare, Begins, Shaded, Fenced, Padded}
 use Rattle.line_screen.specs.Display.{Placed, DisplayReading, reading_after_bytes, is_printable}
 use Rattle.line_screen.specs.Drawing.{Widths, DrawnItem, is_letter, is_tab, drawn_cluster, item_of_cluster, drawn_item, row_items, join_rows, split_rows, text_items, lay_one, after_one, place_after}
 use Rattle.line_screen.specs.Drawing.DrawnItem.{NewRow, Letter, Cluster, Tab}
-use Rattle.line_screen.specs.StyledTexts.{byte_styles, first_of, StyledItem, row_clusters, styled_clusters, rows_styled_behind, styled_rows, styled_text, lay}
+use Rattle.line_screen.specs.StyledTexts.{byte_styles, first_of, StyledItem, row_clusters, styled_clusters, styled_rows, styled_text, lay}
 use Rattle.line_screen.proofs.Draws.{D, Open, Ready, AllFit, AllPainted, AllPens, pen_after_one, pen_after, lay_painted, draws}
 
 -- ---- the items with styles of what is drawn
@@ -305,7 +305,7 @@ module _ (wide : Widths) where
   draw_row : (spans : List SgrSpan) (styles : List (List ℕ)) (row : List ℕ) → are_styles spans ≡ true → byte_styles spans ≡ styles → Draw (painted_row wide spans row) (styled_clusters wide styles (row_clusters row))
   draw_row spans styles row are same = draw_as (row_if spans row are (list_all is_printable row) refl) (ap (λ s. styled_clusters wide s (row_clusters row)) same)
 
-  draw_behind : (spans : List SgrSpan) (styles : List (List ℕ)) (rows : List (List ℕ)) → are_styles spans ≡ true → byte_styles spans ≡ styles → Draw (rows_painted_behind wide spans rows) (rows_styled_behind wide styles rows)
+  draw_behind : (spans : List SgrSpan) (styles : List (List ℕ)) (rows : List (List ℕ)) → are_styles spans ≡ true → byte_styles spans ≡ styles → Draw (painted_rows wide false spans rows) (styled_rows wide false styles rows)
   draw_behind spans styles [] are same = draw_none
   draw_behind spans styles (row ∷ rows) are same =
       let here = skip 1 spans in
@@ -315,7 +315,7 @@ module _ (wide : Widths) where
       (draw_append (draw_row here (drop 1 styles) row here_are here_is)
       (draw_behind (skip (length row) here) (drop (length row) (drop 1 styles)) rows (skip_styles (length row) here here_are) (skip_is (length row) here ∙ ap (drop (length row)) here_is)))
 
-  draw_rows : (spans : List SgrSpan) (rows : List (List ℕ)) → are_styles spans ≡ true → Draw (painted_rows wide spans rows) (styled_rows wide (byte_styles spans) rows)
+  draw_rows : (spans : List SgrSpan) (rows : List (List ℕ)) → are_styles spans ≡ true → Draw (painted_rows wide true spans rows) (styled_rows wide true (byte_styles spans) rows)
   draw_rows spans [] are = draw_none
   draw_rows spans (row ∷ rows) are =
       draw_append (draw_row spans (byte_styles spans) row are refl)
@@ -344,18 +344,18 @@ module _ (wide : Widths) where
   row_bare : (styles : List (List ℕ)) (row : List ℕ) → bare_items (styled_clusters wide styles (row_clusters row)) ≡ row_items wide row
   row_bare styles row = clusters_bare styles (row_clusters row) ∙ items_if row (list_all is_printable row) refl
 
-  behind_bare : (styles : List (List ℕ)) (rows : List (List ℕ)) → bare_items (rows_styled_behind wide styles rows) ≡ flat_map (λ r. NewRow ∷ row_items wide r) rows
+  behind_bare : (styles : List (List ℕ)) (rows : List (List ℕ)) → bare_items (styled_rows wide false styles rows) ≡ flat_map (λ r. NewRow ∷ row_items wide r) rows
   behind_bare styles [] = refl
   behind_bare styles (row ∷ rows) =
       let later = drop (length row) (drop 1 styles) in
-      ap (λ ys. NewRow ∷ ys) (map-append (λ (x : StyledItem). x.item) (styled_clusters wide (drop 1 styles) (row_clusters row)) (rows_styled_behind wide later rows)
+      ap (λ ys. NewRow ∷ ys) (map-append (λ (x : StyledItem). x.item) (styled_clusters wide (drop 1 styles) (row_clusters row)) (styled_rows wide false later rows)
       ∙ ap₂ ◌++◌ (row_bare (drop 1 styles) row) (behind_bare later rows))
 
-  rows_bare : (styles : List (List ℕ)) (rows : List (List ℕ)) → bare_items (styled_rows wide styles rows) ≡ join_rows wide rows
+  rows_bare : (styles : List (List ℕ)) (rows : List (List ℕ)) → bare_items (styled_rows wide true styles rows) ≡ join_rows wide rows
   rows_bare styles [] = refl
   rows_bare styles (row ∷ rows) =
       let later = drop (length row) styles in
-      map-append (λ (x : StyledItem). x.item) (styled_clusters wide styles (row_clusters row)) (rows_styled_behind wide later rows)
+      map-append (λ (x : StyledItem). x.item) (styled_clusters wide styles (row_clusters row)) (styled_rows wide false later rows)
       ∙ ap₂ ◌++◌ (row_bare styles row) (behind_bare later rows)
 
   pub items_of : (spans : List SgrSpan) (text : List ℕ) → map (λ x. x.item) (styled_text wide spans text) ≡ text_items wide text
@@ -380,20 +380,20 @@ module _ (wide : Widths) where
   clusters_plain styles [] h = refl
   clusters_plain styles (c ∷ cs) h = ap₂ (λ s ys. with_style s (drawn_item wide c) ∷ ys) (ap first_of h) (clusters_plain (drop (length c) styles) cs (none_left (length c) styles h))
 
-  behind_plain : (styles : List (List ℕ)) (rows : List (List ℕ)) → styles ≡ [] → rows_styled_behind wide styles rows ≡ plain (rows_styled_behind wide styles rows)
+  behind_plain : (styles : List (List ℕ)) (rows : List (List ℕ)) → styles ≡ [] → styled_rows wide false styles rows ≡ plain (styled_rows wide false styles rows)
   behind_plain styles [] h = refl
   behind_plain styles (row ∷ rows) h =
       let next = drop 1 styles in
       let later = drop (length row) next in
       let none = none_left 1 styles h in
       ap (λ ys. with_style [] NewRow ∷ ys)
-      (plain_append (styled_clusters wide next (row_clusters row)) (rows_styled_behind wide later rows) (clusters_plain next (row_clusters row) none) (behind_plain later rows (none_left (length row) next none)))
+      (plain_append (styled_clusters wide next (row_clusters row)) (styled_rows wide false later rows) (clusters_plain next (row_clusters row) none) (behind_plain later rows (none_left (length row) next none)))
 
-  rows_plain : (rows : List (List ℕ)) → styled_rows wide [] rows ≡ plain (styled_rows wide [] rows)
+  rows_plain : (rows : List (List ℕ)) → styled_rows wide true [] rows ≡ plain (styled_rows wide true [] rows)
   rows_plain [] = refl
   rows_plain (row ∷ rows) =
       let later = drop (length row) [] in
-      plain_append (styled_clusters wide [] (row_clusters row)) (rows_styled_behind wide later rows) (clusters_plain [] (row_clusters row) refl) (behind_plain later rows (drop-nil (length row)))
+      plain_append (styled_clusters wide [] (row_clusters row)) (styled_rows wide false later rows) (clusters_plain [] (row_clusters row) refl) (behind_plain later rows (drop-nil (length row)))
 
   pub plain_styled : (text : List ℕ) → styled_text wide [] text ≡ map (λ item. record { item = item; style = [] }) (text_items wide text)
   plain_styled text = rows_plain (split_rows text) ∙ ap (map (with_style [])) (items_of [] text)

@@ -18,12 +18,12 @@ use Rattle.line_editor.specs.RenderCalls.Call.{Draw, Move, Write, Beep, ClearScr
 use Rattle.line_editor.specs.Redraws.{Redraw, RedrawCalls, calls_of_redraw, full, rest_call, info_text, may_type, may_take, may_erase, may_put_in, may_take_out, move_call, nothing_asked, char_call, append_call, erase_call, put_in_short, taken_out_short, may_write_over, write_over_call}
 use Rattle.line_editor.specs.Redraws.Redraw.{Drawn, DrawnFrom, Moved, Typed, Appended, Taken, Erased, PutIn, TakenOut, Bared, ToEnd, Beeped, Cleared, Rewritten}
 use Rattle.line_editor.specs.Values.{shown_marks}
-use Rattle.line_screen.specs.ScreenCalls.{Screen, bytes_of, bell_bytes, old_row, drawing_bytes, ruler_of}
+use Rattle.line_screen.specs.ScreenCalls.{Screen, bytes_of, bell_bytes, old_row, ruler_of}
 use Rattle.line_screen.specs.Chain.{View, Good, Picture, Inside, Replaces, LeadsView, TakesOut, DrawsRest, picture_of_line, cursor_of}
 use Rattle.line_screen.specs.ColourLaws.{BeginsNoStyle, has_no_marks, UnmarkedCallsBeginNone, ScreensWithoutColours, Uncoloured}
 use Rattle.line_screen.specs.Colours.{no_styles, all_unpainted, painted_text, bytes_of_all_painted, rest_drawing}
 use Rattle.line_screen.specs.Display.{Placed, is_text, right}
-use Rattle.line_screen.specs.Drawing.{DrawnItem, Widths, blanks, text_items, no_style, in_fence, break_if, break_unless, fitted_col, cluster_in_fence, bytes_of_item, col_after_one, bytes_of_items, col_after, control_sequence, erase_to_end, erase_to_row_end, open_cell, take_cells_out, row_break, left_col, begin_inserting, end_inserting, put_in, pushed_on, put_and_pushed, begins_two_rows, insertion_bytes, pulled_back, deletion_bytes, place_after_insertion, place_after_deletion, row_move, col_move, move_bytes, clearing_bytes, shown_text, drawing, is_step_back, short_move}
+use Rattle.line_screen.specs.Drawing.{DrawnItem, Widths, blanks, text_items, no_style, in_fence, break_if, break_unless, fitted_col, cluster_in_fence, bytes_of_item, col_after_one, bytes_of_items, col_after, control_sequence, erase_to_end, erase_to_row_end, open_cell, take_cells_out, row_break, left_col, begin_inserting, end_inserting, put_in, pushed_on, put_and_pushed, begins_two_rows, insertion_bytes, pulled_back, deletion_bytes, place_after_insertion, place_after_deletion, row_move, col_move, move_bytes, clearing_bytes, shown_text, is_step_back, short_move}
 use Rattle.line_screen.specs.Drawing.DrawnItem.{NewRow, Letter, Cluster, Tab}
 use Rattle.line_screen.specs.Laws.{widths}
 use Rattle.line_screen.specs.Measure.{cluster_width, widths_by, in_row}
@@ -32,7 +32,7 @@ use Rattle.line_screen.proofs.Draws.{Fits, AllFit, list_all_since}
 use Rattle.line_screen.proofs.Fitting.{items_fit, fit_append, after_inside, drawable}
 use Rattle.line_screen.proofs.InsertedRows.{behind_first}
 use Rattle.line_screen.proofs.Moves.{place}
-use Rattle.line_screen.proofs.PlainDrawing.{plain_text}
+use Rattle.line_screen.proofs.PlainDrawing.{plain_text, plain_bytes, drawing_bytes}
 use Rattle.line_screen.proofs.LawLemmas.{calls_lead}
 use Rattle.line_screen.proofs.Leading.{no_styles_are, redraw_drawable}
 use Rattle.std.specs.Prelude.{encode_utf8, length, replicate, slice_range}
@@ -291,7 +291,7 @@ module _ (mode : GraphemeClusterMode) (tab : Option ℕ) (columns : ℕ) (some :
       let new_col = to.col in
       move_low old new from.row (omega arith) to.row (omega arith)
 
-  drawing_free : (prompt line info : List ℕ) (finish cursor : Position) → Inside columns finish → Inside columns cursor → IsFree (drawing columns wide prompt line info finish cursor)
+  drawing_free : (prompt line info : List ℕ) (finish cursor : Position) → Inside columns finish → Inside columns cursor → IsFree (shown_text columns wide prompt line info ++ move_bytes finish cursor)
   drawing_free prompt line info finish cursor from to =
       free_then (shown_text columns wide prompt line info) (move_bytes finish cursor) (shown_free prompt line info) (move_free finish cursor from to)
 
@@ -301,7 +301,7 @@ module _ (mode : GraphemeClusterMode) (tab : Option ℕ) (columns : ℕ) (some :
   draw_free None a prompt line info finish cursor here over from to = drawing_free prompt line info finish cursor from to
   draw_free (Some row) a prompt line info finish cursor here over from to =
       let row_few : row < 2 ^ 64 = subst (λ n. n < 2 ^ 64) (sym over) here.row in
-      free_then (clearing_bytes row) (drawing columns wide prompt line info finish cursor) (clearing_free row row_few) (drawing_free prompt line info finish cursor from to)
+      free_then (clearing_bytes row) (shown_text columns wide prompt line info ++ move_bytes finish cursor) (clearing_free row row_few) (drawing_free prompt line info finish cursor from to)
 
   -- the rest of a line, and what stands after it without styles
   info_free : (info : List ℕ) (col : ℕ) → IsFree (in_fence info (bytes_of_all_painted columns (painted_text wide [] info) col))
@@ -349,7 +349,8 @@ cut_small s few a b count rest finish h = let room = h.fits in omega arith
 call_free : (s : Screen) → 1 ≤ s.columns → s.columns < 2 ^ 64 → (a b : View) (call : Call) → Inside s.columns a.place → Inside s.columns b.place → LeadsView s.columns (widths s) a call b → has_no_marks call ≡ true → IsFree (bytes_of s call)
 call_free s some few a b (Draw prompt text place info old new None) here there h plain =
     let able = redraw_drawable s some a b prompt text (info_text info) no_styles new.end new.cursor no_styles_are h.1 in
-    draw_free s.mode s.tab s.columns some few (old_row old) a prompt text (info_text info) new.end new.cursor here h.0 (subst (Inside s.columns) (sym h.1.finish_is) able.finish) (subst (Inside s.columns) (sym h.1.cursor_is) able.cursor)
+    subst IsFree (sym (plain_bytes s.columns (widths s) (old_row old) prompt text (info_text info) new.end new.cursor))
+    (draw_free s.mode s.tab s.columns some few (old_row old) a prompt text (info_text info) new.end new.cursor here h.0 (subst (Inside s.columns) (sym h.1.finish_is) able.finish) (subst (Inside s.columns) (sym h.1.cursor_is) able.cursor))
 call_free s some few a b (Draw prompt text place info old new (Some m)) here there h plain = absurd (false≢true plain)
 call_free s some few a b (Move old new) here there h plain = move_free s.mode s.tab s.columns some few old new (subst (Inside s.columns) (sym h.old_is) here) h.inside
 call_free s some few a b (Write text) here there (inl h) plain = subst IsFree (sym h.text_is) (letter_free h.c (and_parts (is_printable h.c) (at_simple_end true a.shown.line a.shown.place) h.typed).0)

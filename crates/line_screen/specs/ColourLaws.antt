@@ -3,8 +3,7 @@ use Rattle.std.specs.Prelude.{◌≡◌, ◌≢◌, ℕ, ◌≤◌, List, [], �
 use Rattle.std.specs.List.{flat_map, FoldsTo, list_all}
 use Rattle.line_buffer.specs.declared.layout.Layout.{Layout}
 use Rattle.line_config.specs.declared.config.Config.{Config}
-use Rattle.line_editor.specs.RenderCalls.{Call}
-use Rattle.line_editor.specs.RenderCalls.Call.{Draw, DrawRest}
+use Rattle.line_editor.specs.RenderCalls.{Call, Draw, DrawRest}
 use Rattle.line_editor.specs.Redraws.{Redraw, calls_of_redraw}
 use Rattle.line_editor.specs.LineRun.{Helping, setting_by}
 use Rattle.line_editor.specs.Values.{Value, shown_marks}
@@ -21,13 +20,10 @@ use Rattle.line_screen.specs.Styles.{numbers}
 abbrev pub ColoursStand : Type 0
 ColoursStand =
     (s : Screen) → 2 ≤ s.columns → s.columns ≤ 1000 → (v : Picture) → AreStyles v.styles
-    → meaning s.columns (widths s).cluster
-    (bytes_of_painted_texts s.columns (widths s) v.styles v.prompt v.line v.info)
-    ≡ Some (record {
-      placed = cells_of s.columns (widths s) v;
-      cursor = finish_of s.columns (widths s) v;
-      pen = [];
-    })
+    → let bytes = bytes_of_painted_texts s.columns (widths s) v.styles v.prompt v.line v.info in
+    let cells = cells_of s.columns (widths s) v in let finish = finish_of s.columns (widths s) v in
+    meaning s.columns (widths s).cluster bytes
+    ≡ Some (record { placed = cells; cursor = finish; pen = [] })
 
 -- the numbers of each style are digits and semicolons
 abbrev pub NumbersAreStyles : Type 0
@@ -37,8 +33,7 @@ NumbersAreStyles = (s : Style) → is_style (numbers s) ≡ true
 
 -- a style begins with ESC [ 0, which stands nowhere in these bytes
 abbrev pub BeginsNoStyle : List ℕ → Type 0
-BeginsNoStyle bytes =
-    (before after : List ℕ) → bytes ≢ before ++ (0x1B ∷ (0x5B ∷ (0x30 ∷ after)))
+BeginsNoStyle bytes = (before after : List ℕ) → bytes ≢ before ++ 0x1B ∷ 0x5B ∷ 0x30 ∷ after
 
 -- a call doesn't draw with a highlighter
 abbrev pub has_no_marks : Call → Bool

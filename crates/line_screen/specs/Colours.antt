@@ -1,14 +1,14 @@
 -- Drawings with styles: texts with a style for each cluster, and the bytes that draw them. Each
 -- cluster has the cells that it has without styles.
-use Rattle.std.specs.Prelude.{◌≡◌, option_map, option_copied, Result, Some, None, ℕ, ◌+◌, ◌-◌, ◌==◌, nat_lt, nat_le, Bool, true, List, [], ◌∷◌, ◌++◌, length, take, drop, Option, if◌then◌else◌, map}
+use Rattle.std.specs.Prelude.{◌≡◌, option_map, option_copied, option_to_list, Result, Some, None, ℕ, ◌+◌, ◌-◌, ◌==◌, nat_lt, nat_le, Bool, true, false, List, [], ◌∷◌, ◌++◌, length, take, drop, Option, if◌then◌else◌, map}
 use Rattle.std.specs.List.{list_all, flat_map}
+use Rattle.std.specs.Option.{option_map_or}
 use Rattle.unicode_segmentation.specs.Grapheme.{graphemes}
 use Rattle.line_buffer.specs.declared.layout.Position.{Position}
 use Rattle.line_buffer.specs.Tabs.{tab_width}
 use Rattle.line_screen.specs.Display.{is_printable, is_parameter}
 use Rattle.line_config.specs.declared.device.DeviceFailed.{DeviceFailed}
 use Rattle.line_help.specs.declared.helpers.style.Mark.{Mark}
-use Rattle.line_help.specs.declared.helpers.style.Part.{Part}
 use Rattle.line_help.specs.declared.helpers.style.Span as span
 use Rattle.line_help.specs.Paints.{Marks, first_mark}
 use Rattle.line_screen.specs.declared.drawing.painted.Brush as brush
@@ -16,8 +16,7 @@ use Rattle.line_screen.specs.declared.drawing.painted.Spans as spans
 use Rattle.line_screen.specs.declared.drawing.whole.Painting as painting
 use Rattle.line_screen.specs.declared.drawing.rest.Rest as rest
 use Rattle.line_screen.specs.Styles.{numbers}
-use Rattle.line_screen.specs.Drawing.{SendsTo, DrawnItem, Widths, blanks, is_letter, drawn_item, split_rows, row_break, no_style, break_if, break_unless, fitted_col, bytes_of_item, col_after, in_fence, erase_to_end, clearing_bytes, move_bytes}
-use Rattle.line_screen.specs.Drawing.DrawnItem.{NewRow, Letter, Cluster, Tab}
+use Rattle.line_screen.specs.Drawing.{SendsTo, DrawnItem, Widths, blanks, is_letter, drawn_item, split_rows, row_break, no_style, break_if, break_unless, fitted_col, bytes_of_item, col_after, in_fence, erase_to_end, clearing_bytes, move_bytes, NewRow, Letter, Cluster, Tab}
 use Rattle.line_screen.specs.Measure.{in_row}
 
 -- ---- styles
@@ -38,8 +37,8 @@ are_styles spans = list_all (λ s. is_style s.style) spans
 -- what is left of them after so many bytes
 abbrev pub skip : ℕ → List SgrSpan → List SgrSpan
 skip n [] = []
-skip n (s ∷ spans) = if nat_lt n s.len then (record { len = s.len - n; style = s.style } ∷ spans)
-    else skip (n - s.len) spans
+skip n (s ∷ spans) =
+    if nat_lt n s.len then record s { len = s.len - n } ∷ spans else skip (n - s.len) spans
 
 -- the style of the first byte; what stands after the last span has none
 abbrev pub first_style : List SgrSpan → List ℕ
@@ -49,7 +48,7 @@ first_style (s ∷ spans) = if s.len == 0 then first_style spans else s.style
 -- ESC [ 0 ; 1 ; 34 m sets this style and no other, ESC [ m none
 abbrev pub style_bytes : List ℕ → List ℕ
 style_bytes [] = no_style
-style_bytes (c ∷ style) = 0x1B ∷ (0x5B ∷ (0x30 ∷ (c ∷ (style ++ 0x6D ∷ []))))
+style_bytes (c ∷ style) = 0x1B ∷ 0x5B ∷ 0x30 ∷ c ∷ style ++ 0x6D ∷ []
 
 -- ---- a text as items with styles
 
@@ -72,6 +71,10 @@ items_without_style (Padded style apart) = Tab apart ∷ []
 
 abbrev pub all_unpainted : List PaintedItem → List DrawnItem
 all_unpainted xs = flat_map items_without_style xs
+
+-- the column after items
+abbrev pub end_of : ℕ → List PaintedItem → ℕ → ℕ
+end_of columns xs col = col_after columns (all_unpainted xs) col
 
 abbrev pub bare_letters : List ℕ → List PaintedItem
 bare_letters letters = map Bare (map Letter letters)
@@ -103,8 +106,7 @@ items_painted_after wide spans letters cluster = painted_letters spans letters
     ++ painted_item (first_style (skip (length letters) spans)) (drawn_item wide cluster)
 
 -- the clusters of a row, after letters: letters side by side are drawn span by span, too
-abbrev pub painted_clusters : Widths → List SgrSpan → List ℕ → List (List ℕ)
-    → List PaintedItem
+abbrev pub painted_clusters : Widths → List SgrSpan → List ℕ → List (List ℕ) → List PaintedItem
 painted_clusters wide spans letters [] = painted_letters spans letters
 painted_clusters wide spans letters (cluster ∷ clusters) =
     if is_letter cluster then painted_clusters wide spans (letters ++ cluster) clusters
@@ -112,30 +114,24 @@ painted_clusters wide spans letters (cluster ∷ clusters) =
     ++ painted_clusters wide (skip (length cluster) (skip (length letters) spans)) [] clusters)
 
 abbrev pub painted_row : Widths → List SgrSpan → List ℕ → List PaintedItem
-painted_row wide spans row =
-    if list_all is_printable row then painted_letters spans row
+painted_row wide spans row = if list_all is_printable row then painted_letters spans row
     else painted_clusters wide spans [] (graphemes true row)
-
-abbrev pub rows_painted_behind : Widths → List SgrSpan → List (List ℕ) → List PaintedItem
-rows_painted_behind wide spans [] = []
-rows_painted_behind wide spans (row ∷ rows) = Bare NewRow ∷ (painted_row wide (skip 1 spans) row
-    ++ rows_painted_behind wide (skip (length row) (skip 1 spans)) rows)
-
-abbrev pub painted_rows : Widths → List SgrSpan → List (List ℕ) → List PaintedItem
-painted_rows wide spans [] = []
-painted_rows wide spans (row ∷ rows) =
-    painted_row wide spans row ++ rows_painted_behind wide (skip (length row) spans) rows
-
-abbrev pub painted_text : Widths → List SgrSpan → List ℕ → List PaintedItem
-painted_text wide spans text = painted_rows wide spans (split_rows text)
 
 -- the first row, or a row after another, and what is left of the spans after it
 abbrev pub next_painted : Widths → Bool → List SgrSpan → List ℕ → List PaintedItem
 next_painted wide is_first spans row = if is_first then painted_row wide spans row
-    else (Bare NewRow ∷ painted_row wide (skip 1 spans) row)
+    else Bare NewRow ∷ painted_row wide (skip 1 spans) row
 
 abbrev pub spans_behind : Bool → List SgrSpan → List ℕ → List SgrSpan
 spans_behind is_first spans row = skip (length row) (if is_first then spans else skip 1 spans)
+
+abbrev pub painted_rows : Widths → Bool → List SgrSpan → List (List ℕ) → List PaintedItem
+painted_rows wide is_first spans [] = []
+painted_rows wide is_first spans (row ∷ rows) = next_painted wide is_first spans row
+    ++ painted_rows wide false (spans_behind is_first spans row) rows
+
+abbrev pub painted_text : Widths → List SgrSpan → List ℕ → List PaintedItem
+painted_text wide spans text = painted_rows wide true spans (split_rows text)
 
 -- ---- the bytes that draw them
 
@@ -156,9 +152,8 @@ bytes_of_painted columns (Padded style apart) col =
 
 abbrev pub bytes_of_all_painted : ℕ → List PaintedItem → ℕ → List ℕ
 bytes_of_all_painted columns [] col = []
-bytes_of_all_painted columns (x ∷ xs) col =
-    bytes_of_painted columns x col ++ bytes_of_all_painted columns xs
-    (col_after columns (items_without_style x) col)
+bytes_of_all_painted columns (x ∷ xs) col = bytes_of_painted columns x col
+    ++ bytes_of_all_painted columns xs (col_after columns (items_without_style x) col)
 
 -- printable ASCII that doesn't fill its row, without rows: letters of one style, between its
 -- beginning and its end
@@ -189,22 +184,15 @@ pub record AreStyles (styles : Styles) : Type 0 where
   pub line : are_styles styles.line ≡ true
   pub info : are_styles styles.info ≡ true
 
-abbrev pub bytes_of_three_painted : ℕ → List PaintedItem → List PaintedItem → List PaintedItem
-    → List ℕ
-bytes_of_three_painted columns a b c =
-    let end_a = col_after columns (all_unpainted a) 0 in
-    no_style ++ bytes_of_all_painted columns a 0
-    ++ no_style ++ bytes_of_all_painted columns b end_a
-    ++ no_style ++ bytes_of_all_painted columns c (col_after columns (all_unpainted b) end_a)
-    ++ no_style
-
 abbrev pub bytes_of_painted_texts : ℕ → Widths → Styles → List ℕ → List ℕ → List ℕ → List ℕ
-bytes_of_painted_texts columns wide styles prompt line info = bytes_of_three_painted columns
-    (painted_text wide styles.prompt prompt) (painted_text wide styles.line line)
-    (painted_text wide styles.info info)
+bytes_of_painted_texts columns wide styles prompt line info =
+    let a = painted_text wide styles.prompt prompt in let b = painted_text wide styles.line line in
+    let c = painted_text wide styles.info info in let end = end_of columns a 0 in
+    no_style ++ bytes_of_all_painted columns a 0 ++ no_style ++ bytes_of_all_painted columns b end
+    ++ no_style ++ bytes_of_all_painted columns c (end_of columns b end) ++ no_style
 
-abbrev pub painted_drawing : ℕ → Widths → Styles → List ℕ → List ℕ → List ℕ → Position
-    → Position → List ℕ
+abbrev pub painted_drawing : ℕ → Widths → Styles → List ℕ → List ℕ → List ℕ → Position → Position
+    → List ℕ
 painted_drawing columns wide styles prompt line info finish cursor =
     bytes_of_painted_texts columns wide styles prompt line info ++ move_bytes finish cursor
 
@@ -228,9 +216,9 @@ painted_rest wide spans text from = painted_text wide (skip from spans) (drop fr
 abbrev pub rest_bytes : ℕ → Widths → Styles → List ℕ → ℕ → List ℕ → ℕ → List ℕ
 rest_bytes columns wide styles text from info col =
     let items = painted_rest wide styles.line text from in
+    let behind = painted_text wide styles.info info in
     bytes_of_all_painted columns items col
-    ++ in_fence info (bytes_of_all_painted columns (painted_text wide styles.info info)
-    (col_after columns (all_unpainted items) col))
+    ++ in_fence info (bytes_of_all_painted columns behind (end_of columns items col))
 
 -- a move, everything from there on erased, and the rest drawn there
 abbrev pub rest_from : ℕ → Widths → Styles → List ℕ → ℕ → List ℕ → Position → Position → List ℕ
@@ -250,56 +238,34 @@ abbrev pub span_of : span.Span → SgrSpan
 span_of s = record { len = s.len; style = numbers s.style }
 
 -- the spans of a text from a mark on, if there is a highlighter
-abbrev pub paints_by : Option Marks → Part → List ℕ → Mark → List span.Span
-paints_by None part text from = []
-paints_by (Some m) part text from = m.paints part text from
-
 abbrev pub brush_paints : {H : Type 0} → (H → Marks) → brush.Brush H → Mark → List span.Span
-brush_paints marks b from =
-    paints_by (option_map marks (option_copied b.highlighter)) b.part b.text.now from
-
-abbrev pub all_spans : (Mark → List span.Span) → List SgrSpan
-all_spans paints = map span_of (paints first_mark)
-
-abbrev pub spans_from : Option span.Span → List SgrSpan → List SgrSpan
-spans_from None rest = rest
-spans_from (Some s) rest = span_of s ∷ rest
+brush_paints marks b from = option_map_or (λ (m : Marks). m.paints b.part b.text.now from)
+    (option_map marks (option_copied b.highlighter)) []
 
 -- the remaining spans: what is left of one, and those from a mark on
 abbrev pub spans_in : (Mark → List span.Span) → spans.Spans → List SgrSpan
-spans_in paints s = spans_from s.first (map span_of (paints s.mark))
+spans_in paints s = map span_of (option_to_list s.first ++ paints s.mark)
 
 abbrev pub brush_spans : {H : Type 0} → (H → Marks) → brush.Brush H → List SgrSpan
-brush_spans marks b = all_spans (brush_paints marks b)
+brush_spans marks b = map span_of (brush_paints marks b first_mark)
 
 abbrev pub styles_in : {H : Type 0} → (H → Marks) → painting.Painting H → Styles
-styles_in marks p = record {
-  prompt = brush_spans marks p.prompt;
-  line = brush_spans marks p.line;
-  info = brush_spans marks p.info;
-}
+styles_in marks p =
+    let of = brush_spans marks in
+    record { prompt = of p.prompt; line = of p.line; info = of p.info }
 
 -- the styles of a line and of what stands after it
 abbrev pub styles_after : {H : Type 0} → (H → Marks) → rest.Rest H → Styles
-styles_after marks r = record {
-  prompt = [];
-  line = brush_spans marks r.line;
-  info = brush_spans marks r.info;
-}
-
--- the column after items
-abbrev pub end_of : ℕ → List PaintedItem → ℕ → ℕ
-end_of columns xs col = col_after columns (all_unpainted xs) col
+styles_after marks r =
+    record { prompt = []; line = brush_spans marks r.line; info = brush_spans marks r.info }
 
 -- a call sends the bytes of items with styles, from a column on
-abbrev pub SendsPainted : {D : Type 0} → List PaintedItem → ℕ → ℕ → (D → List ℕ) → (D → Bool) → D → D
-    → Result ℕ DeviceFailed → Type 0
-SendsPainted xs start columns held failed old new result =
-    SendsTo (bytes_of_all_painted columns xs start)
-    (col_after columns (all_unpainted xs) start) columns held failed old new result
+abbrev pub SendsPainted : {D : Type 0} → List PaintedItem → ℕ → ℕ → (D → List ℕ) → (D → Bool)
+    → D → D → Result ℕ DeviceFailed → Type 0
+SendsPainted xs start columns = SendsTo (bytes_of_all_painted columns xs start)
+    (end_of columns xs start) columns
 
--- the first of the remaining spans, and the mark from which the others follow; none if nothing
--- remains
+-- the first of the remaining spans, and the mark from which others follow; none if nothing remains
 abbrev pub IsFirstSpan : (Mark → List span.Span) → spans.Spans → Option (span.Span × Mark) → Type 0
 IsFirstSpan paints s None = spans_in paints s ≡ []
 IsFirstSpan paints s (Some next) = spans_in paints s ≡ span_of next.0 ∷ map span_of (paints next.1)

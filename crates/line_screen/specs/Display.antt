@@ -3,6 +3,7 @@
 -- a row, and how many columns it takes.
 use Rattle.std.specs.Prelude.{ℕ, ◌+◌, ◌-◌, ◌*◌, ◌==◌, nat_lt, nat_le, Bool, true, not, ◌&&◌, ◌||◌, List, [], ◌∷◌, ◌++◌, length, map, codes, Option, Some, None, if◌then◌else◌}
 use Rattle.std.specs.List.{list_all, filter}
+use Rattle.std.specs.Option.{option_and_then, option_map_or}
 use Rattle.line_buffer.specs.Cells.{origin}
 use Rattle.line_buffer.specs.declared.layout.Position.{Position}
 pub use Rattle.line_buffer.specs.Printable.{is_printable}
@@ -48,7 +49,7 @@ touches at width p =
 -- ---- the effect of a piece of text
 
 abbrev pub right : ℕ → Position → Position
-right width at = record { col = at.col + width; row = at.row }
+right width at = record at { col = at.col + width }
 
 -- neither the first nor the last of so many cells cuts the cluster
 abbrev pub is_uncut : ℕ → Position → Placed → Bool
@@ -62,22 +63,17 @@ cluster_placed_at style bytes width at =
 abbrev pub placed_in : Position → Placed → List Placed → List Placed
 placed_in at new [] = new ∷ []
 placed_in at new (p ∷ ps) =
-    if ends_before at p then p ∷ placed_in at new ps else (new ∷ (p ∷ ps))
+    if ends_before at p then p ∷ placed_in at new ps else new ∷ p ∷ ps
 
 abbrev pub put_down : ℕ → List ℕ → Display → Display
-put_down width run d = record {
-  placed = placed_in d.cursor (cluster_placed_at d.pen run width d.cursor) d.placed;
-  cursor = right width d.cursor;
-  pen = d.pen;
-}
+put_down width run d =
+    let new = cluster_placed_at d.pen run width d.cursor in
+    record d { placed = placed_in d.cursor new d.placed; cursor = right width d.cursor }
 
 -- without the clusters in these cells
 abbrev pub with_blank_cells : ℕ → Display → Display
-with_blank_cells width d = record {
-  placed = filter (λ p. not (touches d.cursor width p)) d.placed;
-  cursor = d.cursor;
-  pen = d.pen;
-}
+with_blank_cells width d =
+    record d { placed = filter (λ p. not (touches d.cursor width p)) d.placed }
 
 -- in the cursor's row, in place of the clusters that stand there, of which none may be cut
 abbrev pub put_cells : ℕ → ℕ → List ℕ → Display → Option Display
@@ -85,24 +81,17 @@ put_cells columns width bytes d =
     if nat_le (d.cursor.col + width) columns && list_all (is_uncut width d.cursor) d.placed
     then Some (put_down width bytes (with_blank_cells width d)) else None
 
-abbrev pub then_put : Option Display → (Display → Option Display) → Option Display
-then_put None f = None
-then_put (Some d) f = f d
-
 -- one cell for each
 abbrev pub put_letters : ℕ → List ℕ → Display → Option Display
 put_letters columns [] d = Some d
-put_letters columns (c ∷ cs) d = then_put (put_cells columns 1 (c ∷ []) d) (put_letters columns cs)
-
-abbrev pub put_cluster : ℕ → List ℕ → Display → Option ℕ → Option Display
-put_cluster columns run d None = None
-put_cluster columns run d (Some width) = put_cells columns width run d
+put_letters columns (c ∷ cs) d =
+    option_and_then (put_letters columns cs) (put_cells columns 1 (c ∷ []) d)
 
 -- a run of text: printable ASCII alone, or one cluster
 abbrev pub put_run : ℕ → (List ℕ → Option ℕ) → List ℕ → Display → Option Display
 put_run columns wide run d =
     if list_all is_printable run then put_letters columns run d
-    else put_cluster columns run d (wide run)
+    else option_and_then (λ width. put_cells columns width run d) (wide run)
 
 -- ---- bytes, one after the other
 
@@ -125,34 +114,26 @@ is_text byte = nat_le 0x20 byte && not (byte == 0x7F)
 abbrev pub is_digit : ℕ → Bool
 is_digit byte = nat_le 0x30 byte && nat_le byte 0x39
 
--- a number is written without leading zeros, so it is at least 1
-abbrev pub begins_number : ℕ → Bool
-begins_number byte = nat_le 0x31 byte && nat_le byte 0x39
-
 abbrev pub at_cursor : Position → Display → Display
-at_cursor at d = record { placed = d.placed; cursor = at; pen = d.pen }
-
-abbrev pub with_pen : List ℕ → Display → Display
-with_pen style d = record { placed = d.placed; cursor = d.cursor; pen = style }
+at_cursor at d = record d { cursor = at }
 
 abbrev pub is_inside : ℕ → Display → Bool
 is_inside columns d = nat_lt d.cursor.col columns
 
--- a terminal may fill what it erases, and a new row, with the style that stands, so none may stand
--- there
+-- a terminal may fill what it erases, and a new row, with the style: so none may stand there
 abbrev pub is_plain_pen : Display → Bool
 is_plain_pen d = length d.pen == 0
 
--- CR goes to the row's start, LF a row down, BS a column to the left, BEL changes nothing; after the
--- last cell only CR or ESC may come
+-- CR goes to the row's start, LF a row down, BS a column to the left, BEL changes nothing; after
+-- the last cell only CR or ESC may come
 abbrev pub after_control : ℕ → Display → ℕ → DisplayReading
 after_control columns d byte =
     if byte == 0x0D then Text (at_cursor (record { col = 0; row = d.cursor.row }) d) []
     else if byte == 0x1B then Escape d
     else if (byte == 0x0A) && (is_inside columns d && is_plain_pen d)
-    then Text (at_cursor (record { col = d.cursor.col; row = d.cursor.row + 1 }) d) []
+    then Text (at_cursor (record d.cursor { row = d.cursor.row + 1 }) d) []
     else if (byte == 0x08) && (is_inside columns d && nat_lt 0 d.cursor.col)
-    then Text (at_cursor (record { col = d.cursor.col - 1; row = d.cursor.row }) d) []
+    then Text (at_cursor (record d.cursor { col = d.cursor.col - 1 }) d) []
     else if (byte == 0x07) && is_inside columns d then Text d []
     else Lost
 
@@ -163,12 +144,7 @@ stays_in_row at p = not (p.row == at.row) || nat_le (p.col + p.width) at.col
 abbrev pub reading_after_erasure : (Position → Placed → Bool) → Display → DisplayReading
 reading_after_erasure stays d =
     if list_all (λ p. not (is_cut d.cursor p)) d.placed && is_plain_pen d
-    then Text (record {
-      placed = filter (stays d.cursor) d.placed;
-      cursor = d.cursor;
-      pen = d.pen;
-    }) []
-    else Lost
+    then Text (record d { placed = filter (stays d.cursor) d.placed }) [] else Lost
 
 -- in a place's row, and not before the place
 abbrev pub is_in_rest : Position → Placed → Bool
@@ -189,34 +165,22 @@ can_go_right columns at p =
 abbrev pub cell_opened : ℕ → Display → DisplayReading
 cell_opened columns d =
     if list_all (can_go_right columns d.cursor) d.placed && is_plain_pen d
-    then Text (record {
-      placed = map (goes_right d.cursor)
-          (filter (λ p. not (is_pushed_out columns d.cursor p)) d.placed);
-      cursor = d.cursor;
-      pen = d.pen;
-    }) []
-    else Lost
+    then (let stay = filter (λ p. not (is_pushed_out columns d.cursor p)) d.placed in
+    Text (record d { placed = map (goes_right d.cursor) stay }) []) else Lost
 
--- the first `count` cells of the rest of the row go, and what follows them goes that far to the
--- left
+-- the first `count` cells of the rest of the row go, and what follows goes that far to the left
 abbrev pub is_taken_out : ℕ → Position → Placed → Bool
 is_taken_out count at p = is_in_rest at p && not (is_in_rest (right count at) p)
 
 abbrev pub goes_left : ℕ → Position → Placed → Placed
-goes_left count at p =
-    if is_in_rest (right count at) p then record p { col = p.col - count } else p
+goes_left count at p = if is_in_rest (right count at) p then record p { col = p.col - count } else p
 
 abbrev pub cells_taken_out : ℕ → ℕ → Display → DisplayReading
 cells_taken_out columns count d =
     if nat_le (d.cursor.col + count) columns
     && (list_all (is_uncut count d.cursor) d.placed && is_plain_pen d)
-    then Text (record {
-      placed = map (goes_left count d.cursor)
-          (filter (λ p. not (is_taken_out count d.cursor p)) d.placed);
-      cursor = d.cursor;
-      pen = d.pen;
-    }) []
-    else Lost
+    then (let stay = filter (λ p. not (is_taken_out count d.cursor p)) d.placed in
+    Text (record d { placed = map (goes_left count d.cursor) stay }) []) else Lost
 
 -- ESC [ m (SGR) ends the style that stands, ESC [ 0 ; .. m sets one. ESC [ J (ED) keeps everything
 -- that begins before the cursor. ESC [ K (EL) keeps everything except what ends after the cursor in
@@ -224,7 +188,7 @@ cells_taken_out columns count d =
 -- ESC [ P (DCH) takes one out
 abbrev pub plain_sequence : ℕ → Display → ℕ → DisplayReading
 plain_sequence columns d byte =
-    if byte == 0x6D then Text (with_pen [] d) []
+    if byte == 0x6D then Text (record d { pen = [] }) []
     else if byte == 0x30 then Style d []
     else if not (is_inside columns d) then Lost
     else if byte == 0x4A then reading_after_erasure starts_before d
@@ -246,10 +210,10 @@ moves_inside columns at count final =
 
 abbrev pub position_after_move : Position → ℕ → ℕ → Position
 position_after_move at count final =
-    if final == 0x41 then record { col = at.col; row = at.row - count }
-    else if final == 0x42 then record { col = at.col; row = at.row + count }
-    else if final == 0x43 then record { col = at.col + count; row = at.row }
-    else record { col = at.col - count; row = at.row }
+    if final == 0x41 then record at { row = at.row - count }
+    else if final == 0x42 then record at { row = at.row + count }
+    else if final == 0x43 then record at { col = at.col + count }
+    else record at { col = at.col - count }
 
 abbrev pub numbered_sequence : ℕ → Display → ℕ → ℕ → DisplayReading
 numbered_sequence columns d count final =
@@ -266,20 +230,13 @@ is_parameter byte = is_digit byte || (byte == 0x3B)
 abbrev pub style_sequence : Display → List ℕ → ℕ → DisplayReading
 style_sequence d parameters byte =
     if is_parameter byte then Style d (parameters ++ byte ∷ [])
-    else if byte == 0x6D then Text (with_pen parameters d) []
+    else if byte == 0x6D then Text (record d { pen = parameters }) []
     else Lost
-
-abbrev pub on_run : ℕ → ℕ → Option Display → DisplayReading
-on_run columns byte None = Lost
-on_run columns byte (Some d) = after_control columns d byte
-
-abbrev pub in_insert_mode : Option Display → DisplayReading
-in_insert_mode None = Lost
-in_insert_mode (Some d) = Inserts d []
 
 -- a letter in the cell that was opened for it
 abbrev pub letter_inserted : ℕ → ℕ → DisplayReading → DisplayReading
-letter_inserted columns c (Text d run) = in_insert_mode (put_cells columns 1 (c ∷ []) d)
+letter_inserted columns c (Text d run) =
+    option_map_or (λ put. Inserts put []) (put_cells columns 1 (c ∷ []) d) Lost
 letter_inserted columns c reading = Lost
 
 -- control characters keep their meaning, and ESC begins ESC [ 4 l (RM, IRM), which ends insert mode
@@ -296,13 +253,15 @@ step_in_insert_mode columns d [] byte =
 step_in_insert_mode columns d (next ∷ []) byte = if byte == next then Text d [] else Lost
 step_in_insert_mode columns d (next ∷ more) byte = if byte == next then Inserts d more else Lost
 
+-- a number is written without leading zeros, so it is at least 1
 abbrev pub step : ℕ → (List ℕ → Option ℕ) → DisplayReading → ℕ → DisplayReading
 step columns wide (Text d run) byte =
     if is_text byte then Text d (run ++ byte ∷ [])
-    else on_run columns byte (put_run columns wide run d)
+    else option_map_or (λ put. after_control columns put byte) (put_run columns wide run d) Lost
 step columns wide (Escape d) byte = if byte == 0x5B then Bracket d else Lost
 step columns wide (Bracket d) byte =
-    if begins_number byte then Number d (byte - 0x30) else plain_sequence columns d byte
+    if nat_le 0x31 byte && nat_le byte 0x39 then Number d (byte - 0x30)
+    else plain_sequence columns d byte
 step columns wide (Number d count) byte =
     if is_digit byte then Number d (count * 10 + (byte - 0x30))
     else numbered_sequence columns d count byte

@@ -1,18 +1,15 @@
 -- The bytes of each drawing call on a screen, and the effect of a call on the screen and its sink.
-use Rattle.std.specs.Prelude.{◌≡◌, ℕ, Bool, true, false, encode_utf8, IsTrue, List, [], ◌∷◌, ◌++◌, Option, Some, None, map, option_map, Result, Ok, Err}
+use Rattle.std.specs.Prelude.{◌≡◌, ℕ, Bool, true, false, encode_utf8, IsTrue, List, [], ◌∷◌, ◌++◌, Option, map, option_map, Result}
 use Rattle.line_buffer.specs.declared.layout.GraphemeClusterMode.{GraphemeClusterMode}
 use Rattle.line_buffer.specs.declared.layout.Layout.{Layout}
-use Rattle.line_buffer.specs.declared.layout.Position.{Position}
-use Rattle.line_config.specs.declared.device.DeviceFailed.{DeviceFailed}
 use Rattle.line_config.specs.declared.errors.ReadlineError.{ReadlineError}
 use Rattle.line_config.specs.Sending.{Takes, TakesSome}
 use Rattle.line_config.specs.declared.settings.BellStyle.{BellStyle}
 use Rattle.line_config.specs.declared.settings.BellStyle.TheVariants.{Audible}
-use Rattle.line_editor.specs.RenderCalls.{Call, Canvas, Ruler}
-use Rattle.line_editor.specs.RenderCalls.Call.{Draw, Move, Write, Beep, ClearScreen, ClearRows, ClearToEol, MoveAndClearToEol, InsertChar, MoveAndDelete, Append, DrawRest, WriteOver}
+use Rattle.line_editor.specs.RenderCalls.{Call, Canvas, Ruler, Draw, Move, Write, Beep, ClearScreen, ClearRows, ClearToEol, MoveAndClearToEol, InsertChar, MoveAndDelete, Append, DrawRest, WriteOver}
 use Rattle.line_editor.specs.Redraws.{info_text}
-use Rattle.line_screen.specs.Drawing.{Widths, text_items, bytes_of_items, drawing, full_drawing, clearing_bytes, move_bytes, erase_to_end, erase_to_row_end, go_home, insertion_bytes, deletion_bytes, place_after_insertion, place_after_deletion, writing_bytes}
-use Rattle.line_editor.specs.Sights.{PartSpans, spans_by, drawn_spans}
+use Rattle.line_screen.specs.Drawing.{text_items, bytes_of_items, clearing_bytes, move_bytes, erase_to_end, erase_to_row_end, go_home, insertion_bytes, deletion_bytes, place_after_insertion, place_after_deletion, writing_bytes}
+use Rattle.line_editor.specs.Sights.{PartSpans, drawn_spans}
 use Rattle.line_help.specs.Paints.{Marks}
 use Rattle.line_screen.specs.Colours.{Styles, SgrSpan, span_of, painted_bytes, rest_drawing}
 use Rattle.line_screen.specs.Measure.{widths_by, measure_of, in_row}
@@ -21,7 +18,6 @@ use Rattle.script.specs.Scripts.{World, Goes}
 use Rattle.line_keys.specs.CustomBindings.{Custom}
 use Rattle.line_editor.specs.LineScripts.{LineStage, line_script, line_world}
 use Rattle.line_editor.specs.Values.{Setting}
-use Rattle.line_config.specs.declared.errors.ReadlineError.TheVariants as Refusal
 
 -- what doesn't change over a screen's calls
 pub record Screen : Type 0 where
@@ -55,28 +51,13 @@ ruler_of s = record {
   tabs = option_map (λ apart. record { columns = s.columns; apart = apart }) s.tab;
 }
 
-abbrev pub drawing_bytes : ℕ → Widths → Option ℕ → List ℕ → List ℕ → List ℕ → Position
-    → Position → List ℕ
-drawing_bytes columns wide None prompt line info finish cursor = drawing columns wide prompt line
-    info finish cursor
-drawing_bytes columns wide
-    (Some row) prompt line info finish cursor = full_drawing columns wide row prompt line info
-    finish cursor
-
 -- the row of the cursor of an older drawing, if there is one
 abbrev pub old_row : Option Layout → Option ℕ
 old_row old = option_map (λ l. l.cursor.row) old
 
 abbrev pub styles_of : PartSpans → Styles
-styles_of x = record {
-  prompt = map span_of x.prompt;
-  line = map span_of x.line;
-  info = map span_of x.info;
-}
-
--- the styles of prompt, line and what stands after it; whether the prompt is the line's own
-abbrev pub styles_by : Marks → Bool → List ℕ → List ℕ → ℕ → List ℕ → Styles
-styles_by m own prompt text place info = styles_of (spans_by m own prompt text place info)
+styles_of x = let of = map span_of in
+    record { prompt = of x.prompt; line = of x.line; info = of x.info }
 
 -- the styles of what stands after a line
 abbrev pub info_styles : Option Marks → List ℕ → List SgrSpan
@@ -91,16 +72,12 @@ abbrev pub bell_bytes : BellStyle → List ℕ
 bell_bytes Audible = 0x07 ∷ []
 bell_bytes style = []
 
--- each drawing ends in its own cells, so no call leaves the cursor elsewhere; the helper's draws
--- nothing
+-- a drawing ends in its own cells, so none leaves the cursor elsewhere; the helper's draws nothing
 abbrev pub bytes_of : Screen → Call → List ℕ
-bytes_of s (Draw prompt text place info old new None) =
-    drawing_bytes s.columns (widths_by s.mode s.tab s.columns) (old_row old) prompt text
-    (info_text info) new.end new.cursor
-bytes_of s (Draw prompt text place info old new (Some m)) =
-    painted_bytes s.columns (widths_by s.mode s.tab s.columns)
-    (styles_by m new.default_prompt prompt text place (info_text info)) (old_row old) prompt text
-    (info_text info) new.end new.cursor
+bytes_of s (Draw prompt text place info old new marks) =
+    let spans = drawn_spans marks new.default_prompt prompt text place (info_text info) in
+    painted_bytes s.columns (widths_by s.mode s.tab s.columns) (styles_of spans) (old_row old)
+    prompt text (info_text info) new.end new.cursor
 bytes_of s (Move old new) = move_bytes old new
 bytes_of s (Write text) = text
 bytes_of s Beep = bell_bytes s.bell
@@ -111,8 +88,7 @@ bytes_of s (MoveAndClearToEol old new) = move_bytes old new ++ erase_to_row_end
 bytes_of s (InsertChar c rest old new finish) =
     insertion_bytes s.columns old.col (encode_utf8 c) rest
     ++ move_bytes (place_after_insertion old new finish) new
-bytes_of s (MoveAndDelete old new count rest finish) =
-    move_bytes old new
+bytes_of s (MoveAndDelete old new count rest finish) = move_bytes old new
     ++ (deletion_bytes s.columns count new.col rest
     ++ move_bytes (place_after_deletion new finish) new)
 bytes_of s (Append text at) =
@@ -124,11 +100,6 @@ bytes_of s (DrawRest text from place info old at new marks) =
     new.end new.cursor
 bytes_of s (WriteOver letters old at new) = writing_bytes letters old at new
 bytes_of s call = []
-
--- a failed device becomes the display's error
-abbrev pub display_answer : {A : Type 0} → Result A DeviceFailed → Result A ReadlineError
-display_answer (Ok x) = Ok x
-display_answer (Err e) = Err Refusal.Display
 
 -- bytes were sent and passed on: if nothing was buffered before, nothing is buffered now. The sink
 -- works as before, and the screen stays as it is

@@ -1,12 +1,11 @@
 -- A text with styles as items, and their cells: each cluster has the style of its first byte.
-use Rattle.std.specs.Prelude.{true, ℕ, replicate, List, [], ◌∷◌, ◌++◌, map, take, drop, length, if◌then◌else◌}
+use Rattle.std.specs.Prelude.{Bool, true, false, ℕ, replicate, List, [], ◌∷◌, ◌++◌, map, take, drop, length, if◌then◌else◌}
 use Rattle.std.specs.List.{flat_map, list_all}
 use Rattle.unicode_segmentation.specs.Grapheme.{graphemes}
 use Rattle.line_buffer.specs.declared.layout.Position.{Position}
 use Rattle.line_screen.specs.Colours.{SgrSpan}
 use Rattle.line_screen.specs.Display.{Placed, is_printable}
-use Rattle.line_screen.specs.Drawing.{Widths, DrawnItem, drawn_item, split_rows, lay_one, after_one}
-use Rattle.line_screen.specs.Drawing.DrawnItem.{NewRow}
+use Rattle.line_screen.specs.Drawing.{Widths, DrawnItem, NewRow, drawn_item, split_rows, lay_one, after_one}
 
 -- of each byte of a text; those after the last span have none
 abbrev pub byte_styles : List SgrSpan → List (List ℕ)
@@ -26,8 +25,7 @@ pub record StyledItem : Type 0 where
 
 -- of a row: its characters if all are printable ASCII
 abbrev pub row_clusters : List ℕ → List (List ℕ)
-row_clusters row =
-    if list_all is_printable row then map (λ c. c ∷ []) row else graphemes true row
+row_clusters row = if list_all is_printable row then map (λ c. c ∷ []) row else graphemes true row
 
 -- `styles`: those of the bytes from the first cluster on
 abbrev pub styled_clusters : Widths → List (List ℕ) → List (List ℕ) → List StyledItem
@@ -36,22 +34,17 @@ styled_clusters wide styles (cluster ∷ clusters) =
     record { item = drawn_item wide cluster; style = first_of styles }
     ∷ styled_clusters wide (drop (length cluster) styles) clusters
 
--- rows after another row; the newline before each has a style that is drawn nowhere
-abbrev pub rows_styled_behind : Widths → List (List ℕ) → List (List ℕ) → List StyledItem
-rows_styled_behind wide styles [] = []
-rows_styled_behind wide styles (row ∷ rows) =
-    record { item = NewRow; style = [] }
-    ∷ (styled_clusters wide (drop 1 styles) (row_clusters row)
-    ++ rows_styled_behind wide (drop (length row) (drop 1 styles)) rows)
-
-abbrev pub styled_rows : Widths → List (List ℕ) → List (List ℕ) → List StyledItem
-styled_rows wide styles [] = []
-styled_rows wide styles (row ∷ rows) =
-    styled_clusters wide styles (row_clusters row)
-    ++ rows_styled_behind wide (drop (length row) styles) rows
+-- the newline before each row but the first has a style that is drawn nowhere
+abbrev pub styled_rows : Widths → Bool → List (List ℕ) → List (List ℕ) → List StyledItem
+styled_rows wide is_first styles [] = []
+styled_rows wide is_first styles (row ∷ rows) =
+    let own = if is_first then styles else drop 1 styles in
+    (if is_first then [] else record { item = NewRow; style = [] } ∷ [])
+    ++ styled_clusters wide own (row_clusters row)
+    ++ styled_rows wide false (drop (length row) own) rows
 
 abbrev pub styled_text : Widths → List SgrSpan → List ℕ → List StyledItem
-styled_text wide spans text = styled_rows wide (byte_styles spans) (split_rows text)
+styled_text wide spans text = styled_rows wide true (byte_styles spans) (split_rows text)
 
 -- the cells that they take
 abbrev pub lay : ℕ → List StyledItem → Position → List Placed

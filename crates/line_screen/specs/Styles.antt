@@ -21,11 +21,8 @@ abbrev pub colour_codes : ℕ → Colour → List ℕ
 colour_codes front Terminal = []
 colour_codes front (Basic hue) = (front + hue_number hue) ∷ []
 colour_codes front (Bright hue) = (front + 60 + hue_number hue) ∷ []
-colour_codes front (Palette n) = (front + 8) ∷ (5 ∷ (n ∷ []))
-colour_codes front (Rgb r g b) = (front + 8) ∷ (2 ∷ (r ∷ (g ∷ (b ∷ []))))
-
-abbrev pub flag_codes : Bool → ℕ → List ℕ
-flag_codes b n = if b then n ∷ [] else []
+colour_codes front (Palette n) = (front + 8) ∷ 5 ∷ n ∷ []
+colour_codes front (Rgb r g b) = (front + 8) ∷ 2 ∷ r ∷ g ∷ b ∷ []
 
 -- a number of one byte after its semicolon
 abbrev pub number : ℕ → List ℕ
@@ -37,14 +34,14 @@ numbers_of (c ∷ []) = number c
 numbers_of (c ∷ (d ∷ codes)) = number c ++ numbers_of (d ∷ codes)
 
 abbrev pub flag : Bool → ℕ → List ℕ
-flag b n = numbers_of (flag_codes b n)
+flag b n = if b then number n else []
 
 abbrev pub colour_numbers : ℕ → Colour → List ℕ
 colour_numbers front c = numbers_of (colour_codes front c)
 
 abbrev pub flags : Style → List ℕ
-flags s = flag s.bold 1 ++ (flag s.faint 2 ++ (flag s.italic 3 ++ (flag s.underline 4
-    ++ flag s.reverse 7)))
+flags s = flag s.bold 1
+    ++ (flag s.faint 2 ++ (flag s.italic 3 ++ (flag s.underline 4 ++ flag s.reverse 7)))
 
 -- what follows the 0 of the sequence: nothing if the style is plain
 abbrev pub numbers : Style → List ℕ

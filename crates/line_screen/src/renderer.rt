@@ -1,7 +1,9 @@
 //! The renderer: the calls by which an editor draws.
 
 ghost use Rattle.std.specs.Prelude.{◌≡◌, ◌≤◌, [], false, option_copied, option_map};
-ghost use Rattle.line_screen.specs.ScreenCalls.{screen_of, sink_of, canvas_of, display_answer, styles_of, info_styles, line_styles};
+ghost use Rattle.std.specs.Result.{result_map_both};
+ghost use Rattle.line_config.specs.declared.errors.ReadlineError.TheVariants.{Display};
+ghost use Rattle.line_screen.specs.ScreenCalls.{screen_of, sink_of, canvas_of, styles_of, info_styles, line_styles};
 ghost use Rattle.line_screen.specs.Colours.{brush_spans, styles_in, styles_after};
 ghost use Rattle.line_editor.specs.Sights.{drawn_spans};
 ghost use Rattle.line_editor.specs.Values.{marks_seen};
@@ -386,7 +388,7 @@ fn brush_of_info<'a, H: Highlighter>(
 
 /// The display's error in place of its device's.
 fn answer<A>(done: Result<A, DeviceFailed>) -> Result<A, ReadlineError>
-    ensures { result ≡ display_answer done }
+    ensures { result ≡ result_map_both (λ x. x) (λ _. Display) done }
 {
     match done {
         Ok(answer) => Ok(answer),

@@ -1,7 +1,6 @@
 -- A reader of which only the number of remaining items is known, and how they were requested.
 use Rattle.std.specs.Prelude.{◌≡◌, ◌⊎◌, ⊤, Bool, false, true, [], ◌∷◌, ◌++◌, length}
-use Rattle.line_keys.specs.Coming.{Ends, End}
-use Rattle.line_keys.specs.KeyFeeds.{KeyFeed}
+use Rattle.line_keys.specs.KeyFeeds.{KeyFeed, Ends, End}
 use Rattle.line_keys.specs.Requests.{Asked, NextKey, WaitForInput, NextChar, PastedText}
 use Rattle.stand_ins.specs.declared.asked_keys.AskedKeys.{AskedKeys}
 use Rattle.stand_ins.specs.declared.asked_keys.KeyRequest.{KeyRequest}

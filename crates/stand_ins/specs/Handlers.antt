@@ -4,7 +4,7 @@ use Rattle.line_buffer.specs.declared.types.Movement.TheVariants.{ForwardChar, B
 use Rattle.line_keys.specs.declared.command.Cmd.TheVariants.{CompleteHint, Kill, TransposeWords, Undo}
 use Rattle.stand_ins.specs.declared.handlers.OneWay.{OneWay}
 use Rattle.stand_ins.specs.declared.handlers.OneWay.TheVariants.{Count, Nothing, Fails, WantsMemory}
-use Rattle.line_keys.specs.Handling.{Meaning}
+use Rattle.line_keys.specs.CustomBindings.{Meaning}
 use Rattle.line_keys.specs.Replies.{gives, gives_at_once}
 
 abbrev pub hint_or_kill : ℕ → Meaning

@@ -2,8 +2,7 @@
 use Rattle.std.specs.Prelude.{⊤, ◌≡◌, [], ◌∷◌, ◌++◌, false, true, None, Some, map, is_some, length}
 use Rattle.line_config.specs.declared.errors.ReadlineError.{ReadlineError}
 use Rattle.line_config.specs.declared.errors.ReadlineError.TheVariants.{Reader, Display, Memory}
-use Rattle.line_keys.specs.Coming.{Coming}
-use Rattle.line_keys.specs.KeyFeeds.{KeyFeed}
+use Rattle.line_keys.specs.KeyFeeds.{KeyFeed, Coming}
 use Rattle.line_keys.specs.Refreshing.{Shown, Ask, KnownDisplay as Displays}
 use Rattle.line_keys.specs.Refreshing as ask
 use Rattle.stand_ins.specs.Typing.{coming_after, coming_unless}

@@ -2,8 +2,8 @@
 use Rattle.std.specs.Prelude.{Bool, true, false, List, [], ◌∷◌, Option, Some, None, if◌then◌else◌}
 use Rattle.line_config.specs.declared.errors.ReadlineError.{ReadlineError}
 use Rattle.line_config.specs.declared.errors.ReadlineError.TheVariants.{Eof, NotUtf8, PasteOutOfPlace, Reader, Memory}
-use Rattle.line_keys.specs.Coming.{Coming, Pressed, Pasted, CutOff, Ends, Refused, LastItem}
-use Rattle.line_keys.specs.Coming as coming
+use Rattle.line_keys.specs.KeyFeeds.{Coming, Pressed, Pasted, CutOff, Ends, Refused, LastItem}
+use Rattle.line_keys.specs.KeyFeeds as coming
 use Rattle.stand_ins.specs.declared.readers.Typed.{Typed}
 use Rattle.stand_ins.specs.declared.readers.Typed.TheVariants.{Key, Paste}
 use Rattle.stand_ins.specs.declared.readers.After.{After}

@@ -11,7 +11,7 @@ use Rattle.line_record.specs.Ring.{new_ring}
 use Rattle.line_screen.specs.ScreenCalls.{Screen}
 use Rattle.keyline.specs.Endings.{ending_of, ending_text}
 use Rattle.keyline.specs.Events.{Course, bytes_drawn, lines_kept, lines_written, session}
-use Rattle.keyline.specs.SessionRuns.{history_loaded_from}
+use Rattle.keyline.specs.SessionCalls.{history_loaded_from}
 use Rattle.keyline.specs.Sessions.{Given, SessionState, each, given_of, screen_by, state_over, lines_text, history_with_if}
 use Rattle.worked_rows.specs.Settings.{Settings}
 

@@ -17,9 +17,8 @@ use Rattle.line_help.specs.Paints.{standard_marks}
 use Rattle.line_help.specs.Validation.{bracket_reply}
 use Rattle.line_help.specs.declared.helpers.style.Span.{Span}
 use Rattle.line_help.specs.declared.helpers.validate.ValidationResult.TheVariants.{Valid}
-use Rattle.line_keys.specs.CustomBindings.{Custom, custom_of}
+use Rattle.line_keys.specs.CustomBindings.{Custom, custom_of, Meaning}
 use Rattle.line_keys.specs.Commands.{holds_text}
-use Rattle.line_keys.specs.Handling.{Meaning}
 use Rattle.line_keys.specs.Replies.{gives, gives_at_once}
 use Rattle.line_keys.specs.declared.command.Cmd.{Cmd}
 use Rattle.line_keys.specs.declared.events.Event.{Event}

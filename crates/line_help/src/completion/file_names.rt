@@ -3,7 +3,7 @@ ghost use Rattle.std.specs.Prelude.{◌≡◌, ◌++◌, ℕ, List, length, take
 ghost use Rattle.std.specs.Cow.{cow_str_bytes};
 ghost use Rattle.line_config.specs.declared.errors.HookFault.TheVariants.{Memory};
 ghost use Rattle.line_help.specs.Completion.{Offered, completion_by};
-ghost use Rattle.line_help.specs.FileNames.{Named, path_word, path_after_quote, is_special, typed_path, name_of, folder_of, slash_of, offered_name, offered_names, name_begins, unsorted_completion, path_completion, is_displayed_before};
+ghost use Rattle.line_help.specs.FileNames.{Named, path_word, path_after_quote, is_special, typed_path, name_of, folder_of, offered_name, offered_names, name_begins, unsorted_completion, path_completion, is_displayed_before};
 ghost use Rattle.std.specs.List.Sorted.{IsSortedBy};
 ghost use Rattle.line_help.specs.Quotes.{text_with_escapes, escapes_in, escapes_at, unclosed_quote};
 ghost use Rattle.line_keys.specs.Replies.{Reply, Replies, gives, itself};

@@ -166,7 +166,7 @@ fn counted_on(mode: EditMode, count: i16, key: KeyEvent) -> Option<i16>
 impl<D: Decides> InputState<'_, D> {
     ghost use Rattle.line_keys.specs.InputStates.{FollowsOn};
     ghost use Rattle.line_keys.specs.Counts.{count_and_key, rest_of_count, count_with_key};
-    ghost use Rattle.line_keys.specs.Modes.{is_emacs};
+    ghost use Rattle.line_keys.specs.PhraseScripts.{is_emacs};
     ghost use Rattle.line_keys.specs.Requests.{AsksInOrder, IsKey};
 
     /// The key; if it starts a count, the count and the key after it.

@@ -1,15 +1,14 @@
 //! The keys of Emacs mode.
 
 ghost use Rattle.std.specs.Prelude.{◌≡◌, ℕ, option_map, if◌then◌else◌, true, false};
-ghost use Rattle.line_keys.specs.Coming.{from_key_at};
 ghost use Rattle.line_keys.specs.Keys.{none, char_with};
 ghost use Rattle.line_keys.specs.Emacs.{back, ahead, move_to_char, second_command};
 ghost use Rattle.line_keys.specs.Emacs.{emacs_command_rows, emacs_action, emacs_reading_rows, typed_rows};
-ghost use Rattle.line_keys.specs.KeyFeeds.{Key, ReadsBy};
+ghost use Rattle.line_keys.specs.KeyFeeds.{Key, ReadsBy, from_key_at};
 ghost use Rattle.line_keys.specs.Refreshing.{Shown};
 ghost use Rattle.line_keys.specs.Requests.{AsksInOrder, IsLater, NextKey};
 ghost use Rattle.line_keys.specs.Tables.{look, first_row};
-ghost use Rattle.line_keys.specs.ViSearches.{search_of};
+ghost use Rattle.line_keys.specs.ViMotions.{search_of};
 ghost use Rattle.line_keys.specs.declared.command.Cmd.TheVariants.{Complete, CompleteBackward};
 ghost use Rattle.line_keys.specs.declared.keymap.emacs.EmacsAction.TheVariants.{Give};
 

@@ -1,7 +1,7 @@
 //! Quoted insertion: the character of the next key.
 
 ghost use Rattle.std.specs.Prelude.{◌≡◌};
-ghost use Rattle.line_keys.specs.Quoting.{control_of, is_paste_start, quoted_command};
+ghost use Rattle.line_keys.specs.Common.{control_of, is_paste_start, quoted_command};
 
 use crate::command::Cmd;
 use crate::flags::Modifiers;
@@ -13,9 +13,8 @@ use line_config::ReadlineError;
 use std::alloc::Global;
 
 impl<D: Decides> InputState<'_, D> {
-    ghost use Rattle.line_keys.specs.Follows.{Follows, silent};
-    ghost use Rattle.line_keys.specs.InputStates.{input_of, custom_in};
-    ghost use Rattle.line_keys.specs.Quoting.{quote_part};
+    ghost use Rattle.line_keys.specs.InputStates.{input_of, custom_in, Follows, silent};
+    ghost use Rattle.line_keys.specs.Common.{quote_part};
     ghost use Rattle.line_keys.specs.Requests.{AsksInOrder, IsLater};
 
     /// The insertion of the character of the next key, if the setting is on and text can be typed.

@@ -5,8 +5,7 @@ pub mod motion;
 pub mod table;
 
 ghost use Rattle.std.specs.Prelude.{◌≡◌, true, false};
-ghost use Rattle.line_keys.specs.Coming.{from_key_at};
-ghost use Rattle.line_keys.specs.KeyFeeds.{Key, ReadsBy};
+ghost use Rattle.line_keys.specs.KeyFeeds.{Key, ReadsBy, from_key_at};
 ghost use Rattle.line_keys.specs.Requests.{AsksInOrder, IsLater, NextKey};
 ghost use Rattle.line_keys.specs.Vi.{move_or, key_replacement, char_command};
 

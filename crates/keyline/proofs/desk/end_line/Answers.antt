@@ -2,7 +2,7 @@
 use Rattle.std.proofs.Common.{◌∙◌, Ok, ap, sym}
 use Rattle.std.specs.Prelude.{string_bytes}
 use Rattle.std.proofs.lemmas.Result.{err_from_is_err_and}
-use Rattle.line_keys.specs.Coming.{answer_map}
+use Rattle.line_keys.specs.KeyFeeds.{answer_map}
 use Rattle.keyline.proofs.CloseLemmas.{end_cut, end_kept, end_other}
 use Rattle.keyline.proofs.desk.end_line.Goals as goal
 

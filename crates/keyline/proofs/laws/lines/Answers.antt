@@ -3,10 +3,10 @@ use Rattle.std.proofs.Common.{ap, refl, ◌∙◌}
 use Rattle.std.specs.Prelude.{string_bytes}
 use Rattle.line_editor.specs.LineRun.{helper_from_hooks}
 use Rattle.line_keys.specs.CustomBindings.{custom_of}
-use Rattle.line_keys.specs.Coming.{answer_map}
+use Rattle.line_keys.specs.KeyFeeds.{answer_map}
 use Rattle.line_screen.specs.ScreenCalls.{screen_of}
-use Rattle.keyline.specs.KnownDevices.{devices_by}
-use Rattle.keyline.specs.Opened.{given_in}
+use Rattle.keyline.specs.SessionEffects.{devices_by}
+use Rattle.keyline.specs.SessionCalls.{given_in}
 use Rattle.keyline.specs.Sessions.{given_of}
 use Rattle.keyline.proofs.LinesLemmas.{along, asking_nowhere, asking_ok, asking_err}
 use Rattle.keyline.proofs.laws.lines.Goals as goal

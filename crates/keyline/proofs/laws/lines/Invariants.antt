@@ -1,8 +1,8 @@
 -- The lines so far were taken, each with what was handed in for it.
 use Rattle.line_editor.specs.LineRun.{helper_from_hooks}
 use Rattle.keyline.specs.Desks.{desk_feed}
-use Rattle.keyline.specs.KnownDevices.{devices_by}
-use Rattle.keyline.specs.Opened.{given_in, prompt_of}
+use Rattle.keyline.specs.SessionEffects.{devices_by}
+use Rattle.keyline.specs.SessionCalls.{given_in, prompt_of}
 use Rattle.keyline.proofs.LinesLemmas.{Asking}
 use Rattle.keyline.proofs.laws.lines.Given as goal
 

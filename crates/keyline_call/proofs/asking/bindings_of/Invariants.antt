@@ -1,7 +1,7 @@
 use Rattle.std.proofs.Common.{◌≡◌, ◌||◌, [], length}
 use Rattle.std.specs.Prelude.{is_some}
 use Rattle.std.specs.List.{list_any}
-use Rattle.line_keys.specs.Bound.{find}
+use Rattle.line_keys.specs.Events.{find}
 use Rattle.line_keys.specs.declared.events.Event.{Event}
 use Rattle.keyline_call.specs.Asks.{names, rows_of}
 use Rattle.keyline_call.proofs.asking.bindings_of.Given as goal

@@ -1,7 +1,7 @@
 use Rattle.std.proofs.Common.{◌+◌, min, false, chars, rules, ◌∙◌, tests}
 use Rattle.std.proofs.lemmas.Iterator.Consumers.{fold_from_yields_List}
 use Rattle.unicode_width.specs.Width.{str_width}
-use Rattle.line_buffer.specs.Width.{parts_between_joiners}
+use Rattle.line_buffer.proofs.PartingLemmas.{parts_between_joiners}
 use Rattle.line_buffer.proofs.WidthLemmas.{stopped_sum, YieldsList-from_split_char}
 use Rattle.line_buffer.proofs.layout.unjoined_columns.Goals as goal
 

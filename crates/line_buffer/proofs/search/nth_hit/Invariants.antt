@@ -2,7 +2,8 @@ use Rattle.std.proofs.Common.{◌≡◌, take, IsUtf8}
 use Rattle.std.specs.List.{last_or}
 use Rattle.std.specs.Str.Iter.{char_indices_rest, char_indices_offset}
 use Rattle.line_buffer.specs.Clusters.{nth_or_last}
-use Rattle.line_buffer.specs.Hits.{hits, hits_from}
+use Rattle.line_buffer.specs.Hits.{hits}
+use Rattle.line_buffer.proofs.HitLemmas.{hits_from}
 use Rattle.line_buffer.proofs.search.nth_hit.Given as goal
 
 abbrev pub invariant-loop-i : goal.invariant-loop-i

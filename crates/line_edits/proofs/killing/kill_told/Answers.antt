@@ -21,7 +21,7 @@ returns-clause-rewrites c = record {
 pub returns-in_err-kill_range-clause-rewrites : goal.returns-in_err-kill_range-clause-rewrites
 returns-in_err-kill_range-clause-rewrites c =
     rewrites_refused _ c.from_residual.result c.from_residual.ensures.1 (joined_stand_refused (λ s e t. t ≡ ring_step e s) ring_refuses c.requires.stand c.as_str-text.ensures.utf8 c.in_err-kill_range.ensures.edits.left.stops)
-    (record { stops = inr (killed_among c.args.movement.now c.as_str-text.ensures.utf8 c.requires.stand c.in_err-kill_range.ensures.edits.left) })
+    (inr (killed_among c.args.movement.now c.as_str-text.ensures.utf8 c.requires.stand c.in_err-kill_range.ensures.edits.left))
 
 pub returns-in_err-kill_range-clause-refused_ring : goal.returns-in_err-kill_range-clause-refused_ring
 returns-in_err-kill_range-clause-refused_ring c =

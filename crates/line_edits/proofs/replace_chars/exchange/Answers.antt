@@ -6,7 +6,7 @@ use Rattle.line_edits.proofs.replace_chars.exchange.Goals as goal
 pub returns-in_err-delete_told : goal.returns-in_err-delete_told
 returns-in_err-delete_told c =
     rewrites_refused _ c.from_residual.result c.from_residual.ensures.1 c.delete_told.ensures.writes.stand
-    (deletion_stopped c.args.ch c.args.n (clusters_after c.args.n c.args.line.now) c.args.line.now c.in_err-delete_told.ensures.left)
+    (deletion_stopped c.args.ch c.args.n (clusters_after c.args.n c.args.line.now) c.args.line.now _ _ c.in_err-delete_told.ensures.left)
 
 pub returns-in_err-insert_told : goal.returns-in_err-insert_told
 returns-in_err-insert_told c =

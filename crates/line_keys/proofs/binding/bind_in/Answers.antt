@@ -1,6 +1,6 @@
 use Rattle.std.proofs.Common.{◌≡◌, ap, sym, refl, ◌∙◌, Some, None, rules}
 use Rattle.std.specs.Prelude.{position}
-use Rattle.line_keys.specs.Bound.{has_event}
+use Rattle.line_keys.specs.Events.{has_event}
 use Rattle.line_keys.proofs.Places.{place_below, found_at, found_nowhere, bound_at_place, bound_behind, map_set, map_push}
 use Rattle.line_keys.proofs.binding.bind_in.Goals as goal
 

@@ -1,6 +1,6 @@
 use Rattle.std.proofs.Common.{◌≡◌, sym, Some, None}
 use Rattle.std.specs.Prelude.{position}
-use Rattle.line_keys.specs.Bound.{has_event}
+use Rattle.line_keys.specs.Events.{has_event}
 use Rattle.line_keys.proofs.Places.{place_below, found_at, found_nowhere, unbound_at_place, nothing_unbound, map_remove}
 use Rattle.line_keys.proofs.binding.unbind_in.Goals as goal
 

@@ -1,9 +1,9 @@
 //! Motions after Vi's operators, and searches for a character.
 
-ghost use Rattle.std.specs.Prelude.{◌≡◌, true};
+ghost use Rattle.std.specs.Prelude.{◌≡◌, option_map, true};
 ghost use Rattle.line_keys.specs.Tables.{look};
 ghost use Rattle.line_keys.specs.ViMotions.{motion_rows, change_motion_rows, motion_of};
-ghost use Rattle.line_keys.specs.ViSearches.{opposite_of, search_movement};
+ghost use Rattle.line_keys.specs.ViMotions.{opposite, search_movement};
 
 use crate::flags::Modifiers;
 use crate::handler::Decides;
@@ -29,7 +29,7 @@ pub enum Search {
 }
 
 impl Search {
-    ghost use Rattle.line_keys.specs.ViSearches.{search_of};
+    ghost use Rattle.line_keys.specs.ViMotions.{search_of};
 
     pub(crate) fn to(self, c: char) -> CharSearch
         ensures { result ≡ search_of self c }
@@ -58,7 +58,7 @@ pub enum Motion {
 
 /// The search in the other direction.
 pub(crate) fn opposite(search: Option<CharSearch>) -> Option<CharSearch>
-    ensures { result ≡ opposite_of search }
+    ensures { result ≡ option_map opposite search }
 {
     let opposite = match search? {
         CharSearch::Forward(c) => CharSearch::Backward(c),
@@ -141,12 +141,10 @@ fn motion_of(changing: bool, key: KeyEvent, n: RepeatCount) -> Option<Motion>
 }
 
 impl<D: Decides> InputState<'_, D> {
-    ghost use Rattle.line_keys.specs.InputStates.{FollowsOn, input_of, custom_in};
-    ghost use Rattle.line_keys.specs.Follows.{Follows, silent};
+    ghost use Rattle.line_keys.specs.InputStates.{FollowsOn, input_of, custom_in, Follows, silent};
     ghost use Rattle.line_keys.specs.Requests.{AsksInOrder, Begins, IsKey, IsLater, NextKey};
     ghost use Rattle.std.specs.Prelude.{false};
-    ghost use Rattle.line_keys.specs.ViMotions.{motion_by, vi_motion};
-    ghost use Rattle.line_keys.specs.ViSearches.{search_of_next_key};
+    ghost use Rattle.line_keys.specs.ViMotions.{motion_by, vi_motion, search_of_next_key};
 
     /// The motion after an operator's key; `None` if another key follows.
     pub(crate) fn vi_cmd_motion<R: RawReader, W: Refresher>(

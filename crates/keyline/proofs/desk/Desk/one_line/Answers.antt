@@ -2,11 +2,10 @@
 use Rattle.std.proofs.Common.{Bool, rules, subst}
 use Rattle.std.specs.Prelude.{string_bytes}
 use Rattle.line_keys.specs.CustomBindings.{custom_of}
-use Rattle.line_keys.specs.Coming.{answer_map}
+use Rattle.line_keys.specs.KeyFeeds.{answer_map}
 use Rattle.line_editor.specs.LineRun.{helper_from_hooks, outcome_of}
 use Rattle.line_screen.specs.ScreenCalls.{sink_of}
-use Rattle.keyline.specs.KnownDevices.{HasPassedLines, devices_by}
-use Rattle.keyline.specs.SessionEffects.{Closes, work}
+use Rattle.keyline.specs.SessionEffects.{HasPassedLines, devices_by, Closes, work}
 use Rattle.keyline.specs.declared.desk.Desk.{Desk}
 use Rattle.keyline.proofs.DeskLemmas.{RunsAt, takes_line, with_held}
 use Rattle.keyline.proofs.desk.Desk.one_line.Goals as goal

@@ -2,7 +2,7 @@
 use Rattle.std.proofs.Common.{◌∙◌, refl, subst, sym}
 use Rattle.line_help.proofs.RowLemmas.{none_read}
 use Rattle.line_screen.specs.ScreenCalls.{screen_of, sink_of}
-use Rattle.keyline.specs.SessionRuns.{Unopens}
+use Rattle.keyline.specs.SessionCalls.{Unopens}
 use Rattle.keyline.specs.Sessions.{coming_from}
 use Rattle.keyline.proofs.LinesLemmas.{along}
 use Rattle.keyline.proofs.session.Session.open.Goals as goal

@@ -1,9 +1,9 @@
 -- Lines follow on lines, and the last one ends the session.
 use Rattle.std.proofs.Common.{refl, subst, ap, ◌∙◌}
 use Rattle.std.specs.Prelude.{string_bytes}
-use Rattle.line_keys.specs.Coming.{answer_map}
-use Rattle.keyline.specs.KnownDevices.{devices_by}
-use Rattle.keyline.specs.SessionRuns.{Finishes}
+use Rattle.line_keys.specs.KeyFeeds.{answer_map}
+use Rattle.keyline.specs.SessionEffects.{devices_by}
+use Rattle.keyline.specs.SessionCalls.{Finishes}
 use Rattle.keyline.proofs.LinesLemmas.{along, underway_nowhere, underway_ok, underway_err}
 use Rattle.keyline.proofs.session.Session.run_to_end.Goals as goal
 

@@ -2,8 +2,8 @@
 use Rattle.std.specs.Prelude.{◌≡◌}
 use Rattle.line_editor.specs.LineRun.{helper_from_hooks}
 use Rattle.keyline.specs.Desks.{desk_feed}
-use Rattle.keyline.specs.KnownDevices.{devices_by}
-use Rattle.keyline.specs.Opened.{given_in, prompt_of}
+use Rattle.keyline.specs.SessionEffects.{devices_by}
+use Rattle.keyline.specs.SessionCalls.{given_in, prompt_of}
 use Rattle.keyline.proofs.LinesLemmas.{Underway}
 use Rattle.keyline.proofs.session.Session.run_to_end.Given as goal
 

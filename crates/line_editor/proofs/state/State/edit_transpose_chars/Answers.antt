@@ -2,10 +2,11 @@ use Rattle.std.proofs.Common.{◌≡◌, ◌-◌, refl, sym, ap, ◌∙◌, subs
 use Rattle.std.specs.Str.{IsCharBoundary}
 use Rattle.line_buffer.specs.Transpositions.{transposes_chars}
 use Rattle.line_edits.specs.Edits.{transpose_chars_group}
-use Rattle.line_editor.specs.Rewriting.{refresh_over_if}
+use Rattle.line_editor.specs.Drawing.{effect_if}
+use Rattle.line_editor.specs.Rewriting.{refresh_over_effect}
 use Rattle.line_editor.specs.Transforms.{transpose_chars_effect}
 use Rattle.line_editor.specs.States.{value_of, setting_of}
-use Rattle.line_editor.proofs.EditLemmas.{chars_over, edit_then, edit_refused, over_if, unwritten_if}
+use Rattle.line_editor.proofs.EditLemmas.{chars_over, edit_then, edit_refused, drawn_if, undrawn_if}
 use Rattle.line_editor.proofs.TransposedLemmas.{pair_boundary, pair_known, pair_over}
 use Rattle.line_editor.proofs.state.State.edit_transpose_chars.Goals as goal
 
@@ -40,7 +41,7 @@ returns-in_err-done g c =
     let from = c.saturating_sub-from.result in
     let end = c.pair_end-end.result in
     record {
-      does = edit_refused transpose_chars_effect (refresh_over_if over from end (transposes_chars s.recorded.line)) transpose_chars_group (value_of s) s _ _ _ _ c.from_residual.ensures.1
+      does = edit_refused transpose_chars_effect (effect_if (transposes_chars s.recorded.line) (refresh_over_effect over from end)) transpose_chars_group (value_of s) s _ _ _ _ c.from_residual.ensures.1
           (chars_over over from end (setting_of s) (value_of s) c.pair_end-end.ensures (omega arith) c.may_be_rewritten-over.ensures)
           refl c.in_err-done.ensures refl refl (record { ruler = refl; prompt = refl; history_is = refl; hooks_are = refl; marks_are = refl; config_is = refl });
     }
@@ -52,10 +53,10 @@ returns-then-done g c =
     let from = c.saturating_sub-from.result in
     let end = c.pair_end-end.result in
     record {
-      does = edit_then transpose_chars_effect (refresh_over_if over from end (transposes_chars s.recorded.line)) transpose_chars_group (value_of s) s _ _ _ _ _ _
+      does = edit_then transpose_chars_effect (effect_if (transposes_chars s.recorded.line) (refresh_over_effect over from end)) transpose_chars_group (value_of s) s _ _ _ _ _ _
           (chars_over over from end (setting_of s) (value_of s) c.pair_end-end.ensures (omega arith) c.may_be_rewritten-over.ensures)
           refl c.in_ok-done.ensures refl refl (record { ruler = refl; prompt = refl; history_is = refl; hooks_are = refl; marks_are = refl; config_is = refl })
-          (over_if over from end (transposes_chars s.recorded.line) _ _ _ (sym c.in_ok-done.ensures.writes.answers ∙ c.if-done.true) c.refresh_over.ensures.does);
+          (drawn_if (refresh_over_effect over from end) (transposes_chars s.recorded.line) _ _ _ (sym c.in_ok-done.ensures.writes.answers ∙ c.if-done.true) c.refresh_over.ensures.does);
     }
 
 pub returns-else-done : goal.returns-else-done
@@ -65,8 +66,8 @@ returns-else-done g c =
     let from = c.saturating_sub-from.result in
     let end = c.pair_end-end.result in
     record {
-      does = edit_then transpose_chars_effect (refresh_over_if over from end (transposes_chars s.recorded.line)) transpose_chars_group (value_of s) s _ _ _ _ _ _
+      does = edit_then transpose_chars_effect (effect_if (transposes_chars s.recorded.line) (refresh_over_effect over from end)) transpose_chars_group (value_of s) s _ _ _ _ _ _
           (chars_over over from end (setting_of s) (value_of s) c.pair_end-end.ensures (omega arith) c.may_be_rewritten-over.ensures)
           refl c.in_ok-done.ensures refl refl (record { ruler = refl; prompt = refl; history_is = refl; hooks_are = refl; marks_are = refl; config_is = refl })
-          (unwritten_if over from end (transposes_chars s.recorded.line) _ _ (sym c.in_ok-done.ensures.writes.answers ∙ c.if-done.false));
+          (undrawn_if (refresh_over_effect over from end) (transposes_chars s.recorded.line) _ _ (sym c.in_ok-done.ensures.writes.answers ∙ c.if-done.false));
     }

@@ -1,6 +1,6 @@
 use Rattle.std.proofs.Common.{refl, sym, ap, ◌∙◌}
 use Rattle.std.specs.Prelude.{◌-◌, length, drop}
-use Rattle.line_buffer.specs.Range.{kill_line, deletion_line}
+use Rattle.line_buffer.specs.Range.{kill as killed_in, deletion_line}
 use Rattle.line_edits.specs.Edits.{kill_steps}
 use Rattle.line_editor.specs.Drawing.{since}
 use Rattle.line_editor.specs.Killing.{may_be_taken, may_be_taken_out, text_gone, show_taken, kill_effect}
@@ -26,7 +26,7 @@ returns-clause-does g c =
     (sym c.in_ok-killed.ensures.writes.writes.answers ∙ c.if-not-killed.false)) refl
     c.in_ok-killed.ensures.writes refl refl
     (record { ruler = refl; prompt = refl; history_is = refl; hooks_are = refl; marks_are = refl; config_is = refl })
-    (taken_by _ _ _ _ _ _ (value_of s) (kill_line c.args.movement.now s.recorded.line) _ _ _
+    (taken_by _ _ _ _ _ _ (value_of s) (killed_in c.args.movement.now s.recorded.line).line _ _ _
     (ap (λ n. n - c.len.result) c.len-before.ensures ∙ ap (λ n. length s.recorded.line.text - n)
     c.len.ensures) (c.may_be_taken-alone.ensures
     ∙ ap (λ o. may_be_taken (drop (length (deletion_line o s.recorded.line).text) s.recorded.line.text) (value_of s)) c.requires.span.value)

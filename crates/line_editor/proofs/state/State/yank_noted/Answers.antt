@@ -1,5 +1,5 @@
 use Rattle.std.proofs.Common.{true, false, refl, sym, ap, ◌∙◌}
-use Rattle.line_keys.specs.Modes.{is_vi_command}
+use Rattle.line_keys.specs.PhraseScripts.{is_vi_command}
 use Rattle.line_editor.specs.Drawing.{since}
 use Rattle.line_editor.specs.States.{value_of, setting_of}
 use Rattle.line_editor.proofs.KnownLemmas.{yanked_known}

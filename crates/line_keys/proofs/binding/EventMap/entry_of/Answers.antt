@@ -1,7 +1,6 @@
 use Rattle.std.proofs.Common.{◌≡◌, Some, None, get_or, sym}
 use Rattle.std.specs.Prelude.{position}
-use Rattle.line_keys.specs.Bound.{has_event}
-use Rattle.line_keys.specs.Events.{single}
+use Rattle.line_keys.specs.Events.{single, has_event}
 use Rattle.line_keys.proofs.Places.{entry_at, found_at, found_nowhere}
 use Rattle.line_keys.proofs.binding.EventMap.entry_of.Goals as goal
 

@@ -1,7 +1,7 @@
 use Rattle.std.proofs.Common.{◌≡◌, Some, None, List, get_or, sym, subst}
 use Rattle.std.specs.Prelude.{position}
 use Rattle.line_keys.specs.declared.events.Event.{Event}
-use Rattle.line_keys.specs.Bound.{IsMap, has_event}
+use Rattle.line_keys.specs.Events.{IsMap, has_event}
 use Rattle.line_keys.proofs.Places.{found_at, found_nowhere, normal_if_found}
 use Rattle.line_keys.proofs.binding.EventMap.get.Goals as goal
 

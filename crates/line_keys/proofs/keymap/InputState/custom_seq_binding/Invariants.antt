@@ -1,7 +1,6 @@
 use Rattle.std.specs.Prelude.{true}
 use Rattle.line_keys.specs.CustomKeys.{rest_of_sequence, key_sequence}
-use Rattle.line_keys.specs.InputStates.{situation_in}
-use Rattle.line_keys.specs.Follows.{Follows}
+use Rattle.line_keys.specs.InputStates.{situation_in, Follows}
 use Rattle.line_keys.specs.Requests.{AsksInOrder, IsKey}
 use Rattle.line_keys.proofs.keymap.InputState.custom_seq_binding.Given as goal
 

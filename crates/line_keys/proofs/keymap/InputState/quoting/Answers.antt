@@ -3,7 +3,7 @@ use Rattle.std.specs.Prelude.{Err}
 use Rattle.line_keys.specs.declared.command.Cmd.TheVariants.{Insert}
 use Rattle.line_keys.specs.InputStates.{input_of}
 use Rattle.line_keys.specs.PhraseScripts.{answer_part}
-use Rattle.line_keys.specs.Quoting.{is_paste_start, quotes, quote_of_key}
+use Rattle.line_keys.specs.Common.{is_paste_start, quotes, quote_of_key}
 use Rattle.line_keys.proofs.Asking.{key_asked, key_then, text_asked}
 use Rattle.line_keys.proofs.Following.{ends_follow, no_key, key_follows, no_paste, paste_follows}
 use Rattle.line_keys.proofs.Raised.{raised}

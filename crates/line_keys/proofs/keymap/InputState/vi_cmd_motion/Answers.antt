@@ -1,6 +1,6 @@
 use Rattle.std.proofs.Common.{◌≡◌, false, arith, refl}
 use Rattle.std.specs.Prelude.{Err}
-use Rattle.line_keys.specs.SameKeys.{same_key}
+use Rattle.line_keys.specs.Keys.{same_key}
 use Rattle.line_keys.proofs.Asking.{keys_asked, keys_then, first_asked, first_then}
 use Rattle.line_keys.proofs.Following.{no_key, key_follows, then_stops, then_follows, silent_follows, ends_follow}
 use Rattle.line_keys.proofs.Raised.{raised}

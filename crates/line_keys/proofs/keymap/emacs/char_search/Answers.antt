@@ -2,7 +2,7 @@ use Rattle.std.proofs.Common.{◌≡◌}
 use Rattle.std.specs.Prelude.{Err}
 use Rattle.line_keys.specs.Emacs.{move_to_char}
 use Rattle.line_keys.specs.Keys.{char_with, none}
-use Rattle.line_keys.specs.ViSearches.{search_of}
+use Rattle.line_keys.specs.ViMotions.{search_of}
 use Rattle.line_keys.proofs.KeyReads.{made_of_read, not_made}
 use Rattle.line_keys.proofs.Raised.{raised}
 use Rattle.line_keys.proofs.keymap.emacs.char_search.Goals as goal

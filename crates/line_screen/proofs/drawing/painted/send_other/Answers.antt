@@ -1,10 +1,10 @@
 -- A text without spans, or row by row.
 use Rattle.std.proofs.Common.{List, subst}
-use Rattle.line_screen.specs.Colours.{SgrSpan, PaintedItem, SendsPainted, all_spans, painted_text, brush_paints}
+use Rattle.line_screen.specs.Colours.{SgrSpan, PaintedItem, SendsPainted, painted_text, brush_paints}
 use Rattle.line_screen.specs.Drawing.{text_items}
 use Rattle.line_screen.specs.Measure.{widths_by}
 use Rattle.line_screen.proofs.PaintRuns.{sends_items}
-use Rattle.line_screen.proofs.PaintCode.{no_spans, bare_text, all_left}
+use Rattle.line_screen.proofs.PaintCode.{all_spans, no_spans, bare_text, all_left}
 use Rattle.line_screen.proofs.drawing.painted.send_other.Goals as goal
 
 pub returns-in-None : goal.returns-in-None

@@ -1,8 +1,10 @@
 -- A text's end without a highlighter, or row by row.
 use Rattle.std.proofs.Common.{◌≡◌, List, ℕ, [], map, drop, sym, ap, subst, ◌∙◌}
 use Rattle.std.specs.Prelude.{option_map, option_copied}
+use Rattle.std.specs.Option.{option_map_or}
+use Rattle.line_help.specs.Paints.{Marks}
 use Rattle.line_help.specs.Paints.{first_mark}
-use Rattle.line_screen.specs.Colours.{SgrSpan, PaintedItem, SendsPainted, skip, span_of, spans_in, brush_spans, paints_by, painted_text, brush_paints}
+use Rattle.line_screen.specs.Colours.{SgrSpan, PaintedItem, SendsPainted, skip, span_of, spans_in, brush_spans, painted_text, brush_paints}
 use Rattle.line_screen.specs.Drawing.{SendsItems, text_items}
 use Rattle.line_screen.specs.Measure.{widths_by}
 use Rattle.line_screen.proofs.PaintRuns.{sends_items}
@@ -17,7 +19,7 @@ returns-in-None g c =
     let rest = drop c.args.from brush.text.now in
     let spans = skip c.args.from (brush_spans g.H.Highlighter.marks brush) in
     let none : [] ≡ spans =
-    sym (ap (λ h. skip c.args.from (map span_of (paints_by (option_map g.H.Highlighter.marks (option_copied h)) brush.part brush.text.now first_mark))) c.in-None.is) in
+    sym (ap (λ h. skip c.args.from (map span_of (option_map_or (λ (m : Marks). m.paints brush.part brush.text.now first_mark) (option_map g.H.Highlighter.marks (option_copied h)) []))) c.in-None.is) in
     let All : List PaintedItem → Type 0 = λ items. SendsPainted items c.args.start columns g.D.Sink.held g.D.Sink.has_failed c.args.sink.now c.send_text.new.sink c.send_text.result in
     let Bare : List ℕ → Type 0 = λ bytes. SendsItems (text_items wide bytes) c.args.start columns g.D.Sink.held g.D.Sink.has_failed c.args.sink.now c.send_text.new.sink c.send_text.result in
     subst All (bare_text wide spans rest none)

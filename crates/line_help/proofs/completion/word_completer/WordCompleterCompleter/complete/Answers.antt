@@ -1,7 +1,7 @@
-use Rattle.std.proofs.Common.{◌≡◌, ◌∙◌, ap, Some, map, rules}
+use Rattle.std.proofs.Common.{◌≡◌, ◌∙◌, ap, map, rules}
 use Rattle.std.specs.Prelude.{string_bytes, take}
 use Rattle.std.specs.Char.{is_whitespace}
-use Rattle.line_help.specs.Completion.{Completion, words_for}
+use Rattle.line_help.specs.Completion.{words_for}
 use Rattle.line_help.proofs.WordLemmas.{completed}
 use Rattle.line_help.proofs.completion.word_completer.WordCompleterCompleter.complete.Goals as goal
 
@@ -12,6 +12,6 @@ returns g c =
     let words : map string_bytes c.deref.result.now ≡ c.args.self.now = ap (map string_bytes) c.deref.ensures.value ∙ c.self.view_is in
     let found = c.in_ok-found.ensures.words ∙ ap (words_for c.extract_word-start.result.1.now) words ∙ ap (λ w. words_for w c.args.self.now) c.extract_word-start.ensures.word in
     record {
-      answer = ap (λ (completion : Completion). Some completion) (completed string_bytes c.args.self.now text c.extract_word-start.result.0 c.in_ok-found.found.items start found);
+      answer = completed string_bytes c.args.self.now text c.extract_word-start.result.0 c.in_ok-found.found.items start found;
       fault = search rules;
     }

@@ -1,26 +1,65 @@
--- A session that is opened and run: what it is opened with, and what it returns.
-use Rattle.std.specs.Prelude.{◌≡◌, ℕ, Bool, cond, false, true, List, [], Option, None, Result, Err, IsOk, IsTrue, string_bytes}
-use Rattle.line_config.specs.Feed.{AlwaysTold, Feed}
+-- The calls of a session and of its builder: what it is built from and opened with, its parts, the
+-- effect of its calls, and what it returns at its end. An editor is a session that an error ends.
+use Rattle.std.specs.Prelude.{◌≡◌, ℕ, Bool, cond, false, List, [], Option, None, Result, Err, IsOk, IsTrue, string_bytes, MatchOption, codes}
+use Rattle.line_config.specs.Feed.{AlwaysTold, Feed, fresh_feed}
 use Rattle.line_config.specs.declared.config.Config.{Config}
+use Rattle.line_config.specs.declared.device.Last.TheVariants.{End}
 use Rattle.line_config.specs.declared.errors.ReadlineError.{ReadlineError}
 use Rattle.line_config.specs.declared.errors.ReadlineError.TheVariants.{Reader, HistoryText, Memory}
-use Rattle.line_help.specs.History.{Filed, settings_of, nothing_filed}
+use Rattle.line_editor.specs.LineRun.{Helping}
+use Rattle.line_help.specs.History.{Filed, settings_of, nothing_filed, history_with_line}
 use Rattle.line_help.specs.HistoryText.{ReadsGood, rest_after_load, load_answer, load_leaves, text_rows}
-use Rattle.line_keys.specs.Coming.{bytes_to_come}
+use Rattle.line_keys.specs.KeyFeeds.{bytes_to_come}
+use Rattle.line_keys.specs.CustomBindings.{custom_of}
+use Rattle.line_keys.specs.CustomBindings.{Meaning}
+use Rattle.line_keys.specs.declared.events.Event.{Event}
 use Rattle.line_record.specs.Ring.{new_ring}
-use Rattle.line_screen.specs.ScreenCalls.{screen_of, sink_of}
+use Rattle.line_screen.specs.ScreenCalls.{screen_of, sink_of, Screen}
 use Rattle.line_screen.specs.Reader.{coming_in, byte_ahead_of, source_of}
 use Rattle.line_screen.specs.Reading.{with_kept}
-use Rattle.keyline.specs.Desks.{TakesLines}
-use Rattle.keyline.specs.KnownDevices.{KnownDevices}
-use Rattle.keyline.specs.Endings.{ending_of}
-use Rattle.keyline.specs.SessionEffects.{SavesIf, ending_after}
-use Rattle.keyline.specs.Sessions.{Given, coming_from, each, screen_by}
+use Rattle.keyline.specs.Desks.{TakesLines, TakesLine}
+use Rattle.keyline.specs.Endings.{ending_of, reason_to_end}
+use Rattle.keyline.specs.SessionEffects.{KnownDevices, SavesIf, ending_after}
+use Rattle.keyline.specs.Sessions.{Given, coming_from, each, screen_by, given_of}
 use Rattle.keyline.specs.declared.desk.Desk.{Desk}
 use Rattle.keyline.specs.declared.session.TheConstants.{KILL_RING_SIZE}
 use Rattle.keyline.specs.declared.session.Beginning.{Beginning}
 use Rattle.keyline.specs.declared.session.Ended.{Ended}
 use Rattle.keyline.specs.declared.session.Unopened.{Unopened}
+use Rattle.keyline.specs.declared.builder.SessionBuilder.{SessionBuilder}
+use Rattle.keyline.specs.declared.editor.LineEditor.{LineEditor}
+use Rattle.keyline.specs.declared.session.Session.{Session}
+
+-- ---- building
+
+-- these settings with no bindings and no helper, a history that begins empty, and sinks
+-- that haven't failed for lines and history. Each builder sets the columns itself
+pub record HasDefaults {F S H D L T B : Type 0} (feed : F → Feed) (lines_failed : L → Bool)
+    (text_failed : T → Bool) (config : Config) (b : SessionBuilder F S H D L T B) : Type 0 where
+  pub config_is : b.config ≡ config
+  pub bindings_are : b.bindings ≡ []
+  pub helper_is : b.helper ≡ None
+  pub prompt_is : b.prompt.now ≡ codes "> "
+  pub history_is : feed b.history ≡ fresh_feed [] End
+  pub lines_work : lines_failed b.lines ≡ false
+  pub text_works : text_failed b.text ≡ false
+
+-- the same with these parts, some of which may be of other types
+abbrev pub builder_with : {F G S H I D L M T U B C : Type 0} → SessionBuilder F S H D L T B → G
+    → Option I → List (Event × C) → M → U → SessionBuilder G S I D M U C
+builder_with b history helper bindings lines text = record {
+  alloc = b.alloc;
+  config = b.config;
+  bindings = bindings;
+  history = history;
+  helper = helper;
+  prompt = b.prompt;
+  source = b.source;
+  columns = b.columns;
+  display = b.display;
+  lines = lines;
+  text = text;
+}
 
 -- ---- opening
 
@@ -69,8 +108,7 @@ pub record BeginsSession (Told : Type 0) (config : Config) (prompt : List ℕ) (
 -- no session was opened: some of the history's text may have been read, and all other devices are
 -- as they were passed in
 pub record Unopens {F S D L T : Type 0} (feed : F → Feed) (config : Config) (history : F)
-    (source : S) (display : D) (lines : L) (text : T) (unopened : Unopened F S D L T)
-    : Type 0 where
+    (source : S) (display : D) (lines : L) (text : T) (unopened : Unopened F S D L T) : Type 0 where
   pub fault : LoadRefused config (feed history) (feed unopened.history) unopened.why
   pub remains : Remains (feed history) (feed unopened.history)
   pub source_is : unopened.source ≡ source
@@ -94,6 +132,73 @@ pub record Opens {F S H D L : Type 0} (text : F → Feed) (feed : S → Feed) (c
   pub display_is : sink_of desk.out ≡ display
   pub helper_is : desk.helper ≡ helper
   pub lines_are : desk.lines ≡ lines
+
+module _ {S H D L T B : Type 0} where
+  -- ---- its parts
+
+  -- the state that is passed from line to line, with the devices
+  abbrev pub desk_of : Session S H D L T B → Desk S H D L
+  desk_of s = s.desk
+
+  abbrev pub history_of : Session S H D L T B → Filed
+  history_of s = s.desk.history
+
+  -- the sink of the history's text
+  abbrev pub text_sink : Session S H D L T B → T
+  text_sink s = s.text
+
+  -- its own prompt
+  abbrev pub prompt_of : Session S H D L T B → List ℕ
+  prompt_of s = string_bytes s.prompt
+
+  -- what it passes in for a line after this prompt, with the meanings of its bindings and the
+  -- replies of its helper
+  abbrev pub given_in : (B → Meaning) → (Option H → Helping) → List ℕ → Session S H D L T B → Given
+  given_in means helps prompt s = given_of s.config (custom_of s.bindings means) prompt
+      (screen_of s.desk.out) (helps s.desk.helper)
+
+  -- it has what was passed in for all its lines
+  pub record HasGiven (config : Config) (bindings : List (Event × B)) (prompt : List ℕ) (text : T)
+      (s : Session S H D L T B) : Type 0 where
+    pub config_is : s.config ≡ config
+    pub bindings_are : s.bindings ≡ bindings
+    pub prompt_is : prompt_of s ≡ prompt
+    pub text_is : s.text ≡ text
+
+  -- ---- its calls
+
+  -- the relation of a requested line: the desk takes it, and all else stays as it was
+  pub record ReadsNext (k : KnownDevices S D L) (given : Session S H D L T B → Given)
+      (old new : Session S H D L T B) (result : Result (List ℕ) ReadlineError) : Type 0 where
+    pub takes : TakesLine k (given old) (given new) old.desk new.desk result
+    pub others : new ≡ record old { desk = new.desk }
+
+  -- the screen is changed so, as to rows of other columns, and all else is as it was
+  pub record SetsScreen (change : Screen → Screen) (old new : Session S H D L T B) : Type 0 where
+    pub screen : screen_of new.desk.out ≡ change (screen_of old.desk.out)
+    pub display : sink_of new.desk.out ≡ sink_of old.desk.out
+    pub others : new ≡ record old { desk = record old.desk { out = new.desk.out } }
+
+  abbrev pub with_entry : List ℕ → Session S H D L T B → Session S H D L T B
+  with_entry line s =
+      record s { desk = record s.desk { history = history_with_line (history_of s) line } }
+
+  abbrev pub with_helper : Option H → Session S H D L T B → Session S H D L T B
+  with_helper helper s = record s { desk = record s.desk { helper = helper } }
+
+  -- ---- an editor: it reads one line at each call
+
+  -- why there is no further line
+  abbrev pub ending_in : LineEditor S H D L T B → Option ReadlineError
+  ending_in editor = editor.ended
+
+  -- the relation of a call: an editor that has ended returns its error again, and nothing was read,
+  -- drawn or written; otherwise its session read a line
+  abbrev pub EditorReads : KnownDevices S D L → (Session S H D L T B → Given)
+      → LineEditor S H D L T B → LineEditor S H D L T B → Result (List ℕ) ReadlineError → Type 0
+  EditorReads k given old new result = MatchOption (ending_in old)
+      (ReadsNext k given old.session new.session result × (ending_in new ≡ reason_to_end result))
+      (λ why. (result ≡ Err why) × (new ≡ old))
 
 -- ---- running
 
@@ -119,16 +224,12 @@ abbrev pub text_to_save : {T : Type 0} → (T → List ℕ) → (T → Bool) →
 text_to_save held failed text = cond (failed text) [] (held text)
 
 module _ {S H D L T : Type 0} (k : KnownDevices S D L) (held : T → List ℕ) (failed : T → Bool) where
-  -- lines until one fails, and then the session's end. Display, lines and history are what the
-  -- session's events make of them, and each moment is shown
-  pub record Runs (asked : Bool) (g : Given) (desk : Desk S H D L) (text : T)
+  -- the relation of `run`: lines until one fails, and then the session's end. Display, lines and
+  -- history are what the session's events make of them, and each moment is shown
+  pub record RunsSession (asked : Bool) (g : Given) (desk : Desk S H D L) (text : T)
       (ended : Ended S D L T) : Type 0 where
     -- the desk as the lines left it, and why there was no further line
     pub last : Desk S H D L
     pub why : ReadlineError
     pub takes : TakesLines k g (each g) desk last why
     pub finishes : Finishes k.feed held failed asked last text why ended
-
-  -- the relation of `run`
-  abbrev pub RunsSession : Given → Desk S H D L → T → Ended S D L T → Type 0
-  RunsSession = Runs true
