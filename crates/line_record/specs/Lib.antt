@@ -1,6 +1,5 @@
 pub mod Change
 pub mod RecordCourse
-pub mod Gap
 pub mod Held
 pub mod Items
 pub mod Laws
