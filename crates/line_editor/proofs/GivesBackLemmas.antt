@@ -17,7 +17,7 @@ use Rattle.line_keys.specs.declared.command.Cmd.TheVariants.{Complete}
 use Rattle.line_record.specs.Change.{Change, undo_place}
 use Rattle.line_record.specs.Change.Change.{Inserted, Replaced}
 use Rattle.line_record.specs.RecordCourse.{record_after_events}
-use Rattle.line_record.specs.Held.{HeldItem, change_of, steps_with_change_if, record_after_event, has_mark, closes, group_with_change, record_after_close, line_back}
+use Rattle.line_record.specs.Held.{HeldItem, change_of, record_after_event, has_mark, closes, group_with_change, record_after_close, line_back}
 use Rattle.line_record.specs.Held.HeldItem.{Opened, Stepped}
 use Rattle.line_record.proofs.GroupLaws.{unchanged}
 use Rattle.line_record.proofs.RecordLaws.{no_mark}
@@ -29,6 +29,7 @@ use Rattle.line_editor.specs.Searching.{begin_search, modal_at_search_start, hit
 use Rattle.line_editor.specs.Values.{Value, Setting, value_with_edit, completion_reply}
 use Rattle.line_editor.specs.declared.modal_state.Act.{Act}
 use Rattle.line_editor.specs.declared.modal_state.Act.TheVariants.{Types, Erases, Goes, Leaves, Ends}
+use Rattle.line_record.proofs.StepLemmas.{steps_with_change_if}
 
 -- ---- an entry put in place of a line is one step
 

@@ -10,13 +10,15 @@ use Rattle.line_buffer.specs.Replay.{Swaps, Replays}
 use Rattle.line_buffer.specs.declared.types.Direction.{Direction}
 use Rattle.line_record.specs.Change.{Change, place_of, old_text_of, new_text_of, text_after_undo, text_with_exchange, StandsAt, StandsIn}
 use Rattle.line_record.specs.Change.Change.{Inserted, Deleted, Replaced}
-use Rattle.line_record.specs.Held.{HeldItem, step_of, steps_with_change, steps_with_change_if, record_after_event, change_of, join_of, is_one_alphanumeric}
-use Rattle.line_record.specs.Items.{Item, Items, items_with_texts, DoneStand, ItemsStand, record_on, ahead_on, items_with_change, items_with_change_if, items_after_event, ahead_after, RecordsEvent, RecordsEventIn}
+use Rattle.line_record.specs.Held.{HeldItem, step_of, record_after_event, change_of, join_of, is_one_alphanumeric}
+use Rattle.line_record.specs.Items.{Item, Items, items_with_texts, DoneStand, ItemsStand, record_on, ahead_on, items_after_event, ahead_after, RecordsEvent, RecordsEventIn, join_of_items, items_with_event}
 use Rattle.line_record.specs.Items.Item.{Open, Lone, Group}
 use Rattle.line_record.specs.LogSteps.{event_of}
 use Rattle.line_record.specs.declared.report.Report.{Report}
 use Rattle.line_record.specs.declared.report.Report.TheVariants as told
 use Rattle.line_record.proofs.Exchange.{exchanged, Joined, joined_right, joined_left}
+use Rattle.line_record.proofs.StepLemmas.{steps_with_change, steps_with_change_if}
+use Rattle.std.specs.Option.{option_map_or}
 
 -- the text before it was changed stands after the change
 pub record Follows (c : Change) (before after : List ℕ) : Type 0 where
@@ -46,7 +48,7 @@ noted_joined e c d items before after (Some g) is f j s = noted_new g items (tex
 noted_joined e c d items before after None is f j s = noted_new c (Lone d ∷ items) before after f s
 
 noted_step : (e : ChangeEvent) (c : Change) (items : List Item) (before after : List ℕ) → Follows c before after → Joins e before after → DoneStand items before
-    → Noted (items_with_change e c items) (steps_with_change e c before (items_with_texts items before)) after
+    → Noted (unwrap_or (join_of_items e items) (Lone c ∷ items)) (steps_with_change e c before (items_with_texts items before)) after
 noted_step e c [] before after f j s = noted_new c [] before after f s
 noted_step e c (Open ∷ items) before after f j s = noted_new c (Open ∷ items) before after f s
 noted_step e c (Group d ds ∷ items) before after f j s = noted_new c (Group d ds ∷ items) before after f s
@@ -146,12 +148,12 @@ Changes e before after None = after ≡ before
 Changes e before after (Some c) = Follows c before after × Joins e before after
 
 noted_any : (e : ChangeEvent) (o : Option Change) (items : List Item) (before after : List ℕ) → Changes e before after o → DoneStand items before
-    → Noted (items_with_change_if e o items) (steps_with_change_if e o before (items_with_texts items before)) after
+    → Noted (option_map_or (λ c. unwrap_or (join_of_items e items) (Lone c ∷ items)) o items) (steps_with_change_if e o before (items_with_texts items before)) after
 unfolding Changes
 noted_any e None items before after h s = record { stand = subst (DoneStand items) (sym h) s; held = ap (items_with_texts items) h }
 noted_any e (Some c) items before after h s = noted_step e c items before after h.0 h.1 s
 
-recorded_told : (e : ChangeEvent) (s : Items) (before after : List ℕ) → Noted (items_with_change_if e (change_of e) s.done) (record_after_event e before (items_with_texts s.done before)) after → ahead_after e (ahead_on s before) ≡ []
+recorded_told : (e : ChangeEvent) (s : Items) (before after : List ℕ) → Noted (items_with_event e s.done) (record_after_event e before (items_with_texts s.done before)) after → ahead_after (ahead_on s before) e ≡ []
     → RecordsEvent e before after s (items_after_event e s)
 recorded_told e s before after n a = record { stand = (n.stand, tt); held = n.held; ahead = sym a }
 
@@ -193,7 +195,7 @@ unfolding Changes
 changes_char at c before after u w = (swapped (Inserted at (encode_utf8 c)) before after u w, joins_char at c before after u w)
 
 recorded_same : (e : ChangeEvent) (s : Items) (before after : List ℕ) → ItemsStand s before → after ≡ before → record_after_event e before (record_on s before) ≡ record_on s before
-    → ahead_after e (ahead_on s before) ≡ ahead_on s before → RecordsEvent e before after s s
+    → ahead_after (ahead_on s before) e ≡ ahead_on s before → RecordsEvent e before after s s
 recorded_same e s before after h i r a = record {
   stand = subst (ItemsStand s) (sym i) h;
   held = ap (record_on s) i ∙ sym r;

@@ -4,8 +4,9 @@ use Rattle.line_buffer.specs.declared.types.Mode.TheVariants.{Append, Prepend}
 use Rattle.line_record.specs.declared.kill_ring.Action.TheVariants.{Other}
 use Rattle.line_buffer.specs.Event.ChangeEvent.{StartKilling, StopKilling, Delete, InsertChar}
 use Rattle.line_buffer.specs.declared.types.Direction.TheVariants.{Forward, Backward}
-use Rattle.line_record.specs.Ring.{RingCall, no_kills, all_kills_after, ring_after_all, newest_first, Ring, new_ring, ring_with_kill, ring_after_yank, ring_after_turn, yank_exchange}
+use Rattle.line_record.specs.Ring.{RingCall, no_kills, newest_first, Ring, new_ring, ring_with_kill, ring_after_yank, ring_after_turn, yank_exchange, kills_after, ring_after}
 use Rattle.line_record.specs.Ring.RingCall.{Taken, Heard, Ended, Lent}
+use Rattle.std.specs.List.{fold}
 
 abbrev ended_run : Ring → Ring
 ended_run r = record r { last = Other }
@@ -44,8 +45,8 @@ three_runs = Taken (codes "b") Append ∷ (Taken (codes "a") Prepend ∷ (Ended 
 
 -- the runs are three: a ring of two holds the last two, a larger one all
 runs_held :
-    ((all_kills_after three_runs no_kills).runs ≡ codes "de" ∷ (codes "c" ∷ (codes "ab" ∷ [])))
-    × (newest_first (ring_after_all three_runs (new_ring 2)) ≡ codes "de" ∷ (codes "c" ∷ []))
-    × (newest_first (ring_after_all three_runs (new_ring 5)) ≡ codes "de" ∷ (codes "c" ∷ (codes "ab" ∷ [])))
-unfolding three_runs all_kills_after ring_after_all
+    ((fold kills_after no_kills three_runs).runs ≡ codes "de" ∷ (codes "c" ∷ (codes "ab" ∷ [])))
+    × (newest_first (fold ring_after (new_ring 2) three_runs) ≡ codes "de" ∷ (codes "c" ∷ []))
+    × (newest_first (fold ring_after (new_ring 5) three_runs) ≡ codes "de" ∷ (codes "c" ∷ (codes "ab" ∷ [])))
+unfolding three_runs
 runs_held = (refl, refl, refl)

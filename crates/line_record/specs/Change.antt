@@ -71,9 +71,14 @@ abbrev pub all_made_anew : List Change → List ℕ → List ℕ
 all_made_anew [] text = text
 all_made_anew (c ∷ cs) text = all_made_anew cs (text_after_redo c text)
 
+-- P holds of each of several parts, on the text to which those before it lead
+abbrev pub AllAlong : {A : Type 0} → (A → List ℕ → Type 0) → (A → List ℕ → List ℕ) → List A
+    → List ℕ → Type 0
+AllAlong P lead [] text = Unit {0}
+AllAlong P lead (x ∷ xs) text = P x text × AllAlong P lead xs (lead x text)
+
 abbrev pub AllFitIn : List Change → List ℕ → Type 0
-AllFitIn [] text = Unit {0}
-AllFitIn (c ∷ cs) text = FitsIn c text × AllFitIn cs (text_after_redo c text)
+AllFitIn cs text = AllAlong FitsIn text_after_redo cs text
 
 -- the newest of several changes
 abbrev pub newest_of : Change → List Change → Change

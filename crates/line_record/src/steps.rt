@@ -52,7 +52,7 @@ impl Steps {
     ghost use Rattle.std.specs.Prelude.{◌≡◌, ◌+◌, ◌<◌, ◌≤◌, ◌++◌, true, [], ◌∷◌, length, take, drop, reverse, slice_get, slice_index_or, IfOk, OnOk, OnErr, Some, is_some, option_map, option_copied};
     ghost use Rattle.line_record.specs.Change.{AllStandIn, AllFitIn};
     ghost use Rattle.line_record.specs.Held.{change_of};
-    ghost use Rattle.line_record.specs.Items.{changes_of, is_step_item, changes_of_all, group_of, join_of_items, items_with_change_if, TakesBack, MakesAnew};
+    ghost use Rattle.line_record.specs.Items.{changes_of, is_step_item, changes_of_all, group_of, join_of_items, items_with_event, TakesBack, MakesAnew};
     ghost use Rattle.line_record.specs.Items.Item.{Open, Lone};
     ghost use Rattle.line_record.specs.LogSteps.{JoinedIn, event_of, is_open, item_inserted};
 
@@ -112,8 +112,8 @@ impl Steps {
     /// can be joined.
     pub fn note(&mut self, n: usize, report: Report<'_>) -> Result<(), OutOfMemory>
         requires { n ≤ length self.old }
-        ensures ok { OnOk result (reverse self.new ≡ items_with_change_if (event_of report.entry)
-            (change_of (event_of report.entry)) (reverse (take n self.old))) }
+        ensures ok { OnOk result (reverse self.new ≡ items_with_event (event_of report.entry)
+            (reverse (take n self.old))) }
         ensures kept { OnErr result (self.new ≡ self.old) }
         ensures some { OnErr result (is_some (change_of (event_of report.entry)) ≡ true) }
     {
