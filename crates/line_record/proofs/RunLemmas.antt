@@ -3,7 +3,7 @@ use Rattle.std.proofs.Common.{◌≡◌, ℕ, List, [], ◌∷◌, refl, sym, ap
 use Rattle.line_buffer.specs.Event.{ChangeEvent}
 use Rattle.line_buffer.specs.Event.ChangeEvent.{StartKilling, StopKilling}
 use Rattle.line_buffer.specs.Replay.{text_after_event, text_after_events, Swaps, Replays, TakesAll, Reports, StopsAmong, wants_or}
-use Rattle.line_record.specs.Held.{HeldItem, Undone, record_after_event}
+use Rattle.line_record.specs.Held.{HeldItem, record_after_event}
 use Rattle.line_record.specs.Items.{Items, ItemsStand, record_on, ahead_on, ahead_after, RecordsEventIn, record_refuses}
 use Rattle.line_record.specs.RecordCourse.{record_after_events}
 use Rattle.line_buffer.proofs.ReplayedLemmas.{replayed_all-none, replayed_all-first}

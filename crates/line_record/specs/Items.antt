@@ -1,6 +1,6 @@
 -- The record's value: the changes done and undone, each side nearest first, and the texts that they
 -- stand for on a line's text. Also the effect of undo and redo on the record and its line.
-use Rattle.std.specs.Prelude.{◌≡◌, ◌<◌, ◌≤◌, ℕ, Bool, true, false, List, [], ◌∷◌, ◌++◌, drop, length, Option, Some, None, is_some, option_map, unwrap_or, slice_get, IsUtf8, take, reverse, flat_map, Result, IfOk, OnOk, OnErr}
+use Rattle.std.specs.Prelude.{◌≡◌, ◌<◌, ◌≤◌, ℕ, Bool, true, false, List, [], ◌∷◌, ◌++◌, drop, length, Option, None, is_some, option_map, unwrap_or, slice_get, IsUtf8, take, reverse, flat_map, Result, IfOk, OnOk, OnErr}
 use Rattle.line_buffer.specs.Event.{ChangeEvent}
 use Rattle.line_buffer.specs.Event.ChangeEvent.{StartKilling, StopKilling}
 use Rattle.line_buffer.specs.Line.{Line}
