@@ -6,7 +6,7 @@ use Rattle.std.proofs.lemmas.List.{take-append-drop, take-take, take_at, drop_at
 use Rattle.line_record.specs.Change.{Change}
 use Rattle.line_record.specs.Items.{Item, Items, items_with_texts, DoneStand, changes_of_all, group_of, EndedBy}
 use Rattle.line_record.specs.Items.Item.{Open}
-use Rattle.line_record.specs.LogSteps.{record_of, oldest_mark, IsRecord, mark_within}
+use Rattle.line_record.specs.Log.{record_of, oldest_mark, IsRecord, mark_within}
 use Rattle.line_record.proofs.EndLemmas.{EndedAs, has_open, gather, gather-reverse, closing, unmarked, ended_nothing, mark_none, none_marked}
 use Rattle.line_record.proofs.StepsLemmas.{newest_item}
 use Rattle.line_record.proofs.StepLemmas.{first_items}

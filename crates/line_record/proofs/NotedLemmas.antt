@@ -13,7 +13,7 @@ use Rattle.line_record.specs.Change.Change.{Inserted, Deleted, Replaced}
 use Rattle.line_record.specs.Held.{HeldItem, step_of, record_after_event, change_of, join_of, is_one_alphanumeric}
 use Rattle.line_record.specs.Items.{Item, Items, items_with_texts, DoneStand, ItemsStand, record_on, ahead_on, items_after_event, ahead_after, RecordsEvent, RecordsEventIn, join_of_items, items_with_event}
 use Rattle.line_record.specs.Items.Item.{Open, Lone, Group}
-use Rattle.line_record.specs.LogSteps.{event_of}
+use Rattle.line_record.specs.Log.{event_of}
 use Rattle.line_record.specs.declared.report.Report.{Report}
 use Rattle.line_record.specs.declared.report.Report.TheVariants as told
 use Rattle.line_record.proofs.Exchange.{exchanged, Joined, joined_right, joined_left}

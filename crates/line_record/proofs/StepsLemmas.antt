@@ -9,10 +9,9 @@ use Rattle.line_record.specs.Change.{Change}
 use Rattle.line_buffer.specs.Event.{ChangeEvent}
 use Rattle.line_record.specs.Change.Change.{Inserted}
 use Rattle.line_record.specs.Held.{join_of, text_inserted_by}
-use Rattle.line_record.specs.Logged.{join_at, Adjoin, place_of_span}
+use Rattle.line_record.specs.Log.{join_at, Adjoin, place_of_span, item_in, items_in, AreSteps, item_from, item_inserted, is_open}
 use Rattle.line_record.specs.Items.{Item, changes_of, changes_of_all, group_of, join_of_items}
 use Rattle.line_record.specs.Items.Item.{Open, Lone}
-use Rattle.line_record.specs.LogSteps.{item_in, items_in, AreSteps, item_from, item_inserted, is_open}
 use Rattle.line_record.proofs.EndLemmas.{changes_of-item_from, group_pushed}
 use Rattle.line_record.proofs.LogLemmas.{joined_at_is}
 use Rattle.line_record.proofs.StoredLemmas.{before_last, inserted_last}

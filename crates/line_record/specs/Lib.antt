@@ -3,8 +3,7 @@ pub mod RecordCourse
 pub mod Held
 pub mod Items
 pub mod Laws
-pub mod Logged
+pub mod Log
 pub mod Ring
 pub mod RingLends
-pub mod LogSteps
 pub mod Together

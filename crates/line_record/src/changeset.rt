@@ -21,7 +21,7 @@ impl Model for Changeset {
 
     ghost Value = { Items };
 
-    ghost use Rattle.line_record.specs.LogSteps.{record_of, IsRecord};
+    ghost use Rattle.line_record.specs.Log.{record_of, IsRecord};
 
     ghost view = { λ c. record_of c.steps c.done };
 
@@ -34,7 +34,7 @@ impl Changeset {
     ghost use Rattle.line_buffer.specs.declared.types.Direction.TheVariants.{Forward};
     ghost use Rattle.line_record.specs.Held.{record_after_close, closes, last_inserted, text_back};
     ghost use Rattle.line_record.specs.Items.{no_items, Open, items_after_event, ItemsStand, RecordsEventIn, record_refuses, record_on};
-    ghost use Rattle.line_record.specs.LogSteps.{event_of};
+    ghost use Rattle.line_record.specs.Log.{event_of};
 
     /// An empty record. It allocates nothing yet and never fails. It returns a `Result` like
     /// rustyline's other constructors of the editor's parts, which may all run out of memory.
@@ -203,9 +203,9 @@ impl Changeset {
     }
 }
 
-ghost use Rattle.std.specs.Prelude.{◌≡◌, ℕ, List, take, reverse, None};
+ghost use Rattle.std.specs.Prelude.{◌≡◌, ℕ, List, take, reverse, None, Some, unwrap_or, if◌then◌else◌};
 ghost use Rattle.line_record.specs.Items.{EndedBy};
-ghost use Rattle.line_record.specs.LogSteps as marked;
+ghost use Rattle.line_record.specs.Log as marked;
 
 /// Closes the open marks of the first `done` steps; `mark` is the oldest of them. Returns false if
 /// nothing was recorded since.
@@ -226,7 +226,7 @@ fn close(steps: &mut Steps, done: usize, mark: Option<usize>) -> bool
 
 /// The oldest mark after one more item, which has `before` items before it.
 pub(crate) fn mark_with(mark: Option<usize>, is_mark: bool, before: usize) -> Option<usize>
-    ensures { result ≡ marked.mark_with mark is_mark before }
+    ensures { result ≡ (if is_mark then Some (unwrap_or mark before) else mark) }
 {
     if is_mark { mark.or(Some(before)) } else { mark }
 }
