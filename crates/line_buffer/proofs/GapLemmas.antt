@@ -7,7 +7,7 @@ use Rattle.std.proofs.lemmas.List.Edits.{length-between}
 use Rattle.std.proofs.Math.Seq.{take-append_seam, drop-append_seam, drop-append-add}
 use Rattle.line_buffer.specs.declared.types.Direction.TheVariants.{Forward}
 use Rattle.line_buffer.specs.Line.{Line}
-use Rattle.line_buffer.specs.Replay.{Swaps, deletion, insertion, place_after_event, line_after_event}
+use Rattle.line_buffer.specs.Event.{Swaps, deletion, insertion, place_after_event, line_after_event}
 
 pub insert_at_seam : (xs ys zs : List ℕ) → (xs ++ zs) ++ ys ≡ insert_slice (xs ++ ys) (length xs) zs
 insert_at_seam xs ys zs =
@@ -24,10 +24,12 @@ remove_at_seam xs ys n le =
 pub swaps_replacement : (from upto : ℕ) (added before after : List ℕ) → from ≤ upto → IsCharBoundary before from → IsCharBoundary before upto → IsUtf8 added → after ≡ replace_range before from upto added
     → Swaps from (slice_range before from upto) added before after
 swaps_replacement from upto added before after le b e u is = record {
-  start = b;
-  end = subst (IsCharBoundary before) (sym end) e;
-  stands = ap (slice_range before from) end;
-  text = u;
+  stands = record {
+    start = b;
+    end = subst (IsCharBoundary before) (sym end) e;
+    bytes = ap (slice_range before from) end;
+    utf8 = u;
+  };
   becomes = is ∙ ap (λ n. replace_range before from n added) (sym end);
 }
   where

@@ -4,11 +4,10 @@ use Rattle.std.specs.List.{repeat}
 use Rattle.std.proofs.lemmas.List.{length-append, append-nil}
 use Rattle.std.proofs.lemmas.Bool.Decides.{nat_tests}
 use Rattle.std.proofs.lemmas.Str.{IsCharBoundary-start}
-use Rattle.line_buffer.specs.Event.{ChangeEvent}
+use Rattle.line_buffer.specs.Event.{ChangeEvent, insertion}
 use Rattle.line_buffer.specs.Event.ChangeEvent.{InsertChar}
 use Rattle.line_buffer.specs.Insertions.{last_cut, is_inside_char, has_room, with_text_at_cursor, no_insertion, insertion_by, insertion_of, insert, Insertion, yank}
 use Rattle.line_buffer.specs.Line.{Line}
-use Rattle.line_buffer.specs.Replay.{insertion}
 
 inside : (text : List ℕ) (n : ℕ) → n ≤ length text → (IsCharBoundary text n → ⊥) → is_inside_char text n ≡ true
 inside text n le never = grind (arith, nat_tests)

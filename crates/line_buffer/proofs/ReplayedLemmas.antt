@@ -7,13 +7,12 @@ use Rattle.line_buffer.specs.declared.range.TextSpan.{TextSpan}
 use Rattle.line_buffer.specs.declared.types.Direction.{Direction}
 use Rattle.line_buffer.specs.declared.types.Direction.TheVariants.{Forward}
 use Rattle.line_buffer.specs.declared.types.Movement.{Movement}
-use Rattle.line_buffer.specs.Event.{ChangeEvent}
+use Rattle.line_buffer.specs.Event.{ChangeEvent, deletion, insertion, replacement, text_after_event, text_after_events, line_after_event, line_after_events}
 use Rattle.line_buffer.specs.Event.ChangeEvent.{StartKilling, StopKilling}
 use Rattle.line_buffer.specs.Indent.{indent}
 use Rattle.line_buffer.specs.Insertions.{text_that_fits, update, insert, yank, without_before, yank_pop}
 use Rattle.line_buffer.specs.Line.{Line}
 use Rattle.line_buffer.specs.Range.{IsSpanOf, range_of, deletion_events, deletion_line, kill_events, kill, goes_by_clusters}
-use Rattle.line_buffer.specs.Replay.{deletion, insertion, replacement, text_after_event, text_after_events, line_after_event, line_after_events}
 use Rattle.line_buffer.proofs.InsertionLemmas.{insert_cases, yank_cases}
 
 pub replayed_all-append : (es fs : List ChangeEvent) (a : List ℕ) → text_after_events (es ++ fs) a ≡ text_after_events fs (text_after_events es a)

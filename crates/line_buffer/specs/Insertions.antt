@@ -3,9 +3,8 @@ use Rattle.std.specs.Prelude.{⊤, ℕ, zero, suc, ◌+◌, ◌-◌, ◌==◌, B
 use Rattle.std.specs.List.{insert_slice, repeat}
 use Rattle.line_buffer.specs.declared.types.Direction.TheVariants.{Forward}
 use Rattle.line_buffer.specs.Edit.{Edit}
-use Rattle.line_buffer.specs.Event.{ChangeEvent, InsertChar}
+use Rattle.line_buffer.specs.Event.{ChangeEvent, InsertChar, deletion, insertion}
 use Rattle.line_buffer.specs.Line.{Line, without_range}
-use Rattle.line_buffer.specs.Replay.{deletion, insertion}
 
 -- the byte at a place continues the character before it
 abbrev pub is_inside_char : List ℕ → ℕ → Bool

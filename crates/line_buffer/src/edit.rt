@@ -29,7 +29,7 @@ impl LineBuffer {
     ghost use Rattle.std.specs.List.{insert_slice};
     ghost use Rattle.line_buffer.specs.Edit.{ChangesLine};
     ghost use Rattle.line_buffer.specs.Line.{with_replacement, without_range, with_text_at};
-    ghost use Rattle.line_buffer.specs.Replay.{deletion, insertion, replacement, wants_or};
+    ghost use Rattle.line_buffer.specs.Event.{deletion, insertion, replacement, wants_or};
     ghost use Rattle.line_buffer.specs.declared.types.Direction.TheVariants.{Forward};
 
     /// Puts `text` in place of a range, with the cursor after it. The range is in bytes and must

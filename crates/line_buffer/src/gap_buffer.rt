@@ -41,7 +41,7 @@ impl<'a> Model for GapBuffer<'a> {
 impl<'a> GapBuffer<'a> {
     ghost use Rattle.std.specs.Prelude.{◌≡◌, ◌+◌, ◌≤◌, length, drop, IfOk, OnOk, OnErr, IsUtf8, IsCharBoundary};
     ghost use Rattle.line_buffer.specs.declared.types.Direction.TheVariants.{Forward};
-    ghost use Rattle.line_buffer.specs.Replay.{Replays, deletion, insertion, wants_or, line_after_event};
+    ghost use Rattle.line_buffer.specs.Event.{Replays, deletion, insertion, wants_or, line_after_event};
 
     /// The gap before a whole line.
     pub(crate) fn new(alloc: Global, line: &'a LineBuffer) -> Result<Self, OutOfMemory>

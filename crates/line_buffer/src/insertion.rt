@@ -43,7 +43,7 @@ impl LineBuffer {
     ghost use Rattle.line_buffer.specs.Edit.{EditsLine, ChangesLine};
     ghost use Rattle.line_buffer.specs.Event.ChangeEvent.{InsertChar};
     ghost use Rattle.line_buffer.specs.Insertions.{has_room, text_that_fits, update, with_text_at_cursor, insertion_by, insertion_of, can_take_before, without_before, insert, yank, yank_pop};
-    ghost use Rattle.line_buffer.specs.Replay.{deletion, insertion, wants_or};
+    ghost use Rattle.line_buffer.specs.Event.{deletion, insertion, wants_or};
 
     /// Whether `count` more bytes fit, for the calls that respect the limit.
     fn has_room(&self, count: usize) -> bool

@@ -3,7 +3,7 @@ use Rattle.std.specs.Prelude.{⊤, Option, Some, None, is_some, option_map, Resu
 use Rattle.std.proofs.Common.{◌≡◌, ◌⊎◌, inl, inr, ℕ, true, List, map, refl, sym, ap, subst, ◌∙◌}
 use Rattle.std.proofs.lemmas.Simd.{map-map}
 use Rattle.line_buffer.specs.Line.{Line}
-use Rattle.line_buffer.specs.Replay.{replacement}
+use Rattle.line_buffer.specs.Event.{replacement}
 use Rattle.line_config.specs.declared.errors.ReadlineError.{ReadlineError}
 use Rattle.line_config.specs.declared.errors.ReadlineError.TheVariants.{Memory}
 use Rattle.line_config.specs.declared.errors.HookFault.{HookFault}

@@ -11,7 +11,7 @@ use Rattle.std.proofs.lemmas.List.Sums.{AllPass-from_list_all}
 use Rattle.std.proofs.lemmas.Str.{IsCharBoundary-from_ascii}
 use Rattle.std.proofs.lemmas.Str.Ascii.{IsAscii-from_all}
 use Rattle.line_buffer.specs.declared.layout.Position.{Position}
-use Rattle.line_buffer.specs.Event.{ChangeEvent}
+use Rattle.line_buffer.specs.Event.{ChangeEvent, insertion as told_insertion}
 use Rattle.line_buffer.specs.Event.ChangeEvent.{InsertChar}
 use Rattle.line_buffer.specs.Clusters.{place_forward}
 use Rattle.line_buffer.specs.Insertions.{no_insertion, has_room, with_text_at_cursor, insertion_by, insertion_of, without_before, insert as insertion, yank as yanked_in}
@@ -21,7 +21,6 @@ use Rattle.line_edits.specs.Edits.{clusters_after, replace_group, replace_group_
 use Rattle.line_edits.proofs.StepLemmas.{overwrite_steps_to}
 use Rattle.line_edits.specs.WriteSteps.{with_answer, no_steps, effect_of_steps}
 use Rattle.line_edits.specs.Written.{Written}
-use Rattle.line_buffer.specs.Replay.{insertion as told_insertion}
 use Rattle.line_buffer.specs.Printable.{is_plain_byte, is_plain}
 use Rattle.line_editor.specs.KnownPlaces.{IsKnown, known_within}
 

@@ -1,12 +1,11 @@
 -- Events, marks and undos leave a record that reaches the same text.
 use Rattle.std.proofs.Common.{◌≡◌, ℕ, zero, suc, Bool, true, false, List, [], ◌∷◌, drop, Option, Some, None, refl, sym, subst, if◌then◌else◌, IsUtf8, IsCharBoundary}
 use Rattle.std.specs.Prelude.{option_map, unwrap_or}
-use Rattle.line_buffer.specs.Event.{ChangeEvent}
+use Rattle.line_buffer.specs.Event.{ChangeEvent, text_after_event, text_after_events}
 use Rattle.line_buffer.specs.Indent.{indent as indented_in}
 use Rattle.line_buffer.specs.Insertions.{update as updated_in, insert as insertion, yank as yanked_in}
 use Rattle.line_buffer.specs.Line.{Line}
 use Rattle.line_buffer.specs.Range.{kill_events, kill as killed_in}
-use Rattle.line_buffer.specs.Replay.{text_after_event, text_after_events}
 use Rattle.line_buffer.specs.Transpositions.{transpose_chars as transposed_in}
 use Rattle.line_buffer.specs.declared.types.Movement.{Movement}
 use Rattle.line_buffer.proofs.ReplayedLemmas.{update_replayed, insert_replayed, yank_replayed, indent_replayed}

@@ -10,7 +10,7 @@ use Rattle.line_buffer.specs.Clusters.{place_forward}
 use Rattle.line_buffer.specs.Line.{with_text_at, with_replacement}
 use Rattle.line_buffer.specs.LetterCase.{edit_word as recased_in}
 use Rattle.line_buffer.specs.Range.{range_of, deletion_events, deletion_line}
-use Rattle.line_buffer.specs.Replay.{insertion as told_insertion, replacement, text_after_event}
+use Rattle.line_buffer.specs.Event.{insertion as told_insertion, replacement, text_after_event}
 use Rattle.line_buffer.specs.Transpositions.{transpose_chars as transposed_in, transpose_words as exchanged_in}
 use Rattle.line_buffer.specs.declared.types.Movement.TheVariants.{ForwardChar}
 use Rattle.line_buffer.specs.declared.types.WordAction.{WordAction}

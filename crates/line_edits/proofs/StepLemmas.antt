@@ -3,9 +3,8 @@ use Rattle.std.proofs.Common.{◌≡◌, ℕ, Bool, true, false, Option, List, [
 use Rattle.std.proofs.lemmas.Result.{on_err_weaker}
 use Rattle.std.specs.Option.{option_map_or}
 use Rattle.line_buffer.specs.Edit.{StopsAt}
-use Rattle.line_buffer.specs.Event.{ChangeEvent}
+use Rattle.line_buffer.specs.Event.{ChangeEvent, TellsOfChange, Reports, wants_or, line_after_events}
 use Rattle.line_buffer.specs.Line.{Line}
-use Rattle.line_buffer.specs.Replay.{TellsOfChange, Reports, wants_or, line_after_events}
 use Rattle.line_buffer.proofs.LeftLemmas.{stopped_first}
 use Rattle.line_record.specs.Items.{Items, ItemsStand, RecordsEventIn, record_refuses, record_on}
 use Rattle.line_record.specs.RecordCourse.{record_after_events}

@@ -8,7 +8,7 @@ use Rattle.line_buffer.specs.Insertions.{update, insert, yank, yank_pop}
 use Rattle.line_buffer.specs.LetterCase.{edit_word}
 use Rattle.line_buffer.specs.Line.{Line, with_cursor_at, with_text_at, with_replacement, text_after}
 use Rattle.line_buffer.specs.Range.{goes_by_clusters, delete, kill, kill_events}
-use Rattle.line_buffer.specs.Replay.{insertion, replacement}
+use Rattle.line_buffer.specs.Event.{insertion, replacement}
 use Rattle.line_buffer.specs.Transpositions.{transpose_chars, transpose_words, before_transposed}
 use Rattle.line_buffer.specs.declared.types.Movement.{Movement}
 use Rattle.line_buffer.specs.declared.types.WordAction.{WordAction}

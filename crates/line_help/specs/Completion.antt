@@ -1,9 +1,8 @@
 -- A completer's answer: where the word starts, and what may replace it; and an update of the line.
 use Rattle.std.specs.Prelude.{◌≡◌, ◌⊎◌, ℕ, List, [], map, Result, OnOk, OnErr, ◌==◌, Bool, false, if◌then◌else◌, ◌∷◌, length, reverse, Option, Some, None, encode_utf8_all, take, nat_eq, ◌≢◌, IsTrue, ◌++◌, IsUtf8, All, filter, drop, nat_lt}
 use Rattle.std.specs.Global.{Vec}
-use Rattle.line_buffer.specs.Event.{ChangeEvent}
+use Rattle.line_buffer.specs.Event.{ChangeEvent, Replays, replacement}
 use Rattle.line_buffer.specs.Line.{Line, with_replacement}
-use Rattle.line_buffer.specs.Replay.{Replays, replacement}
 use Rattle.std.specs.List.{list_any, common_prefix_len, starts_with}
 use Rattle.std.specs.Str.{chars}
 use Rattle.line_buffer.specs.Insertions.{last_cut}

@@ -5,9 +5,10 @@ use Rattle.std.proofs.lemmas.List.{append-nil, drop_all, take_all, take_at, take
 use Rattle.std.proofs.lemmas.Str.{IsUtf8-drop, IsCharBoundary-at_seam}
 use borrow.Rule.Slice.PartMut.{post_of}
 use Rattle.line_buffer.specs.Line.{Line}
-use Rattle.line_record.specs.Change.{Change, StandsAt, text_with_exchange}
+use Rattle.line_record.specs.Change.{Change, text_with_exchange}
 use Rattle.line_record.specs.Items.{Items, line_after_undo, line_after_redo, lines_back, lines_ahead, UndoesItems, last_changes}
 use Rattle.line_record.proofs.Exchange.{exchanged}
+use Rattle.line_buffer.specs.Event.{StandsAt}
 
 -- the bytes before a gap, and those after it in reverse
 abbrev pub text_around_gap : List ℕ → List ℕ → List ℕ

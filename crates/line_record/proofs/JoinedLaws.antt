@@ -1,7 +1,6 @@
 -- Two listeners, the last of which is a record.
 use Rattle.std.proofs.Common.{◌≡◌, List, refl, ap, ◌∙◌, inl, inr, ℕ, IsUtf8}
-use Rattle.line_buffer.specs.Event.{ChangeEvent}
-use Rattle.line_buffer.specs.Replay.{Reports, StopsAmong}
+use Rattle.line_buffer.specs.Event.{ChangeEvent, Reports, StopsAmong}
 use Rattle.line_buffer.proofs.ReplayLemmas.{stops_wanting}
 use Rattle.line_record.specs.declared.joined.Joined.{Joined}
 use Rattle.line_record.specs.Items.{Items, ItemsStand, RecordsEventIn, record_refuses, record_on, ahead_after}

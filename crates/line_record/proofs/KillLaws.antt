@@ -17,11 +17,11 @@ use Rattle.line_buffer.specs.Event.ChangeEvent.{StartKilling, StopKilling}
 use Rattle.line_buffer.specs.Insertions.{yank, insertion_of, no_insertion, with_text_at_cursor}
 use Rattle.line_buffer.specs.Line.{Line, without_range}
 use Rattle.line_buffer.specs.Range.{range_of, deletion_events, deletion_line, kill_events, kill as killed_in}
-use Rattle.line_buffer.specs.Replay.{insertion}
+use Rattle.line_buffer.specs.Event.{insertion, StandsAt}
 use Rattle.line_buffer.proofs.InsertionLemmas.{one_insertion}
 use Rattle.line_record.specs.declared.kill_ring.Action.{Action}
 use Rattle.line_record.specs.declared.kill_ring.Action.TheVariants.{Other, Kill, Yank}
-use Rattle.line_record.specs.Change.{StandsAt, text_with_exchange}
+use Rattle.line_record.specs.Change.{text_with_exchange}
 use Rattle.line_record.specs.Laws.{is_directed, some_taken, KillsComeBack, after_kill}
 use Rattle.line_record.specs.Ring.{Ring, IsRing, joined_text, slot_after, slots_with_text, ring_with_kill, ring_with_kill_after, mode_of, ring_all}
 use Rattle.line_record.proofs.DirectedLemmas.{Onward, Back, IsDirected, directed}

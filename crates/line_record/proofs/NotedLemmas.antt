@@ -4,11 +4,10 @@ use Rattle.std.specs.Prelude.{option_map, unwrap_or}
 use Rattle.std.proofs.lemmas.Bool.{and_parts}
 use Rattle.std.proofs.lemmas.List.{append-nil, take-append-drop, nil_from_length}
 use Rattle.unicode_segmentation.specs.Segments.{is_alphanumeric}
-use Rattle.line_buffer.specs.Event.{ChangeEvent}
+use Rattle.line_buffer.specs.Event.{ChangeEvent, Swaps, Replays, StandsAt}
 use Rattle.line_buffer.specs.Event.ChangeEvent.{StartKilling, StopKilling, Delete, InsertChar, InsertStr, Replace}
-use Rattle.line_buffer.specs.Replay.{Swaps, Replays}
 use Rattle.line_buffer.specs.declared.types.Direction.{Direction}
-use Rattle.line_record.specs.Change.{Change, place_of, old_text_of, new_text_of, text_after_undo, text_with_exchange, StandsAt, StandsIn}
+use Rattle.line_record.specs.Change.{Change, place_of, old_text_of, new_text_of, text_after_undo, text_with_exchange, StandsIn}
 use Rattle.line_record.specs.Change.Change.{Inserted, Deleted, Replaced}
 use Rattle.line_record.specs.Held.{HeldItem, step_of, record_after_event, change_of, join_of, is_one_alphanumeric}
 use Rattle.line_record.specs.Items.{Item, Items, items_with_texts, DoneStand, ItemsStand, record_on, ahead_on, items_after_event, ahead_after, RecordsEvent, RecordsEventIn, join_of_items, items_with_event}
@@ -64,9 +63,6 @@ follows c before after s u e =
       back = ap (text_after_undo c) e ∙ x.back;
     }
 
-stands_from_swaps : {at : ℕ} {from to before after : List ℕ} → Swaps at from to before after → StandsAt at from to before
-stands_from_swaps s = record { start = s.start; end = s.end; bytes = s.stands; utf8 = s.text }
-
 -- the test of a choice that gives something holds
 some_if : {A : Type 0} (b : Bool) (x g : A) → (if b then Some x else None) ≡ Some g → (b ≡ true) × (x ≡ g)
 some_if true x g e = (refl, cc)
@@ -84,7 +80,7 @@ unfolding Joins
 joins_char at c before after u w (Inserted place text) g e s =
     let h = some_if (is_alphanumeric c && (at == place + length text)) (Inserted place (text ++ encode_utf8 c)) g e in
     let i : at ≡ place + length text = eqb-true at (place + length text) (and_parts (is_alphanumeric c) (at == place + length text) h.0).1 in
-    let t : StandsAt (place + length text) [] (encode_utf8 c) before = subst (λ k. StandsAt k [] (encode_utf8 c) before) i (stands_from_swaps w) in
+    let t : StandsAt (place + length text) [] (encode_utf8 c) before = subst (λ k. StandsAt k [] (encode_utf8 c) before) i w.stands in
     let x : Follows (Inserted place (text ++ encode_utf8 c)) (text_after_undo (Inserted place text) before) after =
     from_joined (Inserted place (text ++ encode_utf8 c)) after (joined_right place [] text [] (encode_utf8 c) before s u t) (w.becomes ∙ ap (λ k. text_with_exchange k [] (encode_utf8 c) before) i) in
     subst (λ y. Follows y (text_after_undo (Inserted place text) before) after) h.1 x
@@ -96,7 +92,7 @@ unfolding Joins
 joins_replacement at removed added before after u w (Replaced place was is) g e s =
     let h = some_if (at == place + length is) (Replaced place (was ++ removed) (is ++ added)) g e in
     let i : at ≡ place + length is = eqb-true at (place + length is) h.0 in
-    let t : StandsAt (place + length is) removed added before = subst (λ k. StandsAt k removed added before) i (stands_from_swaps w) in
+    let t : StandsAt (place + length is) removed added before = subst (λ k. StandsAt k removed added before) i w.stands in
     let x : Follows (Replaced place (was ++ removed) (is ++ added)) (text_after_undo (Replaced place was is) before) after =
     from_joined (Replaced place (was ++ removed) (is ++ added)) after (joined_right place was is removed added before s u t) (w.becomes ∙ ap (λ k. text_with_exchange k removed added before) i) in
     subst (λ y. Follows y (text_after_undo (Replaced place was is) before) after) h.1 x
@@ -107,13 +103,13 @@ deletion_ahead : (at place : ℕ) (removed deleted before after : List ℕ) → 
     → at ≡ place → Follows (Deleted place (deleted ++ removed)) (text_after_undo (Deleted place deleted) before) after
 deletion_ahead at place removed deleted before after u w s i =
     let j : at ≡ place + 0 = i ∙ sym (add-zero place) in
-    let t : StandsAt (place + 0) removed [] before = subst (λ k. StandsAt k removed [] before) j (stands_from_swaps w) in
+    let t : StandsAt (place + 0) removed [] before = subst (λ k. StandsAt k removed [] before) j w.stands in
     from_joined (Deleted place (deleted ++ removed)) after (joined_right place deleted [] removed [] before s u t) (w.becomes ∙ ap (λ k. text_with_exchange k removed [] before) j)
 
 deletion_behind : (at place : ℕ) (removed deleted before after : List ℕ) → IsUtf8 before → Swaps at removed [] before after → StandsIn (Deleted place deleted) before
     → at + length removed ≡ place → Follows (Deleted at (removed ++ deleted)) (text_after_undo (Deleted place deleted) before) after
 deletion_behind at place removed deleted before after u w s i =
-    from_joined (Deleted at (removed ++ deleted)) after (joined_left at place deleted removed before s u (stands_from_swaps w) i) w.becomes
+    from_joined (Deleted at (removed ++ deleted)) after (joined_left at place deleted removed before s u w.stands i) w.becomes
 
 -- the choice that a deletion makes of what it joins
 chosen_deletion : (a b : Bool) (at place : ℕ) (removed deleted : List ℕ) (g : Change) (P : Change → Type 0) → (at == place) ≡ a → (at + length removed == place) ≡ b
@@ -158,7 +154,7 @@ recorded_told : (e : ChangeEvent) (s : Items) (before after : List ℕ) → Note
 recorded_told e s before after n a = record { stand = (n.stand, tt); held = n.held; ahead = sym a }
 
 swapped : (c : Change) (before after : List ℕ) → IsUtf8 before → Swaps (place_of c) (old_text_of c) (new_text_of c) before after → Follows c before after
-swapped c before after u w = follows c before after (stands_from_swaps w) u w.becomes
+swapped c before after u w = follows c before after w.stands u w.becomes
 
 pub none_there : (xs : List ℕ) → (length xs == 0) ≡ true → xs ≡ []
 none_there xs h = nil_from_length xs (eqb-true (length xs) 0 h)

@@ -1,8 +1,7 @@
 -- The record of texts after several events, of the record alone or as a part of a listener.
 use Rattle.std.proofs.Common.{◌≡◌, ℕ, List, [], ◌∷◌, refl, sym, ap, subst, ◌∙◌, inl, inr, IsUtf8}
-use Rattle.line_buffer.specs.Event.{ChangeEvent}
+use Rattle.line_buffer.specs.Event.{ChangeEvent, text_after_event, text_after_events, Swaps, Replays, TakesAll, Reports, StopsAmong, wants_or}
 use Rattle.line_buffer.specs.Event.ChangeEvent.{StartKilling, StopKilling}
-use Rattle.line_buffer.specs.Replay.{text_after_event, text_after_events, Swaps, Replays, TakesAll, Reports, StopsAmong, wants_or}
 use Rattle.line_record.specs.Held.{HeldItem, record_after_event}
 use Rattle.line_record.specs.Items.{Items, ItemsStand, record_on, ahead_on, ahead_after, RecordsEventIn, record_refuses}
 use Rattle.line_record.specs.RecordCourse.{record_after_events}
@@ -26,7 +25,7 @@ replayed_is _ before after r = r.becomes
 
 swapped_utf8 : {at : ℕ} {from to before after : List ℕ} → IsUtf8 before → Swaps at from to before after → IsUtf8 after
 swapped_utf8 {at} {from} {to} {before} {after} u w =
-    subst IsUtf8 (sym w.becomes) (exchanged at from to before (record { start = w.start; end = w.end; bytes = w.stands; utf8 = w.text }) u).utf8
+    subst IsUtf8 (sym w.becomes) (exchanged at from to before w.stands u).utf8
 
 pub replayed_utf8 : (e : ChangeEvent) (before after : List ℕ) → IsUtf8 before → Replays e before after → IsUtf8 after
 replayed_utf8 StartKilling before after u r = subst IsUtf8 (sym r) u

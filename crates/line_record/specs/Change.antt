@@ -1,6 +1,7 @@
 -- A change of a text, and how it is undone and redone.
-use Rattle.std.specs.Prelude.{◌≡◌, ℕ, ◌+◌, List, [], ◌∷◌, length, slice_range, IsUtf8, IsCharBoundary}
+use Rattle.std.specs.Prelude.{ℕ, ◌+◌, List, [], ◌∷◌, length}
 use Rattle.std.specs.List.{replace_range}
+use Rattle.line_buffer.specs.Event.{StandsAt}
 
 pub data Change : Type 0 where
   Inserted : (at : ℕ) (text : List ℕ) → Change
@@ -41,13 +42,6 @@ undo_place c = place_of c + length (old_text_of c)
 -- the cursor after the text that was inserted again, or at the place of a deletion
 abbrev pub redo_place : Change → ℕ
 redo_place c = place_of c + length (new_text_of c)
-
--- a text is at a place, on character boundaries, and another may replace it
-pub record StandsAt (at : ℕ) (from to text : List ℕ) : Type 0 where
-  pub start : IsCharBoundary text at
-  pub end : IsCharBoundary text (at + length from)
-  pub bytes : slice_range text at (at + length from) ≡ from
-  pub utf8 : IsUtf8 to
 
 -- the change can be undone on the text
 abbrev pub StandsIn : Change → List ℕ → Type 0

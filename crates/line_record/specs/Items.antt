@@ -1,11 +1,10 @@
 -- The record's value: the changes done and undone, each side nearest first, and the texts that they
 -- stand for on a line's text. Also the effect of undo and redo on the record and its line.
 use Rattle.std.specs.Prelude.{◌≡◌, ◌<◌, ◌≤◌, ℕ, Bool, true, false, List, [], ◌∷◌, ◌++◌, drop, length, Option, None, is_some, option_map, unwrap_or, slice_get, IsUtf8, take, reverse, flat_map, Result, IfOk, OnOk, OnErr}
-use Rattle.line_buffer.specs.Event.{ChangeEvent}
+use Rattle.line_buffer.specs.Event.{ChangeEvent, Replays, StandsAt}
 use Rattle.line_buffer.specs.Event.ChangeEvent.{StartKilling, StopKilling}
 use Rattle.line_buffer.specs.Line.{Line}
-use Rattle.line_buffer.specs.Replay.{Replays}
-use Rattle.line_record.specs.Change.{Change, undo_place, redo_place, text_after_undo, text_after_redo, all_taken_back, AllStandIn, all_made_anew, AllFitIn, newest_of, StandsAt, AllAlong, FitsIn}
+use Rattle.line_record.specs.Change.{Change, undo_place, redo_place, text_after_undo, text_after_redo, all_taken_back, AllStandIn, all_made_anew, AllFitIn, newest_of, AllAlong, FitsIn}
 use Rattle.line_record.specs.Held.{HeldItem, Undone, step_of, change_of, join_of, record_after_event, record_after_close, closes}
 use Rattle.line_record.specs.Held.HeldItem.{Opened, Stepped}
 use Rattle.std.specs.Coded.{Unit-prop, ×_prop}

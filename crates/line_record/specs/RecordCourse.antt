@@ -1,7 +1,6 @@
 -- The history of a line: the calls on the line and its record, and the texts that it had.
 use Rattle.std.specs.Prelude.{◌≡◌, ℕ, ◌⊎◌, List, [], ◌∷◌, drop}
-use Rattle.line_buffer.specs.Event.{ChangeEvent}
-use Rattle.line_buffer.specs.Replay.{text_after_event}
+use Rattle.line_buffer.specs.Event.{ChangeEvent, text_after_event}
 use Rattle.line_record.specs.Held.{HeldItem, Undone, record_after_event, record_after_close, text_back, ahead_back, record_ahead}
 use Rattle.line_record.specs.Held.HeldItem.{Opened}
 use Rattle.line_record.specs.Items.{ahead_after}

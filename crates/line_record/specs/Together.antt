@@ -1,7 +1,6 @@
 -- Two listeners that are notified in turn: the effect of an event on both, and of an error of one.
 use Rattle.std.specs.Prelude.{◌≡◌, ◌⊎◌, ℕ, List, IsUtf8}
-use Rattle.line_buffer.specs.Event.{ChangeEvent}
-use Rattle.line_buffer.specs.Replay.{StopsAmong, wants_or}
+use Rattle.line_buffer.specs.Event.{ChangeEvent, StopsAmong, wants_or}
 use Rattle.line_record.specs.declared.joined.Joined.{Joined}
 use Rattle.line_record.specs.Items.{Items, ItemsStand, RecordsEventIn, record_refuses, record_on, ahead_on, ahead_after}
 use Rattle.line_record.specs.RecordCourse.{record_after_events}

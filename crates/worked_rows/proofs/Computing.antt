@@ -5,7 +5,7 @@ use Rattle.line_buffer.specs.Columns.{cursor_column, line_down, line_up, place_a
 use Rattle.line_buffer.specs.Hits.{chars_placed}
 use Rattle.line_buffer.specs.Indent.{row_events}
 use Rattle.line_buffer.specs.Insertions.{last_cut}
-use Rattle.line_buffer.specs.Replay.{line_after_events}
+use Rattle.line_buffer.specs.Event.{line_after_events}
 use Rattle.line_buffer.specs.Rows.{behind_newlines}
 use Rattle.line_buffer.specs.Transpositions.{after_words, before_words}
 use Rattle.line_editor.specs.LineScripts.{line_script, turn_script, turns_script}

@@ -1,6 +1,6 @@
 use Rattle.std.proofs.Common.{refl, ◌∙◌}
 use Rattle.line_buffer.proofs.CutLemmas.{start_replaced}
-use Rattle.line_buffer.specs.Replay.{insertion}
+use Rattle.line_buffer.specs.Event.{insertion}
 use Rattle.line_record.specs.Items.{record_on}
 use Rattle.line_edits.proofs.StepLemmas.{unchanged_rewrites}
 use Rattle.line_edits.proofs.WrittenLemmas.{recorded_one}

@@ -3,7 +3,7 @@ use Rattle.std.proofs.lemmas.List.Edits.{length-between}
 use Rattle.line_buffer.specs.declared.types.Direction.TheVariants.{Forward}
 use Rattle.line_buffer.specs.Event.ChangeEvent.{Delete}
 use Rattle.line_buffer.specs.Indent.{row_event}
-use Rattle.line_buffer.specs.Replay.{deletion, insertion, line_after_event}
+use Rattle.line_buffer.specs.Event.{deletion, insertion, line_after_event}
 use Rattle.line_buffer.proofs.CutLemmas.{drop_replaced}
 use Rattle.line_buffer.proofs.gap_buffer.GapBuffer.change_row.Goals as goal
 

@@ -1,6 +1,6 @@
 use Rattle.std.proofs.Common.{◌≡◌, ◌+◌, ◌++◌, length, string_bytes, ap, ◌∙◌, subst, arith, rules}
 use Rattle.std.specs.List.{insert_slice}
-use Rattle.line_buffer.specs.Replay.{insertion, line_after_event}
+use Rattle.line_buffer.specs.Event.{insertion, line_after_event}
 use Rattle.line_buffer.proofs.GapLemmas.{insert_at_seam, gapped, gap_inserted, place_moved, place_kept}
 use Rattle.line_buffer.proofs.ReplayLemmas.{swaps_insertion}
 use Rattle.line_buffer.proofs.gap_buffer.GapBuffer.insert.Goals as goal

@@ -1,6 +1,6 @@
 use Rattle.std.proofs.Common.{refl, []}
 use Rattle.std.specs.List.{repeat}
-use Rattle.line_buffer.specs.Replay.{insertion}
+use Rattle.line_buffer.specs.Event.{insertion}
 use Rattle.line_buffer.proofs.InsertionLemmas.{told_where_room}
 use Rattle.line_buffer.proofs.LeftLemmas.{stopped_for_memory}
 use Rattle.line_buffer.proofs.line_buffer.LineBuffer.insert_copies.Goals as goal

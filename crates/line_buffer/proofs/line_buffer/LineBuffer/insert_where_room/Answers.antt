@@ -1,4 +1,4 @@
-use Rattle.line_buffer.specs.Replay.{insertion}
+use Rattle.line_buffer.specs.Event.{insertion}
 use Rattle.line_buffer.proofs.InsertionLemmas.{told_where_room}
 use Rattle.line_buffer.proofs.LeftLemmas.{edits_refused, stopped_first}
 use Rattle.line_buffer.proofs.line_buffer.LineBuffer.insert_where_room.Goals as goal

@@ -2,7 +2,7 @@ use Rattle.std.proofs.Common.{◌≡◌, refl, sym, ap, subst, ◌∙◌, inr, I
 use Rattle.std.specs.List.{insert_slice}
 use Rattle.std.proofs.lemmas.List.{append-nil}
 use Rattle.std.proofs.lemmas.Str.{IsCharBoundary-start}
-use Rattle.line_buffer.specs.Replay.{insertion}
+use Rattle.line_buffer.specs.Event.{insertion}
 use Rattle.line_buffer.proofs.LeftLemmas.{edits_refused, stopped_first, stopped_after_one, carried_deletion_of_all}
 use Rattle.line_buffer.proofs.ReplayLemmas.{refused_as}
 use Rattle.line_buffer.proofs.line_buffer.LineBuffer.update.Goals as goal
