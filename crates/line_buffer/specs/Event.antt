@@ -1,5 +1,5 @@
--- The events of which a listener is notified: taken by it, replayed on a text, and as functions of a
--- text and of a cursor that keeps its place in the text.
+-- The events of which a listener is notified: taken by it, replayed on a text, and as functions of
+-- a text and of a cursor that keeps its place in the text.
 use Rattle.std.specs.Prelude.{ℕ, List, ◌≡◌, ◌+◌, [], ◌∷◌, ◌++◌, ◌⊎◌, length, slice_range, IsUtf8, IsCharBoundary, encode_utf8, ◌-◌, min, nat_le, if◌then◌else◌}
 use Rattle.line_buffer.specs.declared.types.Direction.{Direction}
 use Rattle.std.specs.List.{replace_range}

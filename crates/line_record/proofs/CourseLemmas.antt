@@ -1,6 +1,6 @@
 -- The texts that a record holds were texts of the line.
 use Rattle.std.proofs.Common.{ℕ, zero, suc, Bool, true, false, List, [], ◌∷◌, drop, Option, Some, None, refl, inl, inr, if◌then◌else◌, arith}
-use Rattle.std.specs.Prelude.{option_map, unwrap_or}
+use Rattle.std.specs.Prelude.{option_map, unwrap_or, slice_get}
 use Rattle.std.proofs.lemmas.Bool.Decides.{nat_tests}
 use Rattle.line_buffer.specs.Event.{ChangeEvent, text_after_event}
 use Rattle.line_buffer.specs.Event.ChangeEvent.{StartKilling, StopKilling}
@@ -8,11 +8,12 @@ use Rattle.line_record.specs.Change.{Change}
 use Rattle.line_record.specs.Held.{HeldItem, Undone, text_of, step_of, record_after_event, change_of, join_of, record_after_close, closes, has_mark, group_with_change, text_back, ahead_back, record_ahead}
 use Rattle.line_record.specs.Held.HeldItem.{Opened, Stepped}
 use Rattle.line_record.specs.Items.{ahead_after}
-use Rattle.line_record.specs.RecordCourse.{RecordCall, RecordCourse, new_course, after_call, text_ahead, IsAmong}
+use Rattle.line_record.specs.RecordCourse.{RecordCall, RecordCourse, new_course, after_call, IsAmong}
 use Rattle.line_record.specs.RecordCourse.RecordCall.{Told, Begun, Ended, TakenBack, MadeAnew}
 use Rattle.line_record.specs.Laws.{UndoLeavesAnEarlierText}
 use Rattle.line_record.proofs.StepLemmas.{steps_with_change, steps_with_change_if}
 use Rattle.std.specs.List.{fold}
+use Rattle.std.specs.Option.{option_map_or}
 
 HeldSeen : List HeldItem → List (List ℕ) → Type 0
 HeldSeen [] seen = Unit {0}
@@ -125,7 +126,7 @@ call_seen (TakenBack n) c s =
       ahead = ahead_more (ahead_back n c.held c.text c.ahead) c.seen t (ahead_back_seen n c.held c.text c.ahead c.seen s.text s.held s.ahead);
     }
 call_seen MadeAnew c s =
-    let t : List ℕ = text_ahead c.ahead c.text in
+    let t : List ℕ = option_map_or (λ (u : Undone). u.text) (slice_get c.ahead 0) c.text in
     record {
       text = inl refl;
       held = held_more (record_ahead c.ahead c.held) c.seen t (held_ahead_seen c.ahead c.held c.seen s.ahead s.held);

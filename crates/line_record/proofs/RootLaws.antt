@@ -1,18 +1,19 @@
 -- A record that is undone altogether gives the text that it began on.
 use Rattle.std.proofs.Common.{◌≡◌, ℕ, zero, suc, Bool, true, false, List, [], ◌∷◌, length, drop, Option, Some, None, refl, sym, ap, subst, ◌∙◌, if◌then◌else◌}
-use Rattle.std.specs.Prelude.{option_map, unwrap_or}
+use Rattle.std.specs.Prelude.{option_map, unwrap_or, slice_get}
 use Rattle.line_buffer.specs.Event.{ChangeEvent, text_after_event}
 use Rattle.line_buffer.specs.Event.ChangeEvent.{StartKilling, StopKilling}
 use Rattle.line_record.specs.Change.{Change}
 use Rattle.line_record.specs.Held.{HeldItem, Undone, text_of, change_of, join_of, step_of, has_mark, closes, group_with_change, record_after_close, text_back, ahead_back, record_ahead}
 use Rattle.line_record.specs.Held.HeldItem.{Opened, Stepped}
 use Rattle.line_record.specs.Items.{ahead_after}
-use Rattle.line_record.specs.RecordCourse.{RecordCall, RecordCourse, new_course, after_call, text_ahead}
+use Rattle.line_record.specs.RecordCourse.{RecordCall, RecordCourse, new_course, after_call}
 use Rattle.line_record.specs.RecordCourse.RecordCall.{Told, Begun, Ended, TakenBack, MadeAnew}
 use Rattle.line_record.specs.Laws.{UndoOfAllGivesTheFirstText}
 use Rattle.line_record.proofs.GroupLaws.{unchanged}
 use Rattle.line_record.proofs.StepLemmas.{steps_with_change, steps_with_change_if}
 use Rattle.std.specs.List.{fold}
+use Rattle.std.specs.Option.{option_map_or}
 
 -- the text before everything
 abbrev root : List HeldItem → List ℕ → List ℕ
@@ -134,7 +135,7 @@ call_rooted (TakenBack n) first c r = back_rooted n first c.held c.ahead c.text 
 call_rooted MadeAnew first c r = anew c.ahead r.fits
   where
     anew : (ahead : List Undone) → AheadFits ahead c.text
-        → Rooted first (record_ahead ahead c.held) (drop 1 ahead) (text_ahead ahead c.text)
+        → Rooted first (record_ahead ahead c.held) (drop 1 ahead) (option_map_or (λ (u : Undone). u.text) (slice_get ahead 0) c.text)
     anew [] k = record { begun = r.begun; marks = r.marks; fits = tt }
     anew (u ∷ ahead) k = record {
       begun = ap (root c.held) k.0 ∙ r.begun;

@@ -1,6 +1,6 @@
 -- A change of a text, and how it is undone and redone.
 use Rattle.std.specs.Prelude.{ℕ, ◌+◌, List, [], ◌∷◌, length}
-use Rattle.std.specs.List.{replace_range}
+use Rattle.std.specs.List.{replace_range, fold}
 use Rattle.line_buffer.specs.Event.{StandsAt}
 
 pub data Change : Type 0 where
@@ -62,8 +62,7 @@ AllStandIn (c ∷ cs) text = StandsIn c (all_taken_back cs text) × AllStandIn c
 
 -- the text after several changes
 abbrev pub all_made_anew : List Change → List ℕ → List ℕ
-all_made_anew [] text = text
-all_made_anew (c ∷ cs) text = all_made_anew cs (text_after_redo c text)
+all_made_anew cs text = fold (λ t c. text_after_redo c t) text cs
 
 -- P holds of each of several parts, on the text to which those before it lead
 abbrev pub AllAlong : {A : Type 0} → (A → List ℕ → Type 0) → (A → List ℕ → List ℕ) → List A
@@ -76,5 +75,4 @@ AllFitIn cs text = AllAlong FitsIn text_after_redo cs text
 
 -- the newest of several changes
 abbrev pub newest_of : Change → List Change → Change
-newest_of c [] = c
-newest_of c (d ∷ cs) = newest_of d cs
+newest_of c cs = fold (λ d newer. newer) c cs

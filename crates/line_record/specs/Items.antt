@@ -1,7 +1,7 @@
 -- The record's value: the changes done and undone, each side nearest first, and the texts that they
 -- stand for on a line's text. Also the effect of undo and redo on the record and its line.
 use Rattle.std.specs.Prelude.{◌≡◌, ◌<◌, ◌≤◌, ℕ, Bool, true, false, List, [], ◌∷◌, ◌++◌, drop, length, Option, None, is_some, option_map, unwrap_or, slice_get, IsUtf8, take, reverse, flat_map, Result, IfOk, OnOk, OnErr}
-use Rattle.line_buffer.specs.Event.{ChangeEvent, Replays, StandsAt}
+use Rattle.line_buffer.specs.Event.{ChangeEvent, Replays}
 use Rattle.line_buffer.specs.Event.ChangeEvent.{StartKilling, StopKilling}
 use Rattle.line_buffer.specs.Line.{Line}
 use Rattle.line_record.specs.Change.{Change, undo_place, redo_place, text_after_undo, text_after_redo, all_taken_back, AllStandIn, all_made_anew, AllFitIn, newest_of, AllAlong, FitsIn}
@@ -9,7 +9,7 @@ use Rattle.line_record.specs.Held.{HeldItem, Undone, step_of, change_of, join_of
 use Rattle.line_record.specs.Held.HeldItem.{Opened, Stepped}
 use Rattle.std.specs.Coded.{Unit-prop, ×_prop}
 use Rattle.std.proofs.Props.{props}
-use Rattle.std.specs.List.{list_any}
+use Rattle.std.specs.List.{list_any, fold}
 use Rattle.std.specs.Option.{option_map_or}
 
 -- an open mark, a change to which others may be joined, or a closed group with its oldest change
@@ -51,8 +51,7 @@ lines_back (c ∷ cs) l = line_after_undo c (lines_back cs l)
 
 -- the line after the redo of several changes, the oldest first
 abbrev pub lines_ahead : List Change → Line → Line
-lines_ahead [] l = l
-lines_ahead (c ∷ cs) l = lines_ahead cs (line_after_redo c l)
+lines_ahead cs l = fold (λ m c. line_after_redo c m) l cs
 
 -- an item, with the text before it
 abbrev pub item_with_text : Item → List ℕ → HeldItem
@@ -114,8 +113,7 @@ is_step_item x = true
 
 -- the changes of the nearest item, if there is one
 abbrev pub nearest_changes : List Item → List Change
-nearest_changes [] = []
-nearest_changes (x ∷ items) = changes_of x
+nearest_changes items = option_map_or changes_of (slice_get items 0) []
 
 -- the items with an event's change joined to the nearest one, if the two can be joined
 abbrev pub join_of_items : ChangeEvent → List Item → Option (List Item)
@@ -151,13 +149,9 @@ pub record RecordsEventIn (s : Items) (e : ChangeEvent) (t : Items) : Type 0 whe
   pub on : (before after : List ℕ) → ItemsStand s before → IsUtf8 before → Replays e before after
       → RecordsEvent e before after s t
 
-StandsAt-prop : (at : ℕ) (from to text : List ℕ) → IsProp (StandsAt at from to text)
-StandsAt-prop at from to text = Prim.hlevel props
-
 AllStandIn-prop : (cs : List Change) (text : List ℕ) → IsProp (AllStandIn cs text)
 AllStandIn-prop [] text = Unit-prop
-AllStandIn-prop (c ∷ cs) text =
-    ×_prop (StandsAt-prop _ _ _ (all_taken_back cs text)) (AllStandIn-prop cs text)
+AllStandIn-prop (c ∷ cs) text = ×_prop (Prim.hlevel props) (AllStandIn-prop cs text)
 
 AllAlong-prop : {A : Type 0} (P : A → List ℕ → Type 0) (lead : A → List ℕ → List ℕ)
     → ((x : A) (text : List ℕ) → IsProp (P x text)) → (xs : List A) (text : List ℕ)
@@ -165,11 +159,13 @@ AllAlong-prop : {A : Type 0} (P : A → List ℕ → Type 0) (lead : A → List 
 AllAlong-prop P lead p [] text = Unit-prop
 AllAlong-prop P lead p (x ∷ xs) text = ×_prop (p x text) (AllAlong-prop P lead p xs (lead x text))
 
+AllFitIn-prop : (cs : List Change) (text : List ℕ) → IsProp (AllFitIn cs text)
+AllFitIn-prop cs text = AllAlong-prop FitsIn text_after_redo (λ c t. Prim.hlevel props) cs text
+
 pub ItemsStand-prop : (s : Items) (text : List ℕ) → IsProp (ItemsStand s text)
 ItemsStand-prop s text = ×_prop
     (AllAlong-prop _ before_item (λ x. AllStandIn-prop (changes_of x)) s.done text)
-    (AllAlong-prop _ after_item
-    (λ x. AllAlong-prop FitsIn text_after_redo (λ c. StandsAt-prop _ _ _) (changes_of x)) s.undone text)
+    (AllAlong-prop _ after_item (λ x. AllFitIn-prop (changes_of x)) s.undone text)
 
 -- the newest of several changes were undone; at least one, the first, was not
 pub record CutUndo (changes : List Change) (before after : Line) : Type 0 where

@@ -1,5 +1,5 @@
 -- Laws of the record and of the kill ring.
-use Rattle.std.specs.Prelude.{◌≡◌, ℕ, ◌<◌, ◌≢◌, Bool, true, false, List, [], ◌∷◌, length, take, Some, slice_get, is_some, ◌||◌, IsUtf8, IsCharBoundary}
+use Rattle.std.specs.Prelude.{◌≡◌, ℕ, ◌<◌, ◌≢◌, Bool, true, false, List, [], ◌∷◌, length, take, Some, slice_get, is_some, ◌||◌, IsUtf8, IsCharBoundary, suc, drop, reverse, ◌++◌}
 use Rattle.std.specs.List.{AllByRecursion, fold}
 use Rattle.line_buffer.specs.Line.{Line}
 use Rattle.line_buffer.specs.Insertions.{yank}
@@ -12,7 +12,7 @@ use Rattle.line_record.specs.Held.HeldItem.{Opened}
 use Rattle.line_record.specs.Items.{Item, Items, ItemsStand, record_on, after_item}
 use Rattle.line_record.specs.RecordCourse.{RecordCall, RecordCourse, new_course, after_call, IsAmong}
 use Rattle.line_record.specs.RecordCourse.RecordCall.{Told, Begun, Ended, TakenBack}
-use Rattle.line_record.specs.Ring.{RingCall, no_kills, newest_first, Ring, IsRing, new_ring, ring_all, kills_after, ring_after}
+use Rattle.line_record.specs.Ring.{RingCall, no_kills, Ring, IsRing, new_ring, ring_all, kills_after, ring_after}
 
 -- whatever is done to a line with a new record, an undo leaves a text that the line had before
 abbrev pub UndoLeavesAnEarlierText : Type 0
@@ -94,10 +94,11 @@ KillsComeBack = (movements : List Movement) (l : Line) (r : Ring) →
     (text : List ℕ) × (slice_get killed.1.slots killed.1.place ≡ Some text)
     × ((yank text 1 killed.0).line.text ≡ l.text)
 
--- a new ring that is never turned holds the last runs of kills, as many as it has slots, and lends
--- the newest
+-- a new ring that is never turned holds the last runs of kills, as many as it has slots, from its
+-- current slot back and round to the slot after it, and lends the newest
 abbrev pub RingHoldsTheLastRuns : Type 0
 RingHoldsTheLastRuns = (size : ℕ) (calls : List RingCall) → 0 < size →
     let r = fold ring_after (new_ring size) calls in
     let runs = (fold kills_after no_kills calls).runs in
-    (newest_first r ≡ take size runs) × (slice_get r.slots r.place ≡ slice_get runs 0)
+    let texts = reverse (take (suc r.place) r.slots) ++ reverse (drop (suc r.place) r.slots) in
+    (texts ≡ take size runs) × (slice_get r.slots r.place ≡ slice_get runs 0)

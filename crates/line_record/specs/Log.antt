@@ -1,5 +1,5 @@
 -- The meaning of a log: of its entries, and of the steps over it.
-use Rattle.std.specs.Prelude.{◌≤◌, ℕ, zero, suc, Bool, if◌then◌else◌, List, [], ◌∷◌, ◌++◌, map, take, length, slice_range, encode_utf8, Option, None, option_map, IsUtf8, ◌≡◌, slice_get, unwrap_or, true, false, nat_lt, reverse, drop, Some, ⊤}
+use Rattle.std.specs.Prelude.{◌≤◌, ℕ, zero, suc, Bool, if◌then◌else◌, List, [], ◌∷◌, ◌++◌, map, take, length, slice_range, encode_utf8, Option, None, option_map, IsUtf8, ◌≡◌, unwrap_or, true, false, nat_lt, reverse, drop, Some, ⊤}
 use Rattle.line_buffer.specs.Event.{ChangeEvent}
 use Rattle.line_buffer.specs.Event.ChangeEvent.{Delete, InsertChar, InsertStr, Replace}
 use Rattle.line_record.specs.Change.{Change, newest_of}
@@ -20,10 +20,6 @@ module _ {A S : Type 0} (first last : S → ℕ) (Fits : List A → S → Type 0
   Adjoin all from [] to = from ≡ to
   Adjoin all from (s ∷ spans) to =
       (first s ≡ from) × (from ≤ last s) × Fits all s × Adjoin all (last s) spans to
-
--- where the span of an index begins; the end of all spans if there is none
-abbrev pub place_of_span : {S : Type 0} → (S → ℕ) → List S → ℕ → ℕ → ℕ
-place_of_span first spans n to = unwrap_or (option_map first (slice_get spans n)) to
 
 -- a change by its kind, its old text and its new text
 abbrev pub edit_from : Kind → ℕ → List ℕ → List ℕ → Change
@@ -100,11 +96,8 @@ abbrev pub is_open : Item → Bool
 is_open Open = true
 is_open x = false
 
-abbrev pub item_in : List Change → Step → Item
-item_in edits s = item_from s.closed (slice_range edits s.first s.last)
-
 abbrev pub items_in : List Change → List Step → List Item
-items_in edits steps = map (item_in edits) steps
+items_in edits steps = map (λ s. item_from s.closed (slice_range edits s.first s.last)) steps
 
 -- the steps' changes adjoin in their order and are all changes
 abbrev pub AreSteps : List Change → List Step → Type 0

@@ -1,7 +1,7 @@
 -- A kill ring: slots of killed texts, the place of the slot that a yank returns, and the last
 -- action. And the kills that were reported to it: a list of runs, the newest first, which has no
 -- slots.
-use Rattle.std.specs.Prelude.{◌≡◌, ℕ, ◌+◌, ◌-◌, ◌==◌, ◌<◌, ◌≤◌, Bool, true, false, List, [], ◌∷◌, ◌++◌, length, if◌then◌else◌, nat_lt, Option, Some, None, is_some, slice_set, slice_index_or, suc, take, drop, reverse}
+use Rattle.std.specs.Prelude.{◌≡◌, ℕ, ◌+◌, ◌-◌, ◌==◌, ◌<◌, ◌≤◌, Bool, true, false, List, [], ◌∷◌, ◌++◌, length, if◌then◌else◌, nat_lt, Option, Some, None, is_some, slice_set, slice_index_or}
 use Rattle.std.specs.List.{fold}
 use Rattle.line_buffer.specs.Event.{ChangeEvent}
 use Rattle.line_buffer.specs.Event.ChangeEvent.{StartKilling, StopKilling, Delete}
@@ -151,7 +151,3 @@ ring_after r (Taken text mode) = ring_with_kill text mode r
 ring_after r (Heard e) = ring_step e r
 ring_after r Ended = record r { last = Other }
 ring_after r Lent = ring_after_yank r
-
--- the texts of a ring from its current slot back, and round to the slot after it
-abbrev pub newest_first : Ring → List (List ℕ)
-newest_first r = reverse (take (suc r.place) r.slots) ++ reverse (drop (suc r.place) r.slots)

@@ -201,10 +201,9 @@ impl TextLog {
     }
 }
 
-ghost use Rattle.std.specs.Prelude.{◌≡◌, ◌+◌, ◌<◌, ◌≤◌, length, string_bytes, OnOk, OnErr, IsCharBoundary};
+ghost use Rattle.std.specs.Prelude.{◌≡◌, ◌+◌, ◌<◌, ◌≤◌, length, slice_get, unwrap_or, option_map, string_bytes, OnOk, OnErr, IsCharBoundary};
 ghost use Rattle.std.specs.String.{string_len, string_capacity};
 ghost use Rattle.std.specs.List.{insert_slice};
-ghost use Rattle.line_record.specs.Log.{place_of_span};
 
 /// Inserts a text at a place. An empty text moves no bytes.
 fn put_in(text: &mut String, at: usize, added: &str) -> Result<(), OutOfMemory>
@@ -225,7 +224,7 @@ fn put_in(text: &mut String, at: usize, added: &str) -> Result<(), OutOfMemory>
 
 /// Where the entry of an index begins; the end of all entries if there is none.
 fn place(entries: &[LoggedChange], n: usize, end: usize) -> usize
-    ensures { result ≡ place_of_span (λ x. x.start) entries.now n end }
+    ensures { result ≡ unwrap_or (option_map (λ x. x.start) (slice_get entries.now n)) end }
 {
     match entries.get(n) {
         Some(entry) => entry.start,

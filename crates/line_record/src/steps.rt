@@ -266,12 +266,11 @@ impl Steps {
     }
 }
 
-ghost use Rattle.std.specs.Prelude.{◌≡◌};
-ghost use Rattle.line_record.specs.Log.{place_of_span};
+ghost use Rattle.std.specs.Prelude.{◌≡◌, slice_get, unwrap_or, option_map};
 
 /// Where the step of an index begins; the end of all steps if there is none.
 fn place(steps: &[Step], n: usize, end: usize) -> usize
-    ensures { result ≡ place_of_span (λ s. s.first) steps.now n end }
+    ensures { result ≡ unwrap_or (option_map (λ s. s.first) (slice_get steps.now n)) end }
 {
     match steps.get(n) {
         Some(step) => step.first,
