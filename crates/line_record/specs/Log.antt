@@ -104,6 +104,12 @@ abbrev pub AreSteps : List Change → List Step → Type 0
 AreSteps edits steps =
     Adjoin (λ s. s.first) (λ s. s.last) (λ edits s. ⊤) edits 0 steps (length edits)
 
+-- items with a joined change, nearest first, replace the old ones; if no change was joined, the old
+-- ones stay
+abbrev pub JoinedIn : Option (List Item) → List Item → List Item → Type 0
+JoinedIn None old new = new ≡ old
+JoinedIn (Some items) old new = reverse new ≡ items
+
 -- the record with the first n items done
 abbrev pub record_of : List Item → ℕ → Items
 record_of items n = record { done = reverse (take n items); undone = drop n items }

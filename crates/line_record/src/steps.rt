@@ -49,12 +49,12 @@ impl Model for Steps {
 }
 
 impl Steps {
-    ghost use Rattle.std.specs.Prelude.{◌≡◌, ◌+◌, ◌<◌, ◌≤◌, ◌++◌, true, [], ◌∷◌, length, take, drop, reverse, slice_get, slice_index_or, IfOk, OnOk, OnErr, Some, is_some, unwrap_or, option_map, option_copied};
+    ghost use Rattle.std.specs.Prelude.{◌≡◌, ◌+◌, ◌<◌, ◌≤◌, ◌++◌, true, [], ◌∷◌, length, take, drop, reverse, slice_get, slice_index_or, IfOk, OnOk, OnErr, Some, is_some, option_map, option_copied};
     ghost use Rattle.line_record.specs.Change.{AllStandIn, AllFitIn};
     ghost use Rattle.line_record.specs.Held.{change_of};
     ghost use Rattle.line_record.specs.Items.{changes_of, is_step_item, changes_of_all, group_of, join_of_items, items_with_event, TakesBack, MakesAnew};
     ghost use Rattle.line_record.specs.Items.Item.{Open, Lone};
-    ghost use Rattle.line_record.specs.Log.{event_of, is_open, item_inserted};
+    ghost use Rattle.line_record.specs.Log.{JoinedIn, event_of, is_open, item_inserted};
 
     pub fn new(alloc: Global) -> Self
         ensures { result ≡ [] }
@@ -155,9 +155,9 @@ impl Steps {
         requires { index < length self.old }
         ensures answer { IfOk result (λ joined. joined ≡ is_some
             (join_of_items (event_of report.entry) (reverse (take (index + 1) self.old)))) }
-        ensures value { OnOk result (reverse self.new ≡ unwrap_or
+        ensures value { OnOk result (JoinedIn
             (join_of_items (event_of report.entry) (reverse (take (index + 1) self.old)))
-            (reverse self.old)) }
+            self.old self.new) }
         ensures kept { OnErr result (self.new ≡ self.old) }
     {
         let step = self.steps[index];

@@ -1,10 +1,9 @@
-use Rattle.std.proofs.Common.{sym, ap, ◌∙◌, is_some, Option, List}
+use Rattle.std.proofs.Common.{sym, ap, subst, ◌∙◌, refl, is_some, Option, List}
 use Rattle.line_record.specs.Change.{Change}
 use Rattle.line_record.specs.Items.{Item}
-use Rattle.line_record.specs.Log.{items_in, event_of}
+use Rattle.line_record.specs.Log.{JoinedIn, items_in, event_of}
 use Rattle.line_record.proofs.StepsLemmas.{step_at, joins_none, left_alone, joined_on, JoinedOn, lone_inside}
 use Rattle.line_record.proofs.steps.Steps.join.Goals as goal
-use Rattle.std.specs.Prelude.{reverse, unwrap_or}
 
 pub is_lone-requires : goal.is_lone-requires
 is_lone-requires c = (step_at c.self.inside.log c.self.inside.steps.items c.args.self.now c.args.index c.index.result.now c.self.invariant c.self.view_is c.requires c.index.ensures).order
@@ -21,8 +20,9 @@ returns-then-not-is_lone-clause-answer c =
 
 pub returns-then-not-is_lone-clause-value : goal.returns-then-not-is_lone-clause-value
 returns-then-not-is_lone-clause-value c =
-    sym (ap (λ (o : Option (List Item)). unwrap_or o (reverse c.args.self.now)) (joins_none (event_of c.args.report) c.self.inside.log c.self.inside.steps.items c.args.self.now c.args.index c.index.result.now
-    (step_at c.self.inside.log c.self.inside.steps.items c.args.self.now c.args.index c.index.result.now c.self.invariant c.self.view_is c.requires c.index.ensures) c.requires (sym c.is_lone.ensures ∙ c.if-not-is_lone.true)))
+    subst (λ (o : Option (List Item)). JoinedIn o c.args.self.now c.args.self.now)
+    (sym (joins_none (event_of c.args.report) c.self.inside.log c.self.inside.steps.items c.args.self.now c.args.index c.index.result.now
+    (step_at c.self.inside.log c.self.inside.steps.items c.args.self.now c.args.index c.index.result.now c.self.invariant c.self.view_is c.requires c.index.ensures) c.requires (sym c.is_lone.ensures ∙ c.if-not-is_lone.true))) refl
 
 pub returns-then-not-branch-clause-answer : goal.returns-then-not-branch-clause-answer
 returns-then-not-branch-clause-answer c = sym (ap is_some (left_alone (event_of c.args.report) c.self.inside.log c.join.new.self c.self.inside.steps.items c.args.self.now c.args.index c.index.result.now (step_at c.self.inside.log c.self.inside.steps.items c.args.self.now c.args.index c.index.result.now c.self.invariant c.self.view_is c.requires c.index.ensures) c.requires
@@ -32,8 +32,8 @@ pub returns-then-not-branch-clause-value : goal.returns-then-not-branch-clause-v
 returns-then-not-branch-clause-value c =
     let l = (left_alone (event_of c.args.report) c.self.inside.log c.join.new.self c.self.inside.steps.items c.args.self.now c.args.index c.index.result.now (step_at c.self.inside.log c.self.inside.steps.items c.args.self.now c.args.index c.index.result.now c.self.invariant c.self.view_is c.requires c.index.ensures) c.requires
     (sym c.is_lone.ensures ∙ c.if-not-is_lone.false) (sym c.if-not-branch.true ∙ c.in_ok-join.ensures.answer) c.in_ok-join.ensures.value) in
-    ap reverse (ap (λ (es : List Change). items_in es c.self.inside.steps.items) l.same ∙ c.self.view_is)
-    ∙ sym (ap (λ (o : Option (List Item)). unwrap_or o (reverse c.args.self.now)) l.none)
+    subst (λ (o : Option (List Item)). JoinedIn o c.args.self.now (items_in c.join.new.self c.self.inside.steps.items)) (sym l.none)
+    (ap (λ (es : List Change). items_in es c.self.inside.steps.items) l.same ∙ c.self.view_is)
 
 joined : (c : goal.After-truncate) → JoinedOn (event_of c.args.report) c.self.inside.log c.join.new.self c.self.inside.steps.items c.truncate.new.self.items c.args.self.now c.args.index
 joined c =
@@ -48,4 +48,4 @@ returns-clause-answer c = sym (ap is_some (joined c).joined)
 
 pub returns-clause-value : goal.returns-clause-value
 returns-clause-value c =
-    sym (ap (λ (o : Option (List Item)). unwrap_or o (reverse c.args.self.now)) (joined c).joined)
+    subst (λ (o : Option (List Item)). JoinedIn o c.args.self.now (items_in c.join.new.self c.truncate.new.self.items)) (sym (joined c).joined) refl
