@@ -4,7 +4,7 @@ use Rattle.std.specs.List.{repeat}
 use Rattle.std.proofs.lemmas.List.{length-append, append-nil}
 use Rattle.std.proofs.lemmas.Bool.Decides.{nat_tests}
 use Rattle.std.proofs.lemmas.Str.{IsCharBoundary-start}
-use Rattle.line_buffer.specs.Event.{ChangeEvent, insertion}
+use Rattle.line_buffer.specs.Event.{ChangeEvent, InsertStr}
 use Rattle.line_buffer.specs.Event.ChangeEvent.{InsertChar}
 use Rattle.line_buffer.specs.Insertions.{last_cut, is_inside_char, has_room, with_text_at_cursor, no_insertion, insertion_by, insertion_of, insert, Insertion, yank}
 use Rattle.line_buffer.specs.Line.{Line}
@@ -53,21 +53,21 @@ insertion_cases : (P : Insertion → Type 0) (told : ChangeEvent) (added : List 
 insertion_cases P told added l none some = elim (has_room (length added) l) as (λ b. P (if b then inserted told added l else no_insertion l)) [ true ↦ some | false ↦ none ]
 
 pub insert_cases : (P : Insertion → Type 0) (c n : ℕ) (l : Line) → P (no_insertion l) → (n ≡ 1 → P (inserted (InsertChar l.place c) (encode_utf8 c) l))
-    → P (inserted (insertion l.place (repeat n (encode_utf8 c))) (repeat n (encode_utf8 c)) l) → P (insert c n l)
+    → P (inserted (InsertStr l.place (repeat n (encode_utf8 c))) (repeat n (encode_utf8 c)) l) → P (insert c n l)
 insert_cases P c n l none one many = by (n == 1) refl
   where
     by : (b : Bool) → (n == 1) ≡ b → P (if b then insertion_by (InsertChar l.place c) (encode_utf8 c) l else insertion_of (encode_utf8 c) n l)
     by true e = insertion_cases P (InsertChar l.place c) (encode_utf8 c) l none (one (eqb-true n 1 e))
-    by false e = insertion_cases P (insertion l.place (repeat n (encode_utf8 c))) (repeat n (encode_utf8 c)) l none many
+    by false e = insertion_cases P (InsertStr l.place (repeat n (encode_utf8 c))) (repeat n (encode_utf8 c)) l none many
 
-pub yank_cases : (P : Insertion → Type 0) (text : List ℕ) (n : ℕ) (l : Line) → P (no_insertion l) → P (inserted (insertion l.place (repeat n text)) (repeat n text) l) → P (yank text n l)
+pub yank_cases : (P : Insertion → Type 0) (text : List ℕ) (n : ℕ) (l : Line) → P (no_insertion l) → P (inserted (InsertStr l.place (repeat n text)) (repeat n text) l) → P (yank text n l)
 yank_cases P text n l none some =
-    elim (length text == 0) as (λ b. P (if b then no_insertion l else insertion_of text n l)) [ true ↦ none | false ↦ insertion_cases P (insertion l.place (repeat n text)) (repeat n text) l none some ]
+    elim (length text == 0) as (λ b. P (if b then no_insertion l else insertion_of text n l)) [ true ↦ none | false ↦ insertion_cases P (InsertStr l.place (repeat n text)) (repeat n text) l none some ]
 
 -- one copy is the text itself
-pub one_insertion : (text : List ℕ) (n : ℕ) (l : Line) → n ≡ 1 → insertion_by (insertion l.place text) text l ≡ insertion_of text n l
+pub one_insertion : (text : List ℕ) (n : ℕ) (l : Line) → n ≡ 1 → insertion_by (InsertStr l.place text) text l ≡ insertion_of text n l
 one_insertion text n l e =
-    ap (λ added. insertion_by (insertion l.place added) added l) (let same : text ≡ repeat n text = rw e (sym (append-nil text)) in same)
+    ap (λ added. insertion_by (InsertStr l.place added) added l) (let same : text ≡ repeat n text = rw e (sym (append-nil text)) in same)
 
 -- what is told if there is space
 pub told_where_room : (told : ChangeEvent) (added : List ℕ) (l : Line) → true ≡ has_room (length added) l → (insertion_by told added l).events ≡ told ∷ []

@@ -76,9 +76,6 @@ pub record StopsAmong {S : Type 0} (takes stops : S → ChangeEvent → S → Ty
 abbrev pub deletion : ℕ → ℕ → Direction → List ℕ → ChangeEvent
 deletion from upto direction text = Delete from (slice_range text from upto) direction
 
-abbrev pub insertion : ℕ → List ℕ → ChangeEvent
-insertion at added = InsertStr at added
-
 abbrev pub replacement : ℕ → ℕ → List ℕ → List ℕ → ChangeEvent
 replacement from upto added text = Replace from (slice_range text from upto) added
 

@@ -7,7 +7,7 @@ use Rattle.line_buffer.specs.declared.types.Movement.{Movement}
 use Rattle.line_buffer.specs.declared.types.Movement.TheVariants.{BackwardWord, ForwardWord, LineUp, LineDown, WholeBuffer, BeginningOfBuffer, EndOfBuffer}
 use Rattle.line_buffer.specs.Clusters.{nth_or_last}
 use Rattle.line_buffer.specs.Edit.{Edit}
-use Rattle.line_buffer.specs.Event.{ChangeEvent, Delete, insertion, line_after_events}
+use Rattle.line_buffer.specs.Event.{ChangeEvent, Delete, line_after_events, InsertStr}
 use Rattle.line_buffer.specs.Line.{Line}
 use Rattle.line_buffer.specs.Rows.{row_start, row_end, starts_above, starts_below}
 use Rattle.line_buffer.specs.Words.{prev_word, next_word}
@@ -35,7 +35,7 @@ front_whitespace count row = encode_utf8_all (take count (take_while is_whitespa
 -- characters
 abbrev pub row_event : List ℕ → Bool → ℕ → List ℕ → ChangeEvent
 row_event margin dedent at row =
-    if dedent then Delete at (front_whitespace (length margin) row) Forward else insertion at margin
+    if dedent then Delete at (front_whitespace (length margin) row) Forward else InsertStr at margin
 
 -- how long the row is afterwards
 abbrev pub row_len : List ℕ → Bool → List ℕ → ℕ

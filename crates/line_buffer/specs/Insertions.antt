@@ -3,7 +3,7 @@ use Rattle.std.specs.Prelude.{⊤, ℕ, zero, suc, ◌+◌, ◌-◌, ◌==◌, B
 use Rattle.std.specs.List.{insert_slice, repeat}
 use Rattle.line_buffer.specs.declared.types.Direction.TheVariants.{Forward}
 use Rattle.line_buffer.specs.Edit.{Edit}
-use Rattle.line_buffer.specs.Event.{ChangeEvent, InsertChar, deletion, insertion}
+use Rattle.line_buffer.specs.Event.{ChangeEvent, InsertChar, deletion, InsertStr}
 use Rattle.line_buffer.specs.Line.{Line, without_range}
 
 -- the byte at a place continues the character before it
@@ -30,7 +30,7 @@ update text pos l =
     let kept = text_that_fits text l in
     record {
       answer = tt;
-      events = deletion 0 (length l.text) Forward l.text ∷ (insertion 0 kept ∷ []);
+      events = deletion 0 (length l.text) Forward l.text ∷ (InsertStr 0 kept ∷ []);
       line = record l { text = kept; place = min pos (length kept) };
     }
 
@@ -59,7 +59,7 @@ insertion_by told added l =
 
 -- n copies of a text
 abbrev pub insertion_of : List ℕ → ℕ → Line → Insertion
-insertion_of text n l = insertion_by (insertion l.place (repeat n text)) (repeat n text) l
+insertion_of text n l = insertion_by (InsertStr l.place (repeat n text)) (repeat n text) l
 
 -- n copies of a character
 abbrev pub insert : ℕ → ℕ → Line → Insertion

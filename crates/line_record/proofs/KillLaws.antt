@@ -17,7 +17,7 @@ use Rattle.line_buffer.specs.Event.ChangeEvent.{StartKilling, StopKilling}
 use Rattle.line_buffer.specs.Insertions.{yank, insertion_of, no_insertion, with_text_at_cursor}
 use Rattle.line_buffer.specs.Line.{Line, without_range}
 use Rattle.line_buffer.specs.Range.{range_of, deletion_events, deletion_line, kill_events, kill as killed_in}
-use Rattle.line_buffer.specs.Event.{insertion, StandsAt}
+use Rattle.line_buffer.specs.Event.{StandsAt, InsertStr}
 use Rattle.line_buffer.proofs.InsertionLemmas.{one_insertion}
 use Rattle.line_record.specs.declared.kill_ring.Action.{Action}
 use Rattle.line_record.specs.declared.kill_ring.Action.TheVariants.{Other, Kill, Yank}
@@ -257,7 +257,7 @@ all_kills (m ∷ ms) some first l r d run =
     (all_kills ms (some || is_some (range_of m l)) first (killed_in m l).line (ring_all (kill_events m l) r) d.1 told)
 
 put_in_room : (g : Bool) (text : List ℕ) (l : Line) → g ≡ true
-    → (if g || nat_le (length l.text + length text) l.limit then record { answer = Some (l.place == length l.text); events = insertion l.place text ∷ []; line = with_text_at_cursor text l } else no_insertion l).line.text
+    → (if g || nat_le (length l.text + length text) l.limit then record { answer = Some (l.place == length l.text); events = InsertStr l.place text ∷ []; line = with_text_at_cursor text l } else no_insertion l).line.text
     ≡ text_with_exchange l.place [] text l.text
 put_in_room true text l e = ap (λ k. replace_range l.text l.place k text) (sym (add-zero l.place))
 put_in_room false text l e = cc
