@@ -1,35 +1,38 @@
 -- Where a text may be cut, and texts of several copies.
 use Rattle.std.proofs.Common.{◌≡◌, ℕ, zero, suc, ◌+◌, ◌-◌, ◌*◌, ◌^◌, ◌<◌, ◌≤◌, Bool, true, false, List, [], ◌∷◌, length, refl, sym, ap, ◌∙◌, subst, arith, IsTrue, ◌↔◌, IsUtf8, IsCharBoundary, if◌then◌else◌, Some, ◌==◌, encode_utf8, eqb-true}
 use Rattle.std.specs.List.{repeat}
-use Rattle.std.proofs.lemmas.List.{length-append, append-nil}
+use Rattle.std.proofs.lemmas.List.{length-append, append-nil, get_or_past}
 use Rattle.std.proofs.lemmas.Bool.Decides.{nat_tests}
 use Rattle.std.proofs.lemmas.Str.{IsCharBoundary-start}
 use Rattle.line_buffer.specs.Event.{ChangeEvent, InsertStr}
 use Rattle.line_buffer.specs.Event.ChangeEvent.{InsertChar}
-use Rattle.line_buffer.specs.Insertions.{last_cut, is_inside_char, has_room, with_text_at_cursor, no_insertion, insertion_by, insertion_of, insert, Insertion, yank}
+use Rattle.line_buffer.specs.Insertions.{has_room, with_text_at_cursor, no_insertion, insertion_by, insertion_of, insert, Insertion, yank}
 use Rattle.line_buffer.specs.Line.{Line}
+use Rattle.std.specs.Fmt.Cut.{floor_char_boundary}
+use Rattle.std.specs.Fmt.{is_char_start}
+use Rattle.std.specs.Prelude.{slice_index}
 
-inside : (text : List ℕ) (n : ℕ) → n ≤ length text → (IsCharBoundary text n → ⊥) → is_inside_char text n ≡ true
+inside : (text : List ℕ) (n : ℕ) → n ≤ length text → (IsCharBoundary text n → ⊥) → is_char_start (slice_index text n) ≡ false
 inside text n le never = grind (arith, nat_tests)
 
-not_inside : (text : List ℕ) (n : ℕ) → IsCharBoundary text n → is_inside_char text n ≡ false
-not_inside text n b = grind (arith, nat_tests)
+not_inside : (text : List ℕ) (n : ℕ) → IsCharBoundary text n → is_char_start (slice_index text n) ≡ true
+not_inside text n b = grind (arith, nat_tests, get_or_past text n 0)
 
-last_cut_here : (text : List ℕ) (n : ℕ) → IsCharBoundary text n → last_cut text n ≡ n
-unfolding last_cut
+last_cut_here : (text : List ℕ) (n : ℕ) → IsCharBoundary text n → floor_char_boundary text n ≡ n
+unfolding floor_char_boundary
 last_cut_here text zero b = refl
 last_cut_here text (suc n) b = rw (not_inside text (suc n) b) refl
 
-last_cut_back : (text : List ℕ) (n : ℕ) → IsUtf8 text → n ≤ length text → (IsCharBoundary text n → ⊥) → (1 ≤ n) × (last_cut text (n - 1) ≡ last_cut text n)
-unfolding last_cut
+last_cut_back : (text : List ℕ) (n : ℕ) → IsUtf8 text → n ≤ length text → (IsCharBoundary text n → ⊥) → (1 ≤ n) × (floor_char_boundary text (n - 1) ≡ floor_char_boundary text n)
+unfolding floor_char_boundary
 last_cut_back text zero u le never = absurd (never (IsCharBoundary-start text u))
-last_cut_back text (suc n) u le never = (omega arith, (let e : suc n - 1 ≡ n = omega arith in ap (last_cut text) e) ∙ (rw (inside text (suc n) le never) refl))
+last_cut_back text (suc n) u le never = (omega arith, (let e : suc n - 1 ≡ n = omega arith in ap (floor_char_boundary text) e) ∙ (rw (inside text (suc n) le never) refl))
 
 -- a turn of the search for a cut, and its end
-pub not_cut : (text : List ℕ) (n : ℕ) (r : Bool) → (IsTrue r ↔ IsCharBoundary text n) → r ≡ false → IsUtf8 text → n ≤ length text → (1 ≤ n) × (last_cut text (n - 1) ≡ last_cut text n)
+pub not_cut : (text : List ℕ) (n : ℕ) (r : Bool) → (IsTrue r ↔ IsCharBoundary text n) → r ≡ false → IsUtf8 text → n ≤ length text → (1 ≤ n) × (floor_char_boundary text (n - 1) ≡ floor_char_boundary text n)
 not_cut text n r test is u le = last_cut_back text n u le (λ b. cc ((subst (λ v. IsTrue v ↔ IsCharBoundary text n) is test).1 b))
 
-pub is_cut : (text : List ℕ) (n : ℕ) (r : Bool) → (IsTrue r ↔ IsCharBoundary text n) → r ≡ true → last_cut text n ≡ n
+pub is_cut : (text : List ℕ) (n : ℕ) (r : Bool) → (IsTrue r ↔ IsCharBoundary text n) → r ≡ true → floor_char_boundary text n ≡ n
 is_cut text n r test is = last_cut_here text n ((subst (λ v. IsTrue v ↔ IsCharBoundary text n) is test).0 refl)
 
 length-repeat : (n : ℕ) (xs : List ℕ) → length (repeat n xs) ≡ n * length xs

@@ -2,7 +2,7 @@
 
 ghost use Rattle.std.specs.Prelude.{◌≡◌, ◌≤◌, ◌<◌, ◌+◌, length, string_bytes, string_len, string_capacity, encode_utf8, IsCharBoundary, OnOk, OnErr};
 ghost use Rattle.std.specs.List.{insert_slice};
-ghost use Rattle.line_buffer.specs.Insertions.{last_cut};
+ghost use Rattle.std.specs.Fmt.Cut.{floor_char_boundary};
 
 use crate::line_buffer::{LineBuffer, OutOfMemory};
 use crate::listener::{ChangeListener, DeleteListener};
@@ -12,7 +12,7 @@ use std::alloc::{AllocError, Global};
 /// The last character boundary of `text` up to `room`.
 fn last_cut(text: &str, room: usize) -> usize
     requires { room ≤ length text.now }
-    ensures value { result ≡ last_cut text.now room }
+    ensures value { result ≡ floor_char_boundary text.now room }
     ensures boundary { IsCharBoundary text.now result }
 {
     let mut end = room;
