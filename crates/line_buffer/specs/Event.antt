@@ -20,7 +20,7 @@ pub record StandsAt (at : ℕ) (from to text : List ℕ) : Type 0 where
   pub bytes : slice_range text at (at + length from) ≡ from
   pub utf8 : IsUtf8 to
 
--- and does
+-- and the other does replace it
 pub record Swaps (at : ℕ) (removed added before after : List ℕ) : Type 0 where
   pub stands : StandsAt at removed added before
   pub becomes : after ≡ replace_range before at (at + length removed) added
