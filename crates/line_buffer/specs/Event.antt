@@ -51,8 +51,7 @@ TellsOfChange StartKilling = ⊥
 TellsOfChange StopKilling = ⊥
 TellsOfChange e = Unit {0}
 
--- the line finds no memory for an event, and the listener isn't notified of it; or the listener
--- fails
+-- the line finds no memory for an event, so the listener isn't notified of it; or that one fails
 abbrev pub wants_or : {S : Type 0} → (S → ChangeEvent → S → Type 0) → S → ChangeEvent → S → Type 0
 wants_or refuses s e t = (t ≡ s) ⊎ refuses s e t
 

@@ -51,8 +51,7 @@ abbrev pub row_after_indent : List ℕ → Bool → List ℕ → List ℕ
 row_after_indent margin dedent row =
     if dedent then drop (length (front_whitespace (length margin) row)) row else margin ++ row
 
--- the events of rows in a text give each its margin, or remove it, and change nothing before or
--- after
+-- the events of rows in a text give each its margin, or remove it, and change nothing around them
 abbrev pub RowsGetTheirMargin : Type 0
 RowsGetTheirMargin =
     (margin : List ℕ) (dedent : Bool) (before after : List ℕ) (rows : List (List ℕ))

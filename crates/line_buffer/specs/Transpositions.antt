@@ -68,8 +68,7 @@ words_around n l =
 abbrev pub before_transposed : ℕ → Line → Line
 before_transposed n l = record l { place = (words_around n l).first.1 }
 
--- the later part is replaced first, so that the earlier one is still at its place; the cursor goes
--- after both
+-- the later part first, so that the earlier one is still at its place; the cursor goes after both
 abbrev pub swap : WordPair → Line → Edit ⊤
 swap p l =
     let first = slice_range l.text p.first.0 p.first.1 in
@@ -88,8 +87,7 @@ abbrev pub transposes_words : ℕ → Line → Bool
 transposes_words n l =
     let p = words_around n l in not (p.first.0 == p.second.0) && nat_le p.first.1 p.second.0
 
--- the cursor moves after the first word, where the events begin; it stays there if the words aren't
--- two
+-- the cursor moves after the first word, where the events begin, and stays there if there are none
 abbrev pub transpose_words : ℕ → Line → Edit Bool
 transpose_words n l =
     let swapped = swap (words_around n l) l in

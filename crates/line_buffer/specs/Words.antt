@@ -91,8 +91,7 @@ text_start text = if length text == 0 then [] else 0 ∷ []
 abbrev pub text_end : List ℕ → List ℕ
 text_end text = if length text == 0 then [] else length text ∷ []
 
--- where a motion back over a text can stop, nearest first: at each start of a word, and at last at
--- the text's start
+-- where a motion back over a text can stop, nearest first: at each start of a word or of the text
 abbrev pub stops_back : Word → List ℕ → List ℕ
 stops_back word text = reverse (text_start text ++ edges_of Start (kinds word (clusters text)))
 

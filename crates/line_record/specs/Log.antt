@@ -104,8 +104,7 @@ abbrev pub AreSteps : List Change → List Step → Type 0
 AreSteps edits steps =
     Adjoin (λ s. s.first) (λ s. s.last) (λ edits s. ⊤) edits 0 steps (length edits)
 
--- items with a joined change, nearest first, replace the old ones; if no change was joined, the old
--- ones stay
+-- items with a joined change, nearest first, replace the old ones, which stay if none was joined
 abbrev pub JoinedIn : Option (List Item) → List Item → List Item → Type 0
 JoinedIn None old new = new ≡ old
 JoinedIn (Some items) old new = reverse new ≡ items

@@ -1,6 +1,5 @@
 -- A kill ring: slots of killed texts, the place of the slot that a yank returns, and the last
--- action. And the kills that were reported to it: a list of runs, the newest first, which has no
--- slots.
+-- action. And the kills that were reported to it: a list of runs, the newest first, without slots.
 use Rattle.std.specs.Prelude.{◌≡◌, ℕ, ◌+◌, ◌-◌, ◌==◌, ◌<◌, ◌≤◌, Bool, true, false, List, [], ◌∷◌, ◌++◌, length, if◌then◌else◌, nat_lt, Option, Some, None, is_some, slice_set, slice_index_or}
 use Rattle.std.specs.List.{fold}
 use Rattle.line_buffer.specs.Event.{ChangeEvent}
