@@ -4,7 +4,7 @@ use Rattle.std.specs.List.{filter}
 use Rattle.std.proofs.lemmas.Bool.Decides.{nat_tests}
 use Rattle.std.proofs.lemmas.List.{map-append}
 use Rattle.line_buffer.specs.Cells.{origin}
-use Rattle.line_buffer.specs.Tabs.{tab_width}
+use Rattle.line_buffer.specs.Width.{tab_width}
 use Rattle.line_buffer.specs.declared.layout.Position.{Position}
 use Rattle.line_config.specs.declared.memory.VecSink.{VecSink}
 use Rattle.line_editor.specs.Redraws.{info_text}

@@ -17,8 +17,7 @@ use Rattle.line_buffer.specs.declared.layout.GraphemeClusterMode.{GraphemeCluste
 use Rattle.line_buffer.specs.Clusters.{clusters}
 use Rattle.line_buffer.specs.Columns.{place_at_column}
 use Rattle.ucd_emoji.specs.Binary.{is_emoji_variation_base}
-use Rattle.line_buffer.specs.Parting.{parts, is_selected, is_flag_letter}
-use Rattle.line_buffer.specs.Width.{columns_of, width_of}
+use Rattle.line_buffer.specs.Width.{parts, is_selected, is_flag_letter, columns_of, width_of}
 use Rattle.line_buffer.proofs.ChainLemmas.{last_or-append}
 use Rattle.line_buffer.proofs.PartingLemmas.{first, parts_bare, columns_parted, columns_selected, columns_of_flags}
 

@@ -1,29 +1,31 @@
 -- The greatest place at which a text may be cut, and what is kept of it.
 use Rattle.std.proofs.Common.{◌≡◌, ℕ, zero, suc, ◌≤◌, Bool, true, false, ◌||◌, List, [], ◌∷◌, ◌++◌, length, take, drop, refl, sym, ap, subst, ◌∙◌, arith, append-nil, take-append-drop, length-append, IsUtf8, IsCharBoundary, nat_le, if◌then◌else◌}
-use Rattle.std.proofs.lemmas.List.{length-take-le}
+use Rattle.std.proofs.lemmas.List.{length-take-le, get_or_past}
 use Rattle.std.proofs.lemmas.Bool.Decides.{nat_tests}
 use Rattle.std.proofs.lemmas.Str.{IsCharBoundary-start, IsCharBoundary-from_take, IsUtf8-take}
-use Rattle.line_buffer.specs.Insertions.{last_cut, is_inside_char}
 use Rattle.line_buffer.specs.Laws.{IsLongestThatFits, KeepsTheLongestThatFits}
+use Rattle.std.specs.Fmt.Cut.{floor_char_boundary}
+use Rattle.std.specs.Fmt.{is_char_start}
+use Rattle.std.specs.Prelude.{slice_index}
 
 record IsGreatestCut (text : List ℕ) (room cut : ℕ) : Type 0 where
   boundary : IsCharBoundary text cut
   fits : cut ≤ room
   greatest : (i : ℕ) → i ≤ room → IsCharBoundary text i → i ≤ cut
 
-outside : (text : List ℕ) (n : ℕ) → n ≤ length text → is_inside_char text n ≡ false → IsCharBoundary text n
+outside : (text : List ℕ) (n : ℕ) → n ≤ length text → is_char_start (slice_index text n) ≡ true → IsCharBoundary text n
 outside text n le e = (le, λ less high. grind (arith, nat_tests))
 
-never_inside : (text : List ℕ) (n : ℕ) → is_inside_char text n ≡ true → IsCharBoundary text n → ⊥
-never_inside text n e b = grind (arith, nat_tests)
+never_inside : (text : List ℕ) (n : ℕ) → is_char_start (slice_index text n) ≡ false → IsCharBoundary text n → ⊥
+never_inside text n e b = grind (arith, nat_tests, get_or_past text n 0)
 
-greatest_cut : (text : List ℕ) (room : ℕ) → IsUtf8 text → room ≤ length text → IsGreatestCut text room (last_cut text room)
-unfolding last_cut
+greatest_cut : (text : List ℕ) (room : ℕ) → IsUtf8 text → room ≤ length text → IsGreatestCut text room (floor_char_boundary text room)
+unfolding floor_char_boundary
 greatest_cut text zero u le = record { boundary = IsCharBoundary-start text u; fits = omega arith; greatest = λ i l b. l }
-greatest_cut text (suc n) u le = by (is_inside_char text (suc n)) refl (greatest_cut text n u (omega arith))
+greatest_cut text (suc n) u le = by (is_char_start (slice_index text (suc n))) refl (greatest_cut text n u (omega arith))
   where
-    by : (b : Bool) → is_inside_char text (suc n) ≡ b → IsGreatestCut text n (last_cut text n) → IsGreatestCut text (suc n) (if b then last_cut text n else suc n)
-    by true e h = record {
+    by : (b : Bool) → is_char_start (slice_index text (suc n)) ≡ b → IsGreatestCut text n (floor_char_boundary text n) → IsGreatestCut text (suc n) (if b then suc n else floor_char_boundary text n)
+    by false e h = record {
       boundary = h.boundary;
       fits = omega (arith, h.fits);
       greatest = λ i l b. h.greatest i (below i l (λ same. never_inside text (suc n) e (subst (IsCharBoundary text) same b))) b;
@@ -31,16 +33,16 @@ greatest_cut text (suc n) u le = by (is_inside_char text (suc n)) refl (greatest
       where
         below : (i : ℕ) → i ≤ suc n → (i ≡ suc n → ⊥) → i ≤ n
         below i l other = omega arith
-    by false e h = record { boundary = outside text (suc n) le e; fits = omega arith; greatest = λ i l b. l }
+    by true e h = record { boundary = outside text (suc n) le e; fits = omega arith; greatest = λ i l b. l }
 
-cut_is_longest : (text : List ℕ) (room : ℕ) → IsUtf8 text → room ≤ length text → IsLongestThatFits text (take (last_cut text room) text) room
+cut_is_longest : (text : List ℕ) (room : ℕ) → IsUtf8 text → room ≤ length text → IsLongestThatFits text (take (floor_char_boundary text room) text) room
 cut_is_longest text room u le =
     let cut = greatest_cut text room u le in
-    let long : length (take (last_cut text room) text) ≡ last_cut text room = length-take-le (last_cut text room) text cut.boundary.0 in
+    let long : length (take (floor_char_boundary text room) text) ≡ floor_char_boundary text room = length-take-le (floor_char_boundary text room) text cut.boundary.0 in
     record {
-      rest = drop (last_cut text room) text;
-      begins = sym (take-append-drop (last_cut text room) text);
-      whole = IsUtf8-take text (last_cut text room) u cut.boundary;
+      rest = drop (floor_char_boundary text room) text;
+      begins = sym (take-append-drop (floor_char_boundary text room) text);
+      whole = IsUtf8-take text (floor_char_boundary text room) u cut.boundary;
       fits = omega (arith, long, cut.fits);
       longest = λ other more e v l.
           let front : take (length other) text ≡ other = ap (take (length other)) e ∙ take_front other more in
@@ -63,10 +65,10 @@ whole_is_longest text room u le = record {
 
 pub keeps_the_longest_that_fits : KeepsTheLongestThatFits
 keeps_the_longest_that_fits text l u small =
-    subst (λ g. IsLongestThatFits text (if g || nat_le (length text) l.limit then text else take (last_cut text l.limit) text) l.limit) (sym small)
+    subst (λ g. IsLongestThatFits text (if g || nat_le (length text) l.limit then text else take (floor_char_boundary text l.limit) text) l.limit) (sym small)
     (by (nat_le (length text) l.limit) refl)
   where
-    by : (b : Bool) → nat_le (length text) l.limit ≡ b → IsLongestThatFits text (if b then text else take (last_cut text l.limit) text) l.limit
+    by : (b : Bool) → nat_le (length text) l.limit ≡ b → IsLongestThatFits text (if b then text else take (floor_char_boundary text l.limit) text) l.limit
     by true e = whole_is_longest text l.limit u (within e)
       where
         within : nat_le (length text) l.limit ≡ true → length text ≤ l.limit

@@ -7,7 +7,7 @@ use Rattle.std.proofs.lemmas.List.Edits.{length-between}
 use Rattle.std.proofs.Math.Seq.{take-append_seam, drop-append_seam, drop-append-add}
 use Rattle.line_buffer.specs.declared.types.Direction.TheVariants.{Forward}
 use Rattle.line_buffer.specs.Line.{Line}
-use Rattle.line_buffer.specs.Replay.{Swaps, deletion, insertion, place_after_event, line_after_event}
+use Rattle.line_buffer.specs.Event.{Swaps, deletion, place_after_event, line_after_event, InsertStr}
 
 pub insert_at_seam : (xs ys zs : List ℕ) → (xs ++ zs) ++ ys ≡ insert_slice (xs ++ ys) (length xs) zs
 insert_at_seam xs ys zs =
@@ -24,10 +24,12 @@ remove_at_seam xs ys n le =
 pub swaps_replacement : (from upto : ℕ) (added before after : List ℕ) → from ≤ upto → IsCharBoundary before from → IsCharBoundary before upto → IsUtf8 added → after ≡ replace_range before from upto added
     → Swaps from (slice_range before from upto) added before after
 swaps_replacement from upto added before after le b e u is = record {
-  start = b;
-  end = subst (IsCharBoundary before) (sym end) e;
-  stands = ap (slice_range before from) end;
-  text = u;
+  stands = record {
+    start = b;
+    end = subst (IsCharBoundary before) (sym end) e;
+    bytes = ap (slice_range before from) end;
+    utf8 = u;
+  };
   becomes = is ∙ ap (λ n. replace_range before from n added) (sym end);
 }
   where
@@ -46,22 +48,22 @@ abbrev pub gapped : List ℕ → ℕ → Bool → ℕ → ℕ → Line × ℕ
 gapped text place growth limit gap = (record { text = text; place = place; growth = growth; limit = limit }, gap)
 
 -- a text was put in before the gap
-pub gap_inserted : (before after text new : List ℕ) (pos place limit : ℕ) (growth : Bool) → new ≡ before ++ text → place ≡ place_after_event (insertion (length before) text) pos
+pub gap_inserted : (before after text new : List ℕ) (pos place limit : ℕ) (growth : Bool) → new ≡ before ++ text → place ≡ place_after_event (InsertStr (length before) text) pos
     → gapped (new ++ after) place growth limit (length new)
-    ≡ (line_after_event (insertion (length before) text) (gapped (before ++ after) pos growth limit (length before)).0, length before + length text)
+    ≡ (line_after_event (InsertStr (length before) text) (gapped (before ++ after) pos growth limit (length before)).0, length before + length text)
 gap_inserted before after text new pos place limit growth done at =
     ap₂ (λ t p. gapped t p growth limit (length new)) whole at
-    ∙ ap (gapped (replace_range (before ++ after) (length before) (length before + 0) text) (place_after_event (insertion (length before) text) pos) growth limit) (ap length done ∙ length-append before text)
+    ∙ ap (gapped (replace_range (before ++ after) (length before) (length before + 0) text) (place_after_event (InsertStr (length before) text) pos) growth limit) (ap length done ∙ length-append before text)
   where
     whole : new ++ after ≡ replace_range (before ++ after) (length before) (length before + 0) text
     whole =
         ap (λ t. t ++ after) done ∙ insert_at_seam before after text
         ∙ ap (λ n. replace_range (before ++ after) (length before) n text) (sym (add-zero (length before)))
 
-pub place_moved : (at pos : ℕ) (text : List ℕ) → at ≤ pos → pos + length text ≡ place_after_event (insertion at text) pos
+pub place_moved : (at pos : ℕ) (text : List ℕ) → at ≤ pos → pos + length text ≡ place_after_event (InsertStr at text) pos
 place_moved at pos text le = grind (arith, nat_tests)
 
-pub place_kept : (at pos : ℕ) (text : List ℕ) → pos < at → pos ≡ place_after_event (insertion at text) pos
+pub place_kept : (at pos : ℕ) (text : List ℕ) → pos < at → pos ≡ place_after_event (InsertStr at text) pos
 place_kept at pos text lt = grind (arith, nat_tests)
 
 -- a part was taken out behind the gap

@@ -7,7 +7,7 @@ use Rattle.std.proofs.lemmas.List.{length-drop, drop-append-le}
 use Rattle.std.proofs.lemmas.Str.{encodes-chars}
 use Rattle.line_buffer.specs.Indent.{front_whitespace, row_event, row_len, row_events}
 use Rattle.line_buffer.specs.Laws.{row_after_indent, RowsGetTheirMargin}
-use Rattle.line_buffer.specs.Replay.{text_after_event, text_after_events}
+use Rattle.line_buffer.specs.Event.{text_after_event, text_after_events}
 
 encoded-append : (xs ys : List ℕ) → encode_utf8_all (xs ++ ys) ≡ encode_utf8_all xs ++ encode_utf8_all ys
 encoded-append [] ys = refl

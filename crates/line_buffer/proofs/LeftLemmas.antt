@@ -7,10 +7,9 @@ use Rattle.std.proofs.lemmas.List.Edits.{length-between}
 use Rattle.std.proofs.lemmas.Result.{on_err_weaker}
 use Rattle.line_buffer.specs.declared.types.Direction.TheVariants.{Forward}
 use Rattle.line_buffer.specs.Edit.{Edit, StopsAt, EditsLine, CutsLine, SameSettings}
-use Rattle.line_buffer.specs.Event.{ChangeEvent}
+use Rattle.line_buffer.specs.Event.{ChangeEvent, Replays, TellsOfChange, Reports, StopsAmong, wants_or, deletion, replacement, line_after_event, line_after_events}
 use Rattle.line_buffer.specs.Event.ChangeEvent.{StartKilling, StopKilling}
 use Rattle.line_buffer.specs.Line.{Line, with_replacement, without_range}
-use Rattle.line_buffer.specs.Replay.{Replays, TellsOfChange, Reports, StopsAmong, wants_or, deletion, replacement, line_after_event, line_after_events}
 use Rattle.line_buffer.proofs.ReplayedLemmas.{replayed_deletion, replayed_replacement}
 use Rattle.line_buffer.proofs.ReplayLemmas.{reports_nothing, reports_one, reports_then, stops_wanting}
 

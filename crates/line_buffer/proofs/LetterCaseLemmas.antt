@@ -3,7 +3,7 @@ use Rattle.std.proofs.Common.{◌≡◌, ℕ, Bool, true, false, List, [], ◌�
 use Rattle.line_buffer.specs.declared.types.WordAction.{WordAction}
 use Rattle.line_buffer.specs.LetterCase.{word_to_edit, word_in_case, recase, edit_word}
 use Rattle.line_buffer.specs.Line.{Line}
-use Rattle.line_buffer.specs.Replay.{replacement}
+use Rattle.line_buffer.specs.Event.{replacement}
 
 module _ {X : Type 0} (p : X → Bool) (all old new : List X) (x : X) (found : find p all ≡ find p old) (came : old ≡ x ∷ new) where
   here : (b : Bool) → p x ≡ b → find p all ≡ cond b (Some x) (find p new)

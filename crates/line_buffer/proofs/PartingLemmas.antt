@@ -38,8 +38,7 @@ use Rattle.unicode_width.proofs.KindLemmas.{kind_stepped, is_ligature_transparen
 use Rattle.unicode_width.proofs.Rules.{is_simple, str_width-append_simple}
 use Rattle.line_buffer.specs.declared.layout.GraphemeClusterMode.{GraphemeClusterMode}
 use Rattle.line_buffer.specs.declared.layout.GraphemeClusterMode.TheVariants.{Unicode, WcWidth, NoZwj}
-use Rattle.line_buffer.specs.Parting.{looks_ahead, is_solid, takes_marks, is_bare, parts, is_flag_letter}
-use Rattle.line_buffer.specs.Width.{char_columns_of, columns_of}
+use Rattle.line_buffer.specs.Width.{looks_ahead, is_solid, takes_marks, is_bare, parts, is_flag_letter, char_columns_of, columns_of}
 use Rattle.line_buffer.proofs.ListedRanges.{apart, implied}
 
 -- ---- facts of the tables

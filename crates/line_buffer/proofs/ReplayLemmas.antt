@@ -1,8 +1,7 @@
 -- Calls of several events: what they make of a listener and of a text.
 use Rattle.std.proofs.Common.{◌≡◌, Bool, true, ℕ, ◌+◌, ◌-◌, arith, take, drop, List, [], ◌∷◌, ◌++◌, inr, refl, subst, ap, ◌∙◌, if◌then◌else◌, IsUtf8, IsCharBoundary}
 use Rattle.std.specs.List.{replace_range, insert_slice}
-use Rattle.line_buffer.specs.Event.{ChangeEvent}
-use Rattle.line_buffer.specs.Replay.{Swaps, Replays, TakesAll, Reports, StopsAmong, wants_or}
+use Rattle.line_buffer.specs.Event.{ChangeEvent, Swaps, Replays, TakesAll, Reports, StopsAmong, wants_or}
 
 module _ {S : Type 0} (takes : S → ChangeEvent → S → Type 0) where
   TakesAll-append : (es fs : List ChangeEvent) (s t u : S) → TakesAll takes s es t → TakesAll takes t fs u → TakesAll takes s (es ++ fs) u
@@ -51,9 +50,11 @@ stops_wanting {S} {takes} {refuses} {closing} {es} {s} {t} {a} {b} x = record {
 -- a text put in
 pub swaps_insertion : (at : ℕ) (added before after : List ℕ) → IsCharBoundary before at → IsUtf8 added → after ≡ insert_slice before at added → Swaps at [] added before after
 swaps_insertion at added before after b u e = record {
-  start = b;
-  end = subst (IsCharBoundary before) (let k : at ≡ at + 0 = omega arith in k) b;
-  stands = ap (λ n. take n (drop at before)) (let k : (at + 0) - at ≡ 0 = omega arith in k);
-  text = u;
+  stands = record {
+    start = b;
+    end = subst (IsCharBoundary before) (let k : at ≡ at + 0 = omega arith in k) b;
+    bytes = ap (λ n. take n (drop at before)) (let k : (at + 0) - at ≡ 0 = omega arith in k);
+    utf8 = u;
+  };
   becomes = e ∙ ap (λ n. replace_range before at n added) (let k : at ≡ at + 0 = omega arith in k);
 }

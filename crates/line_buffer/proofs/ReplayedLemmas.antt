@@ -7,13 +7,12 @@ use Rattle.line_buffer.specs.declared.range.TextSpan.{TextSpan}
 use Rattle.line_buffer.specs.declared.types.Direction.{Direction}
 use Rattle.line_buffer.specs.declared.types.Direction.TheVariants.{Forward}
 use Rattle.line_buffer.specs.declared.types.Movement.{Movement}
-use Rattle.line_buffer.specs.Event.{ChangeEvent}
+use Rattle.line_buffer.specs.Event.{ChangeEvent, deletion, replacement, text_after_event, text_after_events, line_after_event, line_after_events, InsertStr}
 use Rattle.line_buffer.specs.Event.ChangeEvent.{StartKilling, StopKilling}
 use Rattle.line_buffer.specs.Indent.{indent}
 use Rattle.line_buffer.specs.Insertions.{text_that_fits, update, insert, yank, without_before, yank_pop}
 use Rattle.line_buffer.specs.Line.{Line}
 use Rattle.line_buffer.specs.Range.{IsSpanOf, range_of, deletion_events, deletion_line, kill_events, kill, goes_by_clusters}
-use Rattle.line_buffer.specs.Replay.{deletion, insertion, replacement, text_after_event, text_after_events, line_after_event, line_after_events}
 use Rattle.line_buffer.proofs.InsertionLemmas.{insert_cases, yank_cases}
 
 pub replayed_all-append : (es fs : List ChangeEvent) (a : List ℕ) → text_after_events (es ++ fs) a ≡ text_after_events fs (text_after_events es a)
@@ -37,7 +36,7 @@ pub replayed_deletion : (text : List ℕ) (from upto : ℕ) (direction : Directi
 replayed_deletion text from upto direction le fits =
     ap (λ n. replace_range text from n []) (let k : from + length (slice_range text from upto) ≡ upto = omega (arith, length-between text from upto fits, le) in k)
 
-pub replayed_insertion : (text : List ℕ) (at : ℕ) (added : List ℕ) → text_after_event (insertion at added) text ≡ insert_slice text at added
+pub replayed_insertion : (text : List ℕ) (at : ℕ) (added : List ℕ) → text_after_event (InsertStr at added) text ≡ insert_slice text at added
 replayed_insertion text at added = ap (λ n. replace_range text at n added) (let k : at + 0 ≡ at = omega arith in k)
 
 pub replayed_replacement : (text : List ℕ) (from upto : ℕ) (added : List ℕ) → from ≤ upto → upto ≤ length text → text_after_event (replacement from upto added text) text ≡ replace_range text from upto added
@@ -48,7 +47,7 @@ replayed_replacement text from upto added le fits =
 pub update_replayed : (text : List ℕ) (l : Line) → text_after_events (update text 0 l).events l.text ≡ text_that_fits text l
 update_replayed text l =
     replayed_all-first _ _ l.text ∙ replayed_all-one _ _
-    ∙ ap (λ t. text_after_event (insertion 0 (text_that_fits text l)) t) (replayed_deletion l.text 0 (length l.text) Forward (omega arith) (omega arith) ∙ drop_all (length l.text) l.text (omega arith))
+    ∙ ap (λ t. text_after_event (InsertStr 0 (text_that_fits text l)) t) (replayed_deletion l.text 0 (length l.text) Forward (omega arith) (omega arith) ∙ drop_all (length l.text) l.text (omega arith))
     ∙ append-nil (text_that_fits text l)
 
 pub insert_replayed : (c n : ℕ) (l : Line) → text_after_events (insert c n l).events l.text ≡ (insert c n l).line.text

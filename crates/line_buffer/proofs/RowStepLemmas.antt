@@ -6,10 +6,9 @@ use Rattle.std.proofs.lemmas.List.Edits.{length-between}
 use Rattle.std.proofs.lemmas.Str.{IsCharBoundary-from_drop, IsCharBoundary-after_ascii, IsUtf8-drop}
 use Rattle.line_buffer.specs.declared.types.Movement.{Movement}
 use Rattle.line_buffer.specs.Edit.{StopsAt, SameSettings}
-use Rattle.line_buffer.specs.Event.{ChangeEvent}
+use Rattle.line_buffer.specs.Event.{ChangeEvent, Replays, Reports, TellsOfChange, wants_or, line_after_event, line_after_events}
 use Rattle.line_buffer.specs.Indent.{rows_covered, spaces, indent, rows_of, row_event, row_len, row_events}
 use Rattle.line_buffer.specs.Line.{Line}
-use Rattle.line_buffer.specs.Replay.{Replays, Reports, TellsOfChange, wants_or, line_after_event, line_after_events}
 use Rattle.line_buffer.specs.Rows.{is_in_row, row_start, row_end}
 use Rattle.line_buffer.proofs.IndentLemmas.{rows_last, rows_more}
 use Rattle.line_buffer.proofs.LeftLemmas.{carried_all-one, carried_all-append, stopped_as, stopped_first, stopped_later}

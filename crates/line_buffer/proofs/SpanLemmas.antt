@@ -16,7 +16,7 @@ use Rattle.line_buffer.specs.declared.types.Movement.TheVariants.{WholeLine, Beg
 use Rattle.line_buffer.specs.Clusters.{clusters, cluster_ends, nth_or_last, place_forward, place_backward, IsPart}
 use Rattle.line_buffer.specs.Hits.{hit_forward, hit_backward, hits}
 use Rattle.line_buffer.specs.Line.{Line, text_before, text_after, with_cursor_at, with_replacement}
-use Rattle.line_buffer.specs.Replay.{replacement, text_after_events}
+use Rattle.line_buffer.specs.Event.{replacement, text_after_events}
 use Rattle.line_buffer.specs.Transpositions.{between_clusters, clusters_at, transposes_chars, later_first, transpose_chars}
 use Rattle.line_buffer.specs.Range.{deletion_events, deletion_line, kill_events, kill, IsSpanOf, up_to_cursor, from_cursor, around_cursor, to_row_end, from_row_start, search_range, range_of}
 use Rattle.line_buffer.specs.Rows.{is_in_row, row_start, row_end, behind_newlines, row_starts, starts_above, starts_below, row_close}

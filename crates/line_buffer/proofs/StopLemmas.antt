@@ -8,7 +8,7 @@ use Rattle.std.proofs.lemmas.List.Elements.{All-nil, All-cons, All-tail, All-app
 use Rattle.std.proofs.lemmas.Str.{IsCharBoundary-start, IsCharBoundary-end}
 use Rattle.unicode_segmentation.proofs.Computing.{unicode_segmentation}
 use Rattle.line_buffer.specs.Clusters.{clusters, nth_or_last}
-use Rattle.line_buffer.specs.Words.{kinds, kind_of, edges_of, edge_between, text_start, text_end, later_last, inner_stops, last_stop, stops_back, stops_forward}
+use Rattle.line_buffer.specs.Words.{kinds, kind_of, edges_of, edge_between, text_start, text_end, inner_stops, last_stop, stops_back, stops_forward}
 use Rattle.line_buffer.specs.declared.types.At.{At}
 use Rattle.line_buffer.specs.declared.types.At.TheVariants.{Start, BeforeEnd, AfterEnd}
 use Rattle.line_buffer.specs.declared.types.Word.{Word}
@@ -54,6 +54,10 @@ text_end-cases text = by_test (length text == 0) refl
 last-some : {A : Type 0} (x : A) (xs : List A) → (z : A) × (last_or (Some x) xs ≡ Some z)
 last-some x [] = (x, refl)
 last-some x (y ∷ xs) = last-some y xs
+
+-- the place of the last cluster, unless it is the first
+abbrev pub later_last : List (ℕ × List ℕ) → List ℕ
+later_last pieces = option_to_list (option_map (λ x. x.0) (last_or None (drop 1 pieces)))
 
 later_last-cases : (xs : List (ℕ × List ℕ)) → ((later_last xs ≡ []) × (drop 1 xs ≡ [])) ⊎ ((t : ℕ) × (later_last xs ≡ t ∷ []))
 later_last-cases [] = inl (refl, refl)

@@ -16,8 +16,7 @@ use Rattle.line_buffer.specs.declared.layout.GraphemeClusterMode.TheVariants.{Un
 use Rattle.line_buffer.specs.declared.layout.TabStops.{TabStops}
 use Rattle.line_buffer.specs.Clusters.{clusters, cluster_ends}
 use Rattle.line_buffer.specs.Columns.{place_at_column}
-use Rattle.line_buffer.specs.Tabs.{tab_end, parts_end, column_after}
-use Rattle.line_buffer.specs.Width.{columns_of, width_of}
+use Rattle.line_buffer.specs.Width.{tab_end, parts_end, column_after, columns_of, width_of}
 use Rattle.line_buffer.proofs.ChainLemmas.{option_map-last_or, last_or-append}
 use Rattle.line_buffer.proofs.PartLemmas.{boundary_before}
 use Rattle.line_buffer.proofs.TabClusters.{clusters-tab}

@@ -5,7 +5,7 @@ use Rattle.std.proofs.lemmas.List.{length-take-le, length-drop, drop-append-le}
 use Rattle.std.proofs.lemmas.Bool.{and_from}
 use Rattle.std.proofs.lemmas.Bool.Decides.{nat_tests}
 use Rattle.std.proofs.lemmas.Str.{IsUtf8-drop}
-use Rattle.line_buffer.specs.Replay.{replacement}
+use Rattle.line_buffer.specs.Event.{replacement}
 use Rattle.line_buffer.specs.Line.{Line}
 use Rattle.line_buffer.specs.Transpositions.{clusters_around, between_clusters, clusters_at, later_first, transposes_chars, transpose_chars}
 use Rattle.line_buffer.proofs.CutLemmas.{at_seam}

@@ -1,5 +1,4 @@
--- The extended grapheme clusters of a text (UAX #29), and the places to which motions by clusters
--- lead.
+-- The extended grapheme clusters of a text (UAX #29), and where motions by clusters lead.
 use Rattle.std.specs.Prelude.{ℕ, ◌+◌, true, IsCharBoundary, List, length, map, reverse, take, Option, None, option_map}
 use Rattle.std.specs.List.{last_or}
 use Rattle.unicode_segmentation.specs.Grapheme.{graphemes}

@@ -6,7 +6,7 @@ use Rattle.line_buffer.specs.declared.layout.GraphemeClusterMode.{GraphemeCluste
 use Rattle.line_buffer.specs.Line.{Line}
 use Rattle.line_buffer.specs.Clusters.{cluster_ends, nth_or_last}
 use Rattle.line_buffer.specs.Rows.{row_start, row_end, starts_above, starts_below}
-use Rattle.line_buffer.specs.Tabs.{column_after}
+use Rattle.line_buffer.specs.Width.{column_after}
 use Rattle.line_buffer.specs.declared.layout.TabStops.{TabStops}
 
 -- of the boundaries of the clusters of a row that begins at a column, each with its own column, the
@@ -27,20 +27,19 @@ cursor_column mode tabs prompt l =
     let start = row_start l.text l.place in
     column_after mode tabs (first_column prompt start) (slice_range l.text start l.place)
 
--- in the row that starts at a place
-unfoldable pub place_in_row : GraphemeClusterMode → Option TabStops → ℕ → ℕ → List ℕ → ℕ → ℕ
-place_in_row mode tabs prompt column text start =
-    let row = slice_range text start (row_end text start) in
+-- at that column, in the row that starts at a place
+unfoldable pub place_in_row : GraphemeClusterMode → Option TabStops → ℕ → Line → ℕ → ℕ
+place_in_row mode tabs prompt l start =
+    let column = cursor_column mode tabs prompt l in
+    let row = slice_range l.text start (row_end l.text start) in
     start + place_at_column mode tabs (first_column prompt start) column row
 
 -- in the n-th row above the cursor's row
 unfoldable pub line_up : GraphemeClusterMode → Option TabStops → ℕ → ℕ → Line → Option ℕ
 line_up mode tabs prompt n l =
-    option_map (place_in_row mode tabs prompt (cursor_column mode tabs prompt l) l.text)
-    (nth_or_last n (starts_above l))
+    option_map (place_in_row mode tabs prompt l) (nth_or_last n (starts_above l))
 
 -- in the n-th row below it
 unfoldable pub line_down : GraphemeClusterMode → Option TabStops → ℕ → ℕ → Line → Option ℕ
 line_down mode tabs prompt n l =
-    option_map (place_in_row mode tabs prompt (cursor_column mode tabs prompt l) l.text)
-    (nth_or_last n (starts_below l))
+    option_map (place_in_row mode tabs prompt l) (nth_or_last n (starts_below l))

@@ -1,8 +1,7 @@
 -- What a call that edits a line must do: its answer, its events, and the line that it leaves.
 use Rattle.std.specs.Prelude.{◌≡◌, List, length, Result, IfOk, OnOk, OnErr, ◌≤◌}
-use Rattle.line_buffer.specs.Event.{ChangeEvent}
+use Rattle.line_buffer.specs.Event.{ChangeEvent, Replays, Reports, StopsAmong, line_after_events}
 use Rattle.line_buffer.specs.Line.{Line}
-use Rattle.line_buffer.specs.Replay.{Replays, Reports, StopsAmong, line_after_events}
 
 pub record SameSettings (l m : Line) : Type 0 where
   pub growth : m.growth ≡ l.growth
@@ -12,11 +11,6 @@ pub record Edit (A : Type 0) : Type 0 where
   pub answer : A
   pub events : List ChangeEvent
   pub line : Line
-
--- an edit whose events describe all its changes
-abbrev pub edit_of_events : {A : Type 0} → A → List ChangeEvent → Line → Edit A
-edit_of_events answer events l = record
-    { answer = answer; events = events; line = line_after_events events l }
 
 -- a failed call: the line at which its events began, changed by the events that were taken
 pub record StopsAt {S : Type 0} (takes refuses : S → ChangeEvent → S → Type 0)

@@ -6,10 +6,9 @@ use Rattle.line_buffer.specs.declared.types.Direction.TheVariants.{Forward}
 use Rattle.line_buffer.specs.declared.types.Movement.{Movement}
 use Rattle.line_buffer.specs.declared.types.Movement.TheVariants.{BackwardWord, ForwardWord, LineUp, LineDown, WholeBuffer, BeginningOfBuffer, EndOfBuffer}
 use Rattle.line_buffer.specs.Clusters.{nth_or_last}
-use Rattle.line_buffer.specs.Edit.{Edit, edit_of_events}
-use Rattle.line_buffer.specs.Event.{ChangeEvent, Delete}
+use Rattle.line_buffer.specs.Edit.{Edit}
+use Rattle.line_buffer.specs.Event.{ChangeEvent, Delete, line_after_events, InsertStr}
 use Rattle.line_buffer.specs.Line.{Line}
-use Rattle.line_buffer.specs.Replay.{insertion}
 use Rattle.line_buffer.specs.Rows.{row_start, row_end, starts_above, starts_below}
 use Rattle.line_buffer.specs.Words.{prev_word, next_word}
 
@@ -36,7 +35,7 @@ front_whitespace count row = encode_utf8_all (take count (take_while is_whitespa
 -- characters
 abbrev pub row_event : List ℕ → Bool → ℕ → List ℕ → ChangeEvent
 row_event margin dedent at row =
-    if dedent then Delete at (front_whitespace (length margin) row) Forward else insertion at margin
+    if dedent then Delete at (front_whitespace (length margin) row) Forward else InsertStr at margin
 
 -- how long the row is afterwards
 abbrev pub row_len : List ℕ → Bool → List ℕ → ℕ
@@ -54,7 +53,8 @@ row_events margin dedent at (row ∷ rows) =
 -- the rows between two places, indented or dedented
 abbrev pub change_rows : List ℕ → Bool → ℕ → ℕ → Line → Edit ⊤
 change_rows margin dedent from upto l =
-    edit_of_events tt (row_events margin dedent from (rows_of (slice_range l.text from upto))) l
+    let events = row_events margin dedent from (rows_of (slice_range l.text from upto)) in
+    record { answer = tt; events = events; line = line_after_events events l }
 
 abbrev pub spaces : ℕ → List ℕ
 spaces amount = repeat amount (32 ∷ [])
@@ -63,4 +63,5 @@ abbrev pub indent : Movement → ℕ → Bool → Line → Edit Bool
 indent movement amount dedent l =
     let first = row_start l.text (rows_covered movement l).0 in
     let last = row_end l.text (rows_covered movement l).1 in
-    edit_of_events true (change_rows (spaces amount) dedent first last l).events l
+    let changed = change_rows (spaces amount) dedent first last l in
+    record { answer = true; events = changed.events; line = changed.line }

@@ -1,21 +1,16 @@
 -- Insertions of texts.
-use Rattle.std.specs.Prelude.{⊤, ℕ, zero, suc, ◌+◌, ◌-◌, ◌==◌, Bool, not, ◌&&◌, ◌||◌, nat_le, nat_lt, if◌then◌else◌, slice_index, List, [], ◌∷◌, length, take, min, Option, None, Some, encode_utf8}
+use Rattle.std.specs.Prelude.{⊤, ℕ, ◌+◌, ◌-◌, ◌==◌, Bool, not, ◌&&◌, ◌||◌, nat_le, nat_lt, if◌then◌else◌, slice_index, List, [], ◌∷◌, length, take, min, Option, None, Some, encode_utf8}
 use Rattle.std.specs.List.{insert_slice, repeat}
+use Rattle.std.specs.Fmt.Cut.{floor_char_boundary}
 use Rattle.line_buffer.specs.declared.types.Direction.TheVariants.{Forward}
 use Rattle.line_buffer.specs.Edit.{Edit}
-use Rattle.line_buffer.specs.Event.{ChangeEvent, InsertChar}
+use Rattle.line_buffer.specs.Event.{ChangeEvent, InsertChar, deletion, InsertStr}
 use Rattle.line_buffer.specs.Line.{Line, without_range}
-use Rattle.line_buffer.specs.Replay.{deletion, insertion}
 
 -- the byte at a place continues the character before it
 abbrev pub is_inside_char : List ℕ → ℕ → Bool
 is_inside_char text at =
     nat_lt at (length text) && nat_le 128 (slice_index text at) && nat_lt (slice_index text at) 192
-
--- the last character boundary of the text up to `room`
-unfoldable pub last_cut : List ℕ → ℕ → ℕ
-last_cut text zero = 0
-last_cut text (suc n) = if is_inside_char text (suc n) then last_cut text n else suc n
 
 -- `count` more bytes fit, for the calls that respect the limit
 abbrev pub has_room : ℕ → Line → Bool
@@ -24,14 +19,15 @@ has_room count l = l.growth || nat_le (length l.text + count) l.limit
 -- the whole text, or its longest prefix in whole characters that fits the limit
 abbrev pub text_that_fits : List ℕ → Line → List ℕ
 text_that_fits text l =
-    if l.growth || nat_le (length text) l.limit then text else take (last_cut text l.limit) text
+    if l.growth || nat_le (length text) l.limit then text
+    else take (floor_char_boundary text l.limit) text
 
 abbrev pub update : List ℕ → ℕ → Line → Edit ⊤
 update text pos l =
     let kept = text_that_fits text l in
     record {
       answer = tt;
-      events = deletion 0 (length l.text) Forward l.text ∷ (insertion 0 kept ∷ []);
+      events = deletion 0 (length l.text) Forward l.text ∷ (InsertStr 0 kept ∷ []);
       line = record l { text = kept; place = min pos (length kept) };
     }
 
@@ -60,7 +56,7 @@ insertion_by told added l =
 
 -- n copies of a text
 abbrev pub insertion_of : List ℕ → ℕ → Line → Insertion
-insertion_of text n l = insertion_by (insertion l.place (repeat n text)) (repeat n text) l
+insertion_of text n l = insertion_by (InsertStr l.place (repeat n text)) (repeat n text) l
 
 -- n copies of a character
 abbrev pub insert : ℕ → ℕ → Line → Insertion

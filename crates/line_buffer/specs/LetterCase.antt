@@ -8,7 +8,7 @@ use Rattle.line_buffer.specs.declared.types.WordAction.TheVariants.{Capitalize, 
 use Rattle.line_buffer.specs.Clusters.{clusters, cluster_ends, nth_or_last}
 use Rattle.line_buffer.specs.Edit.{Edit}
 use Rattle.line_buffer.specs.Line.{Line, text_after, with_replacement}
-use Rattle.line_buffer.specs.Replay.{replacement}
+use Rattle.line_buffer.specs.Event.{replacement}
 use Rattle.line_buffer.specs.Words.{is_alphanumeric_cluster, next_word}
 
 -- the place of the first cluster of a word at the cursor or after it

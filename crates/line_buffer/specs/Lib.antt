@@ -9,12 +9,9 @@ pub mod Insertions
 pub mod Laws
 pub mod LetterCase
 pub mod Line
-pub mod Parting
 pub mod Printable
 pub mod Range
-pub mod Replay
 pub mod Rows
-pub mod Tabs
 pub mod Transpositions
 pub mod Width
 pub mod Words

@@ -8,10 +8,9 @@ use Rattle.line_buffer.specs.declared.types.Movement.{Movement}
 use Rattle.line_buffer.specs.declared.types.Movement.TheVariants.{WholeLine, BeginningOfLine, EndOfLine, BackwardWord, ForwardWord, ViCharSearch, ViFirstPrint, BackwardChar, ForwardChar, LineUp, LineDown, WholeBuffer, BeginningOfBuffer, EndOfBuffer}
 use Rattle.line_buffer.specs.Clusters.{place_forward, place_backward}
 use Rattle.line_buffer.specs.Edit.{Edit}
-use Rattle.line_buffer.specs.Event.{ChangeEvent, StartKilling, StopKilling}
+use Rattle.line_buffer.specs.Event.{ChangeEvent, StartKilling, StopKilling, deletion}
 use Rattle.line_buffer.specs.Hits.{hit}
 use Rattle.line_buffer.specs.Line.{Line, without_range}
-use Rattle.line_buffer.specs.Replay.{deletion}
 use Rattle.line_buffer.specs.Rows.{row_start, row_end, rows_up, rows_down}
 use Rattle.line_buffer.specs.Words.{prev_word, next_word}
 

@@ -41,8 +41,7 @@ starts_below l = behind_newlines l.place (text_after l)
 abbrev pub row_close : List ℕ → ℕ → ℕ
 row_close text at = min (row_end text at + 1) (length text)
 
--- from the start of the n-th row above, the first if there are fewer, to the end of the cursor's
--- row
+-- from the start of the n-th row above, else of the first one, to the end of the cursor's row
 abbrev pub rows_up : ℕ → Line → Option (ℕ × ℕ)
 rows_up n l =
     option_map (λ start. (start, row_close l.text l.place)) (nth_or_last n (starts_above l))

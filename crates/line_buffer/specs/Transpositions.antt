@@ -7,7 +7,7 @@ use Rattle.line_buffer.specs.declared.types.Word.TheVariants.{Emacs}
 use Rattle.line_buffer.specs.Clusters.{place_forward, place_backward}
 use Rattle.line_buffer.specs.Edit.{Edit}
 use Rattle.line_buffer.specs.Line.{Line, text_before, text_after, with_cursor_at, with_replacement}
-use Rattle.line_buffer.specs.Replay.{replacement}
+use Rattle.line_buffer.specs.Event.{replacement}
 use Rattle.line_buffer.specs.Words.{prev_word, next_word}
 
 -- the cursor between the two clusters to transpose: one cluster back at the text's end
@@ -53,21 +53,22 @@ pub record WordPair : Type 0 where
   pub first : ℕ × ℕ
   pub second : ℕ × ℕ
 
-abbrev pub second_word : ℕ → Line → Line
-second_word n l = before_words 1 (after_words n l)
-
-abbrev pub first_word : ℕ → Line → Line
-first_word n l = before_words n (second_word n l)
-
 -- the word at or after the cursor, the n-th by its end, and the one n words before it
 abbrev pub words_around : ℕ → Line → WordPair
-words_around n l = record {
-  first = ((first_word n l).place, (after_words 1 (first_word n l)).place);
-  second = ((second_word n l).place, (after_words n l).place);
-}
+words_around n l =
+    let last = after_words n l in
+    let second = before_words 1 last in
+    let first = before_words n second in
+    record {
+      first = (first.place, (after_words 1 first).place);
+      second = (second.place, last.place);
+    }
 
--- the later part is replaced first, so that the earlier one is still at its place; the cursor goes
--- after both
+-- the cursor after the first of these words
+abbrev pub before_transposed : ℕ → Line → Line
+before_transposed n l = record l { place = (words_around n l).first.1 }
+
+-- the later part first, so that the earlier one is still at its place; the cursor goes after both
 abbrev pub swap : WordPair → Line → Edit ⊤
 swap p l =
     let first = slice_range l.text p.first.0 p.first.1 in
@@ -86,16 +87,12 @@ abbrev pub transposes_words : ℕ → Line → Bool
 transposes_words n l =
     let p = words_around n l in not (p.first.0 == p.second.0) && nat_le p.first.1 p.second.0
 
--- if the words aren't two, the cursor stays after the first
+-- the cursor moves after the first word, where the events begin, and stays there if there are none
 abbrev pub transpose_words : ℕ → Line → Edit Bool
 transpose_words n l =
     let swapped = swap (words_around n l) l in
     record {
       answer = transposes_words n l;
       events = if transposes_words n l then swapped.events else [];
-      line = if transposes_words n l then swapped.line else after_words 1 (first_word n l);
+      line = if transposes_words n l then swapped.line else before_transposed n l;
     }
-
--- the line at which these events begin: the cursor has already moved
-abbrev pub before_transposed : ℕ → Line → Line
-before_transposed n l = record l { place = (words_around n l).first.1 }

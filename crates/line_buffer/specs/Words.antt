@@ -91,12 +91,7 @@ text_start text = if length text == 0 then [] else 0 ∷ []
 abbrev pub text_end : List ℕ → List ℕ
 text_end text = if length text == 0 then [] else length text ∷ []
 
--- the place of the last cluster, unless it is the first
-abbrev pub later_last : List (ℕ × List ℕ) → List ℕ
-later_last pieces = option_to_list (option_map (λ x. x.0) (last_or None (drop 1 pieces)))
-
--- where a motion back over a text can stop, nearest first: at each start of a word, and at last at
--- the text's start
+-- where a motion back over a text can stop, nearest first: at each start of a word or of the text
 abbrev pub stops_back : Word → List ℕ → List ℕ
 stops_back word text = reverse (text_start text ++ edges_of Start (kinds word (clusters text)))
 
@@ -108,11 +103,12 @@ inner_stops BeforeEnd Emacs text = edges_of AfterEnd (kinds Emacs (clusters text
 inner_stops BeforeEnd word text = edges_of BeforeEnd (kinds word (drop 1 (clusters text)))
 inner_stops at word text = edges_of at (kinds word (clusters text))
 
--- where it stops at last
+-- where it stops at last: at the end, or at the place of the last cluster, unless it is the first
 abbrev pub last_stop : At → Word → List ℕ → List ℕ
 last_stop AfterEnd word text = text_end text
 last_stop at Emacs text = text_end text
-last_stop at word text = later_last (clusters text)
+last_stop at word text =
+    option_to_list (option_map (λ x. x.0) (last_or None (drop 1 (clusters text))))
 
 abbrev pub stops_forward : At → Word → List ℕ → List ℕ
 stops_forward at word text = inner_stops at word text ++ last_stop at word text

@@ -5,9 +5,8 @@
 ghost use Rattle.std.specs.Char.{IsScalar};
 ghost use Rattle.std.specs.Prelude.{◌≡◌, ◌<◌, ◌≤◌, ◌+◌, ◌&&◌, ◌||◌, min, take, drop, slice_get, slice_range, chars, Some, None, is_some, IfSome, IsCharBoundary};
 ghost use Rattle.std.specs.List.{list_all};
-ghost use Rattle.line_buffer.specs.Width.{columns_of};
+ghost use Rattle.line_buffer.specs.Width.{columns_of, looks_ahead, is_solid, takes_marks, is_bare, parts, is_selected, is_flag_letter};
 ghost use Rattle.line_buffer.specs.Line.{with_cursor_at};
-ghost use Rattle.line_buffer.specs.Parting.{looks_ahead, is_solid, takes_marks, is_bare, parts, is_selected, is_flag_letter};
 ghost use Rattle.line_buffer.specs.Columns.{place_at_column, first_column, cursor_column, place_in_row, line_up, line_down};
 
 use crate::layout::{GraphemeClusterMode, Layout, TabStops, Unit, char_columns};
@@ -222,8 +221,7 @@ impl LineBuffer {
     fn place_below_column(&self, layout: &Layout, start: usize) -> usize
         requires { IsCharBoundary self.now.text start }
         ensures value { result ≡ place_in_row layout.now.grapheme_cluster_mode layout.now.tab_stops
-            layout.now.prompt_size.col (cursor_column layout.now.grapheme_cluster_mode
-            layout.now.tab_stops layout.now.prompt_size.col self.now) self.now.text start }
+            layout.now.prompt_size.col self.now start }
         ensures boundary { IsCharBoundary self.now.text result }
     {
         let column = self.column(layout);

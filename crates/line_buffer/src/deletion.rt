@@ -25,7 +25,7 @@ impl LineBuffer {
     ghost use Rattle.line_buffer.specs.declared.types.Movement.TheVariants.{BeginningOfLine, EndOfLine, BackwardWord, ForwardWord, ViCharSearch, BackwardChar, BeginningOfBuffer, EndOfBuffer};
     ghost use Rattle.line_buffer.specs.Edit.{CutsLine};
     ghost use Rattle.line_buffer.specs.Range.{IsSpanOf, FindsSpan, range_of, copied_range, span_text, deletion_of, deletion_by, delete, kill, kill_closing};
-    ghost use Rattle.line_buffer.specs.Replay.{wants_or};
+    ghost use Rattle.line_buffer.specs.Event.{wants_or};
 
     /// Deletes a range, if there is one.
     fn delete_span<D: DeleteListener>(

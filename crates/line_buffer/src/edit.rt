@@ -29,7 +29,7 @@ impl LineBuffer {
     ghost use Rattle.std.specs.List.{insert_slice};
     ghost use Rattle.line_buffer.specs.Edit.{ChangesLine};
     ghost use Rattle.line_buffer.specs.Line.{with_replacement, without_range, with_text_at};
-    ghost use Rattle.line_buffer.specs.Replay.{deletion, insertion, replacement, wants_or};
+    ghost use Rattle.line_buffer.specs.Event.{deletion, replacement, wants_or, InsertStr};
     ghost use Rattle.line_buffer.specs.declared.types.Direction.TheVariants.{Forward};
 
     /// Puts `text` in place of a range, with the cursor after it. The range is in bytes and must
@@ -68,7 +68,7 @@ impl LineBuffer {
         requires at { IsCharBoundary self.old.text idx }
         requires cursor { IsCharBoundary (insert_slice self.old.text idx text.now) self.old.place }
         ensures answer { IfOk result (λ at_end. at_end ≡ (idx == length self.old.text)) }
-        ensures edits { ChangesLine C.takes (wants_or C.refuses) (insertion idx text.now)
+        ensures edits { ChangesLine C.takes (wants_or C.refuses) (InsertStr idx text.now)
             (with_text_at idx text.now self.old) cl.old cl.new self.old self.new result }
     {
         let at_end = idx == self.buf.len();

@@ -41,7 +41,7 @@ impl<'a> Model for GapBuffer<'a> {
 impl<'a> GapBuffer<'a> {
     ghost use Rattle.std.specs.Prelude.{◌≡◌, ◌+◌, ◌≤◌, length, drop, IfOk, OnOk, OnErr, IsUtf8, IsCharBoundary};
     ghost use Rattle.line_buffer.specs.declared.types.Direction.TheVariants.{Forward};
-    ghost use Rattle.line_buffer.specs.Replay.{Replays, deletion, insertion, wants_or, line_after_event};
+    ghost use Rattle.line_buffer.specs.Event.{Replays, deletion, wants_or, line_after_event, InsertStr};
 
     /// The gap before a whole line.
     pub(crate) fn new(alloc: Global, line: &'a LineBuffer) -> Result<Self, OutOfMemory>
@@ -118,16 +118,16 @@ impl<'a> GapBuffer<'a> {
         text: &str,
         cl: &mut C,
     ) -> Result<(), OutOfMemory>
-        ensures told { OnOk result (C.takes cl.old (insertion self.old.1 text.now) cl.new) }
-        ensures replays { OnOk result (Replays (insertion self.old.1 text.now) self.old.0.text
+        ensures told { OnOk result (C.takes cl.old (InsertStr self.old.1 text.now) cl.new) }
+        ensures replays { OnOk result (Replays (InsertStr self.old.1 text.now) self.old.0.text
             self.new.0.text) }
         ensures value { OnOk result (self.new ≡ (
-          line_after_event (insertion self.old.1 text.now)
+          line_after_event (InsertStr self.old.1 text.now)
               self.old.0,
           self.old.1 + length text.now,
         )) }
         ensures refused { OnErr result (wants_or C.refuses cl.old
-            (insertion self.old.1 text.now) cl.new) }
+            (InsertStr self.old.1 text.now) cl.new) }
         ensures kept { OnErr result (self.new ≡ self.old) }
     {
         let at = self.gap();

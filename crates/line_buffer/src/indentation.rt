@@ -31,7 +31,7 @@ impl<'a> GapBuffer<'a> {
     ghost use Rattle.std.specs.List.{prefix_len};
     ghost use Rattle.line_buffer.specs.Edit.{EditsLine, ChangesLine};
     ghost use Rattle.line_buffer.specs.Indent.{front_whitespace, row_event, row_len, change_rows};
-    ghost use Rattle.line_buffer.specs.Replay.{wants_or, line_after_event};
+    ghost use Rattle.line_buffer.specs.Event.{wants_or, line_after_event};
     ghost use Rattle.line_buffer.specs.Rows.{is_in_row};
 
     /// Indents the row between the gap and a place, or dedents it, and returns where the row ends
@@ -139,7 +139,7 @@ impl LineBuffer {
     ghost use Rattle.std.specs.Prelude.{◌≡◌, ◌≤◌, [], IsCharBoundary};
     ghost use Rattle.line_buffer.specs.Edit.{EditsLine};
     ghost use Rattle.line_buffer.specs.Indent.{rows_covered, change_rows, indent};
-    ghost use Rattle.line_buffer.specs.Replay.{wants_or};
+    ghost use Rattle.line_buffer.specs.Event.{wants_or};
     ghost use Rattle.line_buffer.specs.Rows.{row_start, row_end};
 
     /// Indents each row between two places, or dedents it, the first row first.

@@ -2,7 +2,7 @@
 
 ghost use Rattle.std.specs.Prelude.{◌≡◌, ◌≤◌, ◌<◌, ◌+◌, length, string_bytes, string_len, string_capacity, encode_utf8, IsCharBoundary, OnOk, OnErr};
 ghost use Rattle.std.specs.List.{insert_slice};
-ghost use Rattle.line_buffer.specs.Insertions.{last_cut};
+ghost use Rattle.std.specs.Fmt.Cut.{floor_char_boundary};
 
 use crate::line_buffer::{LineBuffer, OutOfMemory};
 use crate::listener::{ChangeListener, DeleteListener};
@@ -12,7 +12,7 @@ use std::alloc::{AllocError, Global};
 /// The last character boundary of `text` up to `room`.
 fn last_cut(text: &str, room: usize) -> usize
     requires { room ≤ length text.now }
-    ensures value { result ≡ last_cut text.now room }
+    ensures value { result ≡ floor_char_boundary text.now room }
     ensures boundary { IsCharBoundary text.now result }
 {
     let mut end = room;
@@ -43,7 +43,7 @@ impl LineBuffer {
     ghost use Rattle.line_buffer.specs.Edit.{EditsLine, ChangesLine};
     ghost use Rattle.line_buffer.specs.Event.ChangeEvent.{InsertChar};
     ghost use Rattle.line_buffer.specs.Insertions.{has_room, text_that_fits, update, with_text_at_cursor, insertion_by, insertion_of, can_take_before, without_before, insert, yank, yank_pop};
-    ghost use Rattle.line_buffer.specs.Replay.{deletion, insertion, wants_or};
+    ghost use Rattle.line_buffer.specs.Event.{deletion, wants_or, InsertStr};
 
     /// Whether `count` more bytes fit, for the calls that respect the limit.
     fn has_room(&self, count: usize) -> bool
@@ -144,7 +144,7 @@ impl LineBuffer {
     ) -> Result<bool, OutOfMemory>
         ensures answer { IfOk result (λ at_end. at_end ≡ (self.old.place == length self.old.text)) }
         ensures edits { ChangesLine C.takes (wants_or C.refuses)
-            (insertion self.old.place text.now) (with_text_at_cursor text.now self.old)
+            (InsertStr self.old.place text.now) (with_text_at_cursor text.now self.old)
             cl.old cl.new self.old self.new result }
     {
         // Its contract says that the text is UTF-8.
@@ -182,7 +182,7 @@ impl LineBuffer {
         cl: &mut C,
     ) -> Result<Option<bool>, OutOfMemory>
         ensures { EditsLine C.takes (wants_or C.refuses) []
-            (insertion_by (insertion self.old.place text.now) text.now self.old)
+            (insertion_by (InsertStr self.old.place text.now) text.now self.old)
             cl.old cl.new self.old self.new result }
     {
         if !self.has_room(text.len()) {

@@ -59,7 +59,7 @@ impl LineBuffer {
     ghost use Rattle.std.specs.Prelude.{◌≡◌, ◌≤◌, [], IfSome, IsCharBoundary};
     ghost use Rattle.line_buffer.specs.Edit.{EditsLine};
     ghost use Rattle.line_buffer.specs.LetterCase.{word_at_or_after, word_to_edit, edit_word};
-    ghost use Rattle.line_buffer.specs.Replay.{wants_or};
+    ghost use Rattle.line_buffer.specs.Event.{wants_or};
 
     /// The place of the first cluster of a word at the cursor or after it.
     fn word_at_or_after(&self) -> Option<usize>

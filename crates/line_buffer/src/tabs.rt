@@ -1,7 +1,7 @@
 //! Tabs that are drawn as blanks: how many, and the columns after texts with tabs.
 
 ghost use Rattle.std.specs.Prelude.{◌≡◌, ◌<◌, ◌≤◌, ◌+◌, Some};
-ghost use Rattle.line_buffer.specs.Tabs.{tab_width, tab_end, column_after};
+ghost use Rattle.line_buffer.specs.Width.{tab_width, tab_end, column_after};
 
 use crate::layout::{GraphemeClusterMode, TabStops, Unit};
 

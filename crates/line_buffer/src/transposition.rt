@@ -34,7 +34,7 @@ fn later_first(
 impl LineBuffer {
     ghost use Rattle.std.specs.Prelude.{◌≡◌, ◌≤◌, nat_lt, [], length, IsCharBoundary};
     ghost use Rattle.line_buffer.specs.Edit.{EditsLine};
-    ghost use Rattle.line_buffer.specs.Replay.{wants_or};
+    ghost use Rattle.line_buffer.specs.Event.{wants_or};
     ghost use Rattle.line_buffer.specs.Transpositions.{clusters_around, between_clusters, clusters_at, transpose_chars, after_words, before_words, swap, transpose_words, before_transposed};
 
     /// Whether there are at least two clusters before and after the cursor together.

@@ -8,7 +8,7 @@ use Rattle.line_buffer.specs.Insertions.{no_insertion, insertion_of, can_take_be
 use Rattle.line_buffer.specs.LetterCase.{word_to_edit, recase}
 use Rattle.line_buffer.specs.Line.{Line, with_cursor_at}
 use Rattle.line_buffer.specs.Range.{copied_range}
-use Rattle.line_buffer.specs.Transpositions.{transposes_words, transpose_words as exchanged_in, after_words, before_words, first_word, swap as swapped_in, words_around}
+use Rattle.line_buffer.specs.Transpositions.{transposes_words, transpose_words as exchanged_in, swap as swapped_in, words_around, before_transposed}
 use Rattle.line_buffer.specs.declared.types.Anchor.{Anchor}
 use Rattle.line_buffer.specs.declared.types.Anchor.TheVariants.{After, Before}
 use Rattle.line_buffer.specs.declared.types.Movement.{Movement}
@@ -112,9 +112,8 @@ pop_leads (Some lent) s v = either s v (can_take_before lent.0 v.line) _ _ (λ e
 -- ---- words
 
 words_rest : (n : ℕ) (l : Line) → transposes_words n l ≡ false → (exchanged_in n l).line.place ≡ l.place → (exchanged_in n l).line ≡ l
-unfolding after_words before_words
 words_rest n l h k =
-    let stays : (exchanged_in n l).line ≡ after_words 1 (first_word n l) = cond-false (transposes_words n l) (swapped_in (words_around n l) l).line (after_words 1 (first_word n l)) h in
+    let stays : (exchanged_in n l).line ≡ before_transposed n l = cond-false (transposes_words n l) (swapped_in (words_around n l) l).line (before_transposed n l) h in
     stays ∙ ap (λ place. record l { place = place }) (sym (ap (λ (x : Line). x.place) stays) ∙ k)
 
 words_lead : (n : ℕ) (s : Setting) (v : Value) → Leads s v (transpose_words_effect n s v)

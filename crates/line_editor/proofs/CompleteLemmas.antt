@@ -3,7 +3,7 @@ use Rattle.std.specs.Prelude.{⊤, Option, Some, None, is_some, option_map, Resu
 use Rattle.std.proofs.Common.{◌≡◌, ◌⊎◌, inl, inr, ℕ, true, List, map, refl, sym, ap, subst, ◌∙◌}
 use Rattle.std.proofs.lemmas.Simd.{map-map}
 use Rattle.line_buffer.specs.Line.{Line}
-use Rattle.line_buffer.specs.Replay.{replacement}
+use Rattle.line_buffer.specs.Event.{replacement}
 use Rattle.line_config.specs.declared.errors.ReadlineError.{ReadlineError}
 use Rattle.line_config.specs.declared.errors.ReadlineError.TheVariants.{Memory}
 use Rattle.line_config.specs.declared.errors.HookFault.{HookFault}
@@ -17,7 +17,7 @@ use Rattle.line_help.specs.declared.helpers.highlight as highlights
 use Rattle.line_help.specs.declared.helpers.validate as verdicts
 use Rattle.line_help.specs.declared.history as histories
 use Rattle.line_keys.specs.Replies.{Reply, IsFaultOf}
-use Rattle.line_record.specs.Items.{Items, ItemsStand, RecordsEventIn, record_refuses, record_on, items_with_mark}
+use Rattle.line_record.specs.Items.{Items, ItemsStand, RecordsEventIn, record_refuses, record_on}
 use Rattle.line_editor.specs.Drawing.{effect_if}
 use Rattle.line_editor.specs.Completing.{common_text, word_put, CutWord, word_updated, complete_effect_with, complete_effect, candidates_given, candidates_asked, complete}
 use Rattle.line_editor.specs.States.{hooks_of, value_of, setting_of, fails_by, IsHelpFault, error_of, surface_of, Stays, Does}
@@ -27,6 +27,7 @@ use Rattle.line_editor.specs.declared.state.State.{State}
 use Rattle.line_editor.proofs.StopsLemmas.{help_made, help_layout, stops_asking, stops_marking, stops_updating}
 use Rattle.line_editor.proofs.DoesLemmas.{does_as, does_both, does_cut_by, does_refused, stays_same}
 use Rattle.line_editor.proofs.HelpedLemmas.{completion_reason, update_reason, fault_told}
+use Rattle.line_record.proofs.StepLemmas.{items_with_mark}
 
 -- the texts that candidates put in
 pub replacements : {A : Type 0} (offers : A → Offered) (candidates : List A) → map (λ (o : Offered). o.replacement) (map offers candidates) ≡ map (λ c. (offers c).replacement) candidates

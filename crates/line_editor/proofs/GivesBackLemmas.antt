@@ -2,11 +2,10 @@
 use Rattle.std.proofs.Common.{◌≡◌, ℕ, ◌==◌, ◌||◌, Bool, true, false, List, [], ◌∷◌, ◌++◌, length, drop, Option, Some, None, is_some, slice_get, ◌&&◌, refl, sym, ap, ◌∙◌, subst, arith, if◌then◌else◌}
 use Rattle.std.proofs.lemmas.Bool.Decides.{nat_tests}
 use Rattle.std.specs.Prelude.{◌≢◌, slice_range, option_and_then, fold}
-use Rattle.line_buffer.specs.Event.{ChangeEvent}
+use Rattle.line_buffer.specs.Event.{ChangeEvent, text_after_event}
 use Rattle.line_buffer.specs.Event.ChangeEvent.{Delete, InsertStr, Replace}
 use Rattle.line_buffer.specs.Insertions.{text_that_fits}
 use Rattle.line_buffer.specs.Line.{Line}
-use Rattle.line_buffer.specs.Replay.{text_after_event}
 use Rattle.line_buffer.specs.declared.types.Direction.TheVariants.{Forward}
 use Rattle.line_edits.specs.Edits.{by, update_group}
 use Rattle.line_help.specs.Completion.{Offered, Completion, unless_empty}
@@ -17,7 +16,7 @@ use Rattle.line_keys.specs.declared.command.Cmd.TheVariants.{Complete}
 use Rattle.line_record.specs.Change.{Change, undo_place}
 use Rattle.line_record.specs.Change.Change.{Inserted, Replaced}
 use Rattle.line_record.specs.RecordCourse.{record_after_events}
-use Rattle.line_record.specs.Held.{HeldItem, change_of, steps_with_change_if, record_after_event, has_mark, closes, group_with_change, record_after_close, line_back}
+use Rattle.line_record.specs.Held.{HeldItem, change_of, record_after_event, has_mark, closes, group_with_change, record_after_close, line_back}
 use Rattle.line_record.specs.Held.HeldItem.{Opened, Stepped}
 use Rattle.line_record.proofs.GroupLaws.{unchanged}
 use Rattle.line_record.proofs.RecordLaws.{no_mark}
@@ -29,6 +28,7 @@ use Rattle.line_editor.specs.Searching.{begin_search, modal_at_search_start, hit
 use Rattle.line_editor.specs.Values.{Value, Setting, value_with_edit, completion_reply}
 use Rattle.line_editor.specs.declared.modal_state.Act.{Act}
 use Rattle.line_editor.specs.declared.modal_state.Act.TheVariants.{Types, Erases, Goes, Leaves, Ends}
+use Rattle.line_record.proofs.StepLemmas.{steps_with_change_if}
 
 -- ---- an entry put in place of a line is one step
 

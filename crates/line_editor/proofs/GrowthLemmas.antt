@@ -2,14 +2,13 @@
 use Rattle.std.proofs.Common.{◌≡◌, ℕ, zero, suc, ◌==◌, Bool, true, false, List, [], ◌∷◌, length, Option, Some, None, refl, ◌∙◌, if◌then◌else◌}
 use Rattle.std.specs.Prelude.{encode_utf8}
 use Rattle.std.specs.List.{repeat}
-use Rattle.line_buffer.specs.Event.{ChangeEvent}
+use Rattle.line_buffer.specs.Event.{ChangeEvent, line_after_event, line_after_events}
 use Rattle.line_buffer.specs.Indent.{indent as indented_in}
 use Rattle.line_buffer.specs.Insertions.{Insertion, insertion_by, insertion_of, insert, no_insertion, yank, yank_pop, without_before, has_room}
 use Rattle.line_buffer.specs.LetterCase.{word_to_edit, recase, edit_word as recased_in}
 use Rattle.line_buffer.specs.Line.{Line}
 use Rattle.line_buffer.specs.Range.{range_of, deletion_line, kill as killed_in}
-use Rattle.line_buffer.specs.Replay.{line_after_event, line_after_events}
-use Rattle.line_buffer.specs.Transpositions.{transposes_chars, transpose_chars as transposed_in, transposes_words, transpose_words as exchanged_in, after_words, before_words, first_word}
+use Rattle.line_buffer.specs.Transpositions.{transposes_chars, transpose_chars as transposed_in, transposes_words, transpose_words as exchanged_in}
 use Rattle.line_buffer.specs.declared.range.TextSpan.{TextSpan}
 use Rattle.line_buffer.specs.declared.types.Movement.{Movement}
 use Rattle.line_buffer.specs.declared.types.WordAction.{WordAction}
@@ -67,12 +66,8 @@ word_grows action l = recase_grows action (word_to_edit l) l
 pub chars_grow : (l : Line) → (transposed_in l).line.growth ≡ l.growth
 chars_grow l = either_line l.growth (transposes_chars l) _ _ refl refl
 
-between_grows : (n : ℕ) (l : Line) → (after_words 1 (first_word n l)).growth ≡ l.growth
-unfolding after_words before_words
-between_grows n l = refl
-
 pub words_grow : (n : ℕ) (l : Line) → (exchanged_in n l).line.growth ≡ l.growth
-words_grow n l = either_line l.growth (transposes_words n l) _ _ refl (between_grows n l)
+words_grow n l = either_line l.growth (transposes_words n l) _ _ refl refl
 
 pub over_grows : (c : ℕ) (o : Option ℕ) (w : Written) → (by (overwrite_steps_to c o) w).line.growth ≡ w.line.growth
 over_grows c None w = refl

@@ -11,7 +11,7 @@ use Rattle.std.proofs.lemmas.List.Sums.{AllPass-from_list_all}
 use Rattle.std.proofs.lemmas.Str.{IsCharBoundary-from_ascii}
 use Rattle.std.proofs.lemmas.Str.Ascii.{IsAscii-from_all}
 use Rattle.line_buffer.specs.declared.layout.Position.{Position}
-use Rattle.line_buffer.specs.Event.{ChangeEvent}
+use Rattle.line_buffer.specs.Event.{ChangeEvent, InsertStr}
 use Rattle.line_buffer.specs.Event.ChangeEvent.{InsertChar}
 use Rattle.line_buffer.specs.Clusters.{place_forward}
 use Rattle.line_buffer.specs.Insertions.{no_insertion, has_room, with_text_at_cursor, insertion_by, insertion_of, without_before, insert as insertion, yank as yanked_in}
@@ -21,7 +21,6 @@ use Rattle.line_edits.specs.Edits.{clusters_after, replace_group, replace_group_
 use Rattle.line_edits.proofs.StepLemmas.{overwrite_steps_to}
 use Rattle.line_edits.specs.WriteSteps.{with_answer, no_steps, effect_of_steps}
 use Rattle.line_edits.specs.Written.{Written}
-use Rattle.line_buffer.specs.Replay.{insertion as told_insertion}
 use Rattle.line_buffer.specs.Printable.{is_plain_byte, is_plain}
 use Rattle.line_editor.specs.KnownPlaces.{IsKnown, known_within}
 
@@ -54,9 +53,9 @@ put_by : (k : ℕ) (told : ChangeEvent) (added : List ℕ) (l : Line) → k ≤ 
 put_by k told added l near low = put_room k (has_room (length added) l) told added l near low
 
 typed_by : (c n k : ℕ) (one : Bool) (l : Line) → k ≤ l.place → k ≤ length l.text
-    → Begins k l.text (if one then insertion_by (InsertChar l.place c) (encode_utf8 c) l else insertion_by (told_insertion l.place (repeat n (encode_utf8 c))) (repeat n (encode_utf8 c)) l).line.text
+    → Begins k l.text (if one then insertion_by (InsertChar l.place c) (encode_utf8 c) l else insertion_by (InsertStr l.place (repeat n (encode_utf8 c))) (repeat n (encode_utf8 c)) l).line.text
 typed_by c n k true l near low = put_by k (InsertChar l.place c) (encode_utf8 c) l near low
-typed_by c n k false l near low = put_by k (told_insertion l.place (repeat n (encode_utf8 c))) (repeat n (encode_utf8 c)) l near low
+typed_by c n k false l near low = put_by k (InsertStr l.place (repeat n (encode_utf8 c))) (repeat n (encode_utf8 c)) l near low
 
 pub typed_begins : (c n k : ℕ) (l : Line) → k ≤ l.place → k ≤ length l.text → Begins k l.text (insertion c n l).line.text
 typed_begins c n k l near low = typed_by c n k (n == 1) l near low
@@ -74,7 +73,7 @@ yank_begins text n k l near low = by_test (length text == 0)
   where
     by_test : (b : Bool) → Begins k l.text (if b then no_insertion l else insertion_of text n l).line.text
     by_test true = record { low = low; same = refl }
-    by_test false = put_by k (told_insertion l.place (repeat n text)) (repeat n text) l near low
+    by_test false = put_by k (InsertStr l.place (repeat n text)) (repeat n text) l near low
 
 pub text_begins : (text : List ℕ) (k : ℕ) (l : Line) → k ≤ l.place → k ≤ length l.text → Begins k l.text (with_text_at l.place text l).text
 text_begins text k l near low = behind k l.place l.place l.text text near low

@@ -1,12 +1,11 @@
 -- Events, marks and undos leave a record that reaches the same text.
 use Rattle.std.proofs.Common.{◌≡◌, ℕ, zero, suc, Bool, true, false, List, [], ◌∷◌, drop, Option, Some, None, refl, sym, subst, if◌then◌else◌, IsUtf8, IsCharBoundary}
 use Rattle.std.specs.Prelude.{option_map, unwrap_or}
-use Rattle.line_buffer.specs.Event.{ChangeEvent}
+use Rattle.line_buffer.specs.Event.{ChangeEvent, text_after_event, text_after_events}
 use Rattle.line_buffer.specs.Indent.{indent as indented_in}
 use Rattle.line_buffer.specs.Insertions.{update as updated_in, insert as insertion, yank as yanked_in}
 use Rattle.line_buffer.specs.Line.{Line}
 use Rattle.line_buffer.specs.Range.{kill_events, kill as killed_in}
-use Rattle.line_buffer.specs.Replay.{text_after_event, text_after_events}
 use Rattle.line_buffer.specs.Transpositions.{transpose_chars as transposed_in}
 use Rattle.line_buffer.specs.declared.types.Movement.{Movement}
 use Rattle.line_buffer.proofs.ReplayedLemmas.{update_replayed, insert_replayed, yank_replayed, indent_replayed}
@@ -14,12 +13,13 @@ use Rattle.line_buffer.proofs.SpanLemmas as spans
 use Rattle.line_edits.specs.Edits.{by, char_steps, yank_steps, update_steps, kill_steps, indent_steps}
 use Rattle.line_edits.specs.Written.{Written, after_edit, group_opened, group_closed}
 use Rattle.line_record.specs.Change.{Change}
-use Rattle.line_record.specs.Held.{HeldItem, change_of, join_of, step_of, steps_with_change, steps_with_change_if, has_mark, closes, group_with_change, record_after_close, line_back}
+use Rattle.line_record.specs.Held.{HeldItem, change_of, join_of, step_of, has_mark, closes, group_with_change, record_after_close, line_back}
 use Rattle.line_record.specs.Held.HeldItem.{Opened, Stepped}
 use Rattle.line_record.specs.RecordCourse.{record_after_events}
 use Rattle.line_record.proofs.GroupLaws.{unchanged}
 use Rattle.line_editor.specs.Leads.{Reaches}
 use Rattle.line_edits.specs.WriteSteps.{steps_of_edit}
+use Rattle.line_record.proofs.StepLemmas.{steps_with_change, steps_with_change_if}
 
 on_reaches : (o : Option Change) (c d : Change) (place : ℕ) (first text after earlier : List ℕ) (held : List HeldItem) → Reaches first held earlier
     → Reaches first (unwrap_or (option_map (λ j. step_of j earlier ∷ held) o) (step_of c text ∷ (Stepped earlier place d true ∷ held))) after

@@ -9,8 +9,8 @@ use Rattle.std.proofs.lemmas.Str.{IsUtf8-drop, IsCharBoundary-from_rest}
 use Rattle.line_buffer.specs.Clusters.{clusters}
 use Rattle.line_buffer.specs.LetterCase.{word_to_edit, word_in_case, recase, edit_word as recased_in}
 use Rattle.line_buffer.specs.Line.{Line, text_after, with_cursor_at}
-use Rattle.line_buffer.specs.Replay.{replacement, text_after_event, text_after_events}
-use Rattle.line_buffer.specs.Transpositions.{WordPair, after_words, before_words, second_word, first_word, words_around, swap as swapped_in, transposes_words, transpose_words as exchanged_in}
+use Rattle.line_buffer.specs.Event.{replacement, text_after_event, text_after_events}
+use Rattle.line_buffer.specs.Transpositions.{WordPair, after_words, before_words, words_around, swap as swapped_in, transposes_words, transpose_words as exchanged_in, before_transposed}
 use Rattle.line_buffer.specs.Words.{is_alphanumeric_cluster, prev_word, next_word}
 use Rattle.line_buffer.specs.declared.types.At.TheVariants.{AfterEnd}
 use Rattle.line_buffer.specs.declared.types.Word.TheVariants.{Emacs}
@@ -49,8 +49,8 @@ unfolding after_words before_words
 words_lie n l u b =
     let behind = after_later n l u b in
     let second = before_earlier 1 (after_words n l) u behind.0 in
-    let first = before_earlier n (second_word n l) u second.0 in
-    let past = after_later 1 (first_word n l) u first.0 in
+    let first = before_earlier n (before_words 1 (after_words n l)) u second.0 in
+    let past = after_later 1 (before_words n (before_words 1 (after_words n l))) u first.0 in
     record { first = past.1; second = second.1; inside = behind.0.0 }
 
 swap_replays : (p : WordPair) (l : Line) → Lies p l.text → p.first.1 ≤ p.second.0 → text_after_events (swapped_in p l).events l.text ≡ (swapped_in p l).line.text
@@ -67,7 +67,7 @@ pub transpose_words_replays : (n : ℕ) (l : Line) → IsUtf8 l.text → IsCharB
 unfolding after_words before_words
 transpose_words_replays n l u b = by_test (transposes_words n l) refl
   where
-    by_test : (t : Bool) → transposes_words n l ≡ t → text_after_events (if t then (swapped_in (words_around n l) l).events else []) l.text ≡ (if t then (swapped_in (words_around n l) l).line else after_words 1 (first_word n l)).text
+    by_test : (t : Bool) → transposes_words n l ≡ t → text_after_events (if t then (swapped_in (words_around n l) l).events else []) l.text ≡ (if t then (swapped_in (words_around n l) l).line else before_transposed n l).text
     by_test true e =
         let p : WordPair = words_around n l in
         swap_replays p l (words_lie n l u b) (leb-true p.first.1 p.second.0 (and_parts (not (p.first.0 == p.second.0)) (nat_le p.first.1 p.second.0) e).1)

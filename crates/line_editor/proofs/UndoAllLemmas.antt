@@ -10,7 +10,7 @@ use Rattle.line_buffer.specs.Clusters.{place_forward}
 use Rattle.line_buffer.specs.Line.{with_text_at, with_replacement}
 use Rattle.line_buffer.specs.LetterCase.{edit_word as recased_in}
 use Rattle.line_buffer.specs.Range.{range_of, deletion_events, deletion_line}
-use Rattle.line_buffer.specs.Replay.{insertion as told_insertion, replacement, text_after_event}
+use Rattle.line_buffer.specs.Event.{InsertStr, replacement, text_after_event}
 use Rattle.line_buffer.specs.Transpositions.{transpose_chars as transposed_in, transpose_words as exchanged_in}
 use Rattle.line_buffer.specs.declared.types.Movement.TheVariants.{ForwardChar}
 use Rattle.line_buffer.specs.declared.types.WordAction.{WordAction}
@@ -87,7 +87,7 @@ replacing_reaches start text w first below r =
 
 putting_reaches : (text : List ℕ) (w : Written) (first : List ℕ) → Reaches first w.held w.line.text → Reaches first (by (text_steps text) w).held (by (text_steps text) w).line.text
 putting_reaches text w first r =
-    edit_reaches (told_insertion w.line.place text ∷ []) (with_text_at w.line.place text w.line) w first (sym (replayed_all-one _ w.line.text ∙ replayed_insertion w.line.text w.line.place text)) r
+    edit_reaches (InsertStr w.line.place text ∷ []) (with_text_at w.line.place text w.line) w first (sym (replayed_all-one _ w.line.text ∙ replayed_insertion w.line.text w.line.place text)) r
 
 -- ---- a record that reaches a text
 

@@ -7,7 +7,7 @@ use Rattle.std.proofs.lemmas.List.{take-append-drop}
 use Rattle.std.proofs.lemmas.List.Folds.{list_all-append, drop_split}
 use Rattle.std.proofs.lemmas.Str.{encode_ascii, char_from_byte, length-encode, len_utf8_bounds}
 use Rattle.line_buffer.specs.Insertions.{insert as insertion, yank as yanked_in}
-use Rattle.line_buffer.specs.Replay.{line_after_event, line_after_events}
+use Rattle.line_buffer.specs.Event.{line_after_event, line_after_events}
 use Rattle.line_buffer.specs.Line.{Line}
 use Rattle.line_buffer.specs.Indent.{rows_covered, rows_of, front_whitespace, row_event, row_len, row_events, spaces, indent as indented_in}
 use Rattle.line_buffer.specs.Rows.{row_start, row_end}

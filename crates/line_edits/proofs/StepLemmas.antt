@@ -3,16 +3,16 @@ use Rattle.std.proofs.Common.{◌≡◌, ℕ, Bool, true, false, Option, List, [
 use Rattle.std.proofs.lemmas.Result.{on_err_weaker}
 use Rattle.std.specs.Option.{option_map_or}
 use Rattle.line_buffer.specs.Edit.{StopsAt}
-use Rattle.line_buffer.specs.Event.{ChangeEvent}
+use Rattle.line_buffer.specs.Event.{ChangeEvent, TellsOfChange, Reports, wants_or, line_after_events}
 use Rattle.line_buffer.specs.Line.{Line}
-use Rattle.line_buffer.specs.Replay.{TellsOfChange, Reports, wants_or, line_after_events}
 use Rattle.line_buffer.proofs.LeftLemmas.{stopped_first}
-use Rattle.line_record.specs.Items.{Items, ItemsStand, RecordsEventIn, record_refuses, record_on, items_with_mark}
+use Rattle.line_record.specs.Items.{Items, ItemsStand, RecordsEventIn, record_refuses, record_on}
 use Rattle.line_record.specs.RecordCourse.{record_after_events}
 use Rattle.line_record.proofs.RunLemmas.{told_stand, told_held, stopped_stand, part_stopped, recorded_all-nil}
 use Rattle.line_edits.specs.Edits.{cover_steps}
 use Rattle.line_edits.specs.WriteSteps.{WriteStep, Tells, Leaves, Closes, CutEvents, CutAlong, Rewrites, effect_of_steps, no_steps, single_step, in_turn, with_answer, steps_in_group, WriteSteps, effect_of_step}
 use Rattle.line_edits.specs.Written.{Written, Writes, line_and_record}
+use Rattle.line_record.proofs.StepLemmas.{items_with_mark}
 
 -- ---- steps
 

@@ -8,7 +8,7 @@ use Rattle.line_buffer.specs.Insertions.{update, insert, yank, yank_pop}
 use Rattle.line_buffer.specs.LetterCase.{edit_word}
 use Rattle.line_buffer.specs.Line.{Line, with_cursor_at, with_text_at, with_replacement, text_after}
 use Rattle.line_buffer.specs.Range.{goes_by_clusters, delete, kill, kill_events}
-use Rattle.line_buffer.specs.Replay.{insertion, replacement}
+use Rattle.line_buffer.specs.Event.{replacement, InsertStr}
 use Rattle.line_buffer.specs.Transpositions.{transpose_chars, transpose_words, before_transposed}
 use Rattle.line_buffer.specs.declared.types.Movement.{Movement}
 use Rattle.line_buffer.specs.declared.types.WordAction.{WordAction}
@@ -34,7 +34,7 @@ yank_steps text n l = steps_of_edit (yank text n l)
 -- a text inserted at the cursor, which stays before it
 abbrev pub text_steps : List ℕ → Line → WriteSteps ⊤
 text_steps text l =
-    single_step (Tells (insertion l.place text ∷ []) (with_text_at l.place text l)) tt
+    single_step (Tells (InsertStr l.place text ∷ []) (with_text_at l.place text l)) tt
 
 -- the whole text replaced
 abbrev pub update_steps : List ℕ → ℕ → Line → WriteSteps ⊤

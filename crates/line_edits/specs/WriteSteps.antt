@@ -2,9 +2,8 @@
 -- if a step fails.
 use Rattle.std.specs.Prelude.{◌≡◌, ◌⊎◌, List, [], ◌∷◌, ◌++◌, Result, OnErr}
 use Rattle.line_buffer.specs.Edit.{Edit}
-use Rattle.line_buffer.specs.Event.{ChangeEvent}
+use Rattle.line_buffer.specs.Event.{ChangeEvent, TellsOfChange, line_after_events}
 use Rattle.line_buffer.specs.Line.{Line}
-use Rattle.line_buffer.specs.Replay.{TellsOfChange, line_after_events}
 use Rattle.line_record.specs.Items.{Items}
 use Rattle.line_edits.specs.Written.{Written, Writes, line_and_record, line_and_record_in, after_edit, group_opened, group_closed}
 use Rattle.line_edits.specs.declared.recorded_line.RecordedLine.{RecordedLine}

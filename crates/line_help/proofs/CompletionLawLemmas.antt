@@ -10,12 +10,12 @@ use Rattle.std.proofs.lemmas.List.{take-append-drop, take_at, take-take, append-
 use Rattle.std.proofs.lemmas.List.Elements.{All-nil, All-cons, All-head, All-tail}
 use Rattle.std.proofs.lemmas.List.Sums.{common_prefix_len-le}
 use Rattle.std.proofs.lemmas.Str.{chars-encodes, encodes-chars, scalars-chars, IsUtf8-take, IsCharBoundary-from_take}
-use Rattle.line_buffer.specs.Insertions.{last_cut}
 use Rattle.line_help.specs.Completion.{common_beginning, common_to_all, EscapesComeBack, BeginsText, CommonBeginningIsLongest}
 use Rattle.line_help.proofs.CommonPrefixLemmas.{last_cut_le, last_cut_boundary, last_cut_greatest, alike, long}
 use Rattle.line_help.specs.Quotes.{text_without_escapes, unescaped_chars, escaped_chars}
 use Rattle.line_help.specs.declared.completion.quotes.Quote.TheVariants.{Double, Single, None as Unquoted}
 use Rattle.line_help.proofs.QuoteLemmas.{escaped_one, plain_char}
+use Rattle.std.specs.Fmt.Cut.{floor_char_boundary}
 
 -- escapes, character by character
 read_back : (esc : ℕ) (breaks : ℕ → Bool) → breaks esc ≡ true → (cs : List ℕ) → unescaped_chars esc (escaped_chars esc breaks cs) ≡ cs
@@ -54,24 +54,24 @@ begins_on a b c p q = (p.0 ++ q.0, q.1 ∙ ap (λ t. t ++ q.0) p.1 ∙ append_as
 common_is_text : (text other : List ℕ) → IsUtf8 text → IsUtf8 (common_beginning text other)
 common_is_text text other u =
     let n = common_prefix_len nat_eq text other in
-    IsUtf8-take text (last_cut text n) u (last_cut_boundary text n u (common_prefix_len-le nat_eq text other).0)
+    IsUtf8-take text (floor_char_boundary text n) u (last_cut_boundary text n u (common_prefix_len-le nat_eq text other).0)
 
 common_begins : (text other : List ℕ) → BeginsText (common_beginning text other) text
 common_begins text other =
-    let n = last_cut text (common_prefix_len nat_eq text other) in
+    let n = floor_char_boundary text (common_prefix_len nat_eq text other) in
     (drop n text, sym (take-append-drop n text))
 
 common_begins_other : (text other : List ℕ) → BeginsText (common_beginning text other) other
 common_begins_other text other =
     let m = common_prefix_len nat_eq text other in
-    let n = last_cut text m in
+    let n = floor_char_boundary text m in
     let same : take n text ≡ take n other = alike n text other (last_cut_le text m) in
     (drop n other, sym (take-append-drop n other) ∙ ap (λ t. t ++ drop n other) (sym same))
 
 common_is_longest : (text other front : List ℕ) → IsUtf8 text → IsUtf8 front → BeginsText front text → BeginsText front other → BeginsText front (common_beginning text other)
 common_is_longest text other front u v a b =
     let m = common_prefix_len nat_eq text other in
-    let n = last_cut text m in
+    let n = floor_char_boundary text m in
     let k = length front in
     let taken : take k text ≡ front = ap (take k) a.1 ∙ take_at front a.0 k refl in
     let fits : k ≤ length text = rw a.1 (omega (arith, length-append front a.0)) in

@@ -1,17 +1,16 @@
 -- A completer's answer: where the word starts, and what may replace it; and an update of the line.
 use Rattle.std.specs.Prelude.{◌≡◌, ◌⊎◌, ℕ, List, [], map, Result, OnOk, OnErr, ◌==◌, Bool, false, if◌then◌else◌, ◌∷◌, length, reverse, Option, Some, None, encode_utf8_all, take, nat_eq, ◌≢◌, IsTrue, ◌++◌, IsUtf8, All, filter, drop, nat_lt}
 use Rattle.std.specs.Global.{Vec}
-use Rattle.line_buffer.specs.Event.{ChangeEvent}
+use Rattle.line_buffer.specs.Event.{ChangeEvent, Replays, replacement}
 use Rattle.line_buffer.specs.Line.{Line, with_replacement}
-use Rattle.line_buffer.specs.Replay.{Replays, replacement}
 use Rattle.std.specs.List.{list_any, common_prefix_len, starts_with}
 use Rattle.std.specs.Str.{chars}
-use Rattle.line_buffer.specs.Insertions.{last_cut}
 use Rattle.std.specs.Char.{IsScalar, is_whitespace}
 use Rattle.line_help.specs.Quotes.{text_without_escapes, text_with_escapes}
 use Rattle.line_help.specs.declared.completion.quotes.Quote.{Quote}
 use Rattle.line_help.specs.declared.completion.quotes.Quote.TheVariants.{Single}
 use Rattle.line_keys.specs.Replies.{Reply}
+use Rattle.std.specs.Fmt.Cut.{floor_char_boundary}
 
 -- a candidate: the text to list, the text to insert, and the one to insert if it is the only one
 pub record Offered : Type 0 where
@@ -90,7 +89,7 @@ is_among cs c = list_any (λ d. c == d) cs
 
 -- the common prefix of two texts, in whole characters
 abbrev pub common_beginning : List ℕ → List ℕ → List ℕ
-common_beginning text other = take (last_cut text (common_prefix_len nat_eq text other)) text
+common_beginning text other = take (floor_char_boundary text (common_prefix_len nat_eq text other)) text
 
 abbrev pub common_to_all : List ℕ → List (List ℕ) → List ℕ
 common_to_all text [] = text

@@ -1,17 +1,19 @@
 -- The texts that a record holds were texts of the line.
 use Rattle.std.proofs.Common.{ℕ, zero, suc, Bool, true, false, List, [], ◌∷◌, drop, Option, Some, None, refl, inl, inr, if◌then◌else◌, arith}
-use Rattle.std.specs.Prelude.{option_map, unwrap_or}
+use Rattle.std.specs.Prelude.{option_map, unwrap_or, slice_get}
 use Rattle.std.proofs.lemmas.Bool.Decides.{nat_tests}
-use Rattle.line_buffer.specs.Event.{ChangeEvent}
+use Rattle.line_buffer.specs.Event.{ChangeEvent, text_after_event}
 use Rattle.line_buffer.specs.Event.ChangeEvent.{StartKilling, StopKilling}
-use Rattle.line_buffer.specs.Replay.{text_after_event}
 use Rattle.line_record.specs.Change.{Change}
-use Rattle.line_record.specs.Held.{HeldItem, Undone, text_of, step_of, steps_with_change, steps_with_change_if, record_after_event, change_of, join_of, record_after_close, closes, has_mark, group_with_change, text_back, ahead_back, record_ahead}
+use Rattle.line_record.specs.Held.{HeldItem, Undone, text_of, step_of, record_after_event, change_of, join_of, record_after_close, closes, has_mark, group_with_change, text_back, ahead_back, record_ahead}
 use Rattle.line_record.specs.Held.HeldItem.{Opened, Stepped}
 use Rattle.line_record.specs.Items.{ahead_after}
-use Rattle.line_record.specs.RecordCourse.{RecordCall, RecordCourse, new_course, after_call, after_calls, text_ahead, IsAmong}
+use Rattle.line_record.specs.RecordCourse.{RecordCall, RecordCourse, new_course, after_call, IsAmong}
 use Rattle.line_record.specs.RecordCourse.RecordCall.{Told, Begun, Ended, TakenBack, MadeAnew}
 use Rattle.line_record.specs.Laws.{UndoLeavesAnEarlierText}
+use Rattle.line_record.proofs.StepLemmas.{steps_with_change, steps_with_change_if}
+use Rattle.std.specs.List.{fold}
+use Rattle.std.specs.Option.{option_map_or}
 
 HeldSeen : List HeldItem → List (List ℕ) → Type 0
 HeldSeen [] seen = Unit {0}
@@ -49,7 +51,7 @@ stepped_if_seen : (e : ChangeEvent) (o : Option Change) (text : List ℕ) (held 
 stepped_if_seen e None text held seen t h = h
 stepped_if_seen e (Some c) text held seen t h = stepped_seen e c text held seen t h
 
-ahead_after_seen : (e : ChangeEvent) (ahead : List Undone) (seen : List (List ℕ)) → AheadSeen ahead seen → AheadSeen (ahead_after e ahead) seen
+ahead_after_seen : (e : ChangeEvent) (ahead : List Undone) (seen : List (List ℕ)) → AheadSeen ahead seen → AheadSeen (ahead_after ahead e) seen
 unfolding AheadSeen
 ahead_after_seen StartKilling ahead seen h = h
 ahead_after_seen StopKilling ahead seen h = h
@@ -107,12 +109,12 @@ unfolding AheadSeen
 rest_seen [] seen a = tt
 rest_seen (u ∷ ahead) seen a = a.2
 
-call_seen : (call : RecordCall) (c : RecordCourse) → Seen c → Seen (after_call call c)
+call_seen : (call : RecordCall) (c : RecordCourse) → Seen c → Seen (after_call c call)
 unfolding HeldSeen AheadSeen
 call_seen (Told e) c s = record {
   text = inl refl;
   held = held_more (record_after_event e c.text c.held) c.seen (text_after_event e c.text) (stepped_if_seen e (change_of e) c.text c.held c.seen s.text s.held);
-  ahead = ahead_more (ahead_after e c.ahead) c.seen (text_after_event e c.text) (ahead_after_seen e c.ahead c.seen s.ahead);
+  ahead = ahead_more (ahead_after c.ahead e) c.seen (text_after_event e c.text) (ahead_after_seen e c.ahead c.seen s.ahead);
 }
 call_seen Begun c s = record { text = s.text; held = (s.text, s.held); ahead = tt }
 call_seen Ended c s = record { text = s.text; held = ended_seen c.held c.seen s.held; ahead = tt }
@@ -124,17 +126,16 @@ call_seen (TakenBack n) c s =
       ahead = ahead_more (ahead_back n c.held c.text c.ahead) c.seen t (ahead_back_seen n c.held c.text c.ahead c.seen s.text s.held s.ahead);
     }
 call_seen MadeAnew c s =
-    let t : List ℕ = text_ahead c.ahead c.text in
+    let t : List ℕ = option_map_or (λ (u : Undone). u.text) (slice_get c.ahead 0) c.text in
     record {
       text = inl refl;
       held = held_more (record_ahead c.ahead c.held) c.seen t (held_ahead_seen c.ahead c.held c.seen s.ahead s.held);
       ahead = ahead_more (drop 1 c.ahead) c.seen t (rest_seen c.ahead c.seen s.ahead);
     }
 
-calls_seen : (calls : List RecordCall) (c : RecordCourse) → Seen c → Seen (after_calls calls c)
-unfolding after_calls
+calls_seen : (calls : List RecordCall) (c : RecordCourse) → Seen c → Seen (fold after_call c calls)
 calls_seen [] c s = s
-calls_seen (call ∷ calls) c s = calls_seen calls (after_call call c) (call_seen call c s)
+calls_seen (call ∷ calls) c s = calls_seen calls (after_call c call) (call_seen call c s)
 
 start_seen : (text : List ℕ) → Seen (new_course text)
 unfolding HeldSeen AheadSeen
@@ -143,4 +144,4 @@ start_seen text = record { text = inl refl; held = tt; ahead = tt }
 pub undo_leaves_an_earlier_text : UndoLeavesAnEarlierText
 undo_leaves_an_earlier_text calls text n =
     let s = calls_seen calls (new_course text) (start_seen text) in
-    text_back_seen n (after_calls calls (new_course text)).held (after_calls calls (new_course text)).text (after_calls calls (new_course text)).seen s.text s.held
+    text_back_seen n (fold after_call (new_course text) calls).held (fold after_call (new_course text) calls).text (fold after_call (new_course text) calls).seen s.text s.held

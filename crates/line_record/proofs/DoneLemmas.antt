@@ -4,11 +4,12 @@ use Rattle.std.proofs.Math.Seq.{take-length}
 use Rattle.std.proofs.lemmas.Bool.Decides.{nat_tests}
 use Rattle.std.proofs.lemmas.List.{take-append-drop, take-take, take_at, drop_at, take_min, drop_all, length-reverse, length-drop, length-take-le, reverse-append, reverse-reverse}
 use Rattle.line_record.specs.Change.{Change}
-use Rattle.line_record.specs.Items.{Item, Items, items_with_texts, DoneStand, changes_of_all, group_of, EndedBy, first_items}
+use Rattle.line_record.specs.Items.{Item, Items, items_with_texts, DoneStand, changes_of_all, group_of, EndedBy}
 use Rattle.line_record.specs.Items.Item.{Open}
-use Rattle.line_record.specs.LogSteps.{record_of, oldest_mark, IsRecord, mark_within}
+use Rattle.line_record.specs.Log.{record_of, oldest_mark, IsRecord, mark_within}
 use Rattle.line_record.proofs.EndLemmas.{EndedAs, has_open, gather, gather-reverse, closing, unmarked, ended_nothing, mark_none, none_marked}
 use Rattle.line_record.proofs.StepsLemmas.{newest_item}
+use Rattle.line_record.proofs.StepLemmas.{first_items}
 
 -- the nearest item, and the others
 pub nearest_done : (items : List Item) (n last : ℕ) → n ≡ suc last → last < length items → reverse (take n items) ≡ get_or items last Open ∷ reverse (take last items)

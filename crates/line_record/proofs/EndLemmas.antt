@@ -6,7 +6,7 @@ use Rattle.line_record.specs.Held.{HeldItem, has_mark, closes, group_with_change
 use Rattle.line_record.specs.Held.HeldItem.{Stepped}
 use Rattle.line_record.specs.Items.{Item, changes_of, before_item, items_with_texts, DoneStand, changes_of_all, group_of, EndedBy}
 use Rattle.line_record.specs.Items.Item.{Open, Lone, Group}
-use Rattle.line_record.specs.LogSteps.{oldest_mark, is_open, item_from}
+use Rattle.line_record.specs.Log.{oldest_mark, is_open, item_from}
 
 pub has_open : List Item → Bool
 has_open [] = false

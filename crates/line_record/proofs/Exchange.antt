@@ -3,7 +3,8 @@ use Rattle.std.proofs.Common.{◌≡◌, ℕ, ◌+◌, ◌-◌, List, [], ◌++�
 use Rattle.std.proofs.Math.Seq.{take-append_seam, drop-append_seam, drop-append-add}
 use Rattle.std.proofs.lemmas.List.{take-append-drop, length-take-le, drop-drop}
 use Rattle.std.proofs.lemmas.Str.{IsUtf8-nil, IsUtf8-append, IsUtf8-take, IsUtf8-drop, IsUtf8-between, IsCharBoundary-at_seam}
-use Rattle.line_record.specs.Change.{StandsAt, text_with_exchange}
+use Rattle.line_record.specs.Change.{text_with_exchange}
+use Rattle.line_buffer.specs.Event.{StandsAt}
 
 -- a text in three parts, the first two of which end between characters
 pub record Parts (at : ℕ) (part text : List ℕ) : Type 0 where

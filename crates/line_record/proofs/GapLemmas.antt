@@ -1,14 +1,26 @@
 -- Two lists of bytes, the second from the text's end: bytes passed from one to the other, and a text exchanged at their seam.
-use Rattle.std.proofs.Common.{◌≡◌, ℕ, ◌+◌, ◌-◌, ◌<◌, ◌≤◌, List, [], ◌∷◌, ◌++◌, length, take, drop, reverse, refl, sym, ap, subst, ◌∙◌, arith, append_assoc, length-append, Bool, Result, Ok, Err, IsErrAnd, IsUtf8, IsCharBoundary}
+use Rattle.std.proofs.Common.{◌≡◌, ℕ, ◌+◌, ◌-◌, ◌<◌, ◌≤◌, List, [], ◌∷◌, ◌++◌, length, take, drop, reverse, refl, sym, ap, subst, ◌∙◌, arith, append_assoc, length-append, Bool, false, Result, Ok, Err, IsErrAnd, IsUtf8, IsCharBoundary}
 use Rattle.std.proofs.Math.Seq.{take-append_seam, drop-append_seam}
 use Rattle.std.proofs.lemmas.List.{append-nil, drop_all, take_all, take_at, take-append-drop, take-take, length-drop, length-reverse, reverse-append}
 use Rattle.std.proofs.lemmas.Str.{IsUtf8-drop, IsCharBoundary-at_seam}
 use borrow.Rule.Slice.PartMut.{post_of}
 use Rattle.line_buffer.specs.Line.{Line}
-use Rattle.line_record.specs.Change.{Change, StandsAt, text_with_exchange}
-use Rattle.line_record.specs.Gap.{text_around_gap, without_limits, with_text_of}
+use Rattle.line_record.specs.Change.{Change, text_with_exchange}
 use Rattle.line_record.specs.Items.{Items, line_after_undo, line_after_redo, lines_back, lines_ahead, UndoesItems, last_changes}
 use Rattle.line_record.proofs.Exchange.{exchanged}
+use Rattle.line_buffer.specs.Event.{StandsAt}
+
+-- the bytes before a gap, and those after it in reverse
+abbrev pub text_around_gap : List ℕ → List ℕ → List ℕ
+text_around_gap before after = before ++ reverse after
+
+-- only the text and the cursor
+abbrev pub without_limits : Line → Line
+without_limits l = record l { growth = false; limit = 0 }
+
+-- a line with another one's text and cursor
+abbrev pub with_text_of : Line → Line → Line
+with_text_of l m = record l { text = m.text; place = m.place }
 
 -- a list whose second part was turned round, as a vector sees it
 pub turned : (xs ys new d e : List ℕ) (s len : ℕ) → d ≡ e → e ≡ xs ++ ys → s ≡ length xs → new ≡ reverse (take (length d - s) (drop s d)) → len ≡ length e

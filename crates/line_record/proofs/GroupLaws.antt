@@ -1,20 +1,20 @@
 -- A group that is undone as one.
 use Rattle.std.proofs.Common.{◌≡◌, ℕ, ◌+◌, Bool, true, false, List, [], ◌∷◌, ◌++◌, length, drop, Option, Some, None, refl, sym, ap, subst, ◌∙◌, if◌then◌else◌, arith}
 use Rattle.std.specs.Prelude.{option_map, unwrap_or}
-use Rattle.std.specs.List.{AllByRecursion, replace_range}
+use Rattle.std.specs.List.{AllByRecursion, replace_range, fold}
 use Rattle.std.proofs.lemmas.Bool.{and_parts}
 use Rattle.std.proofs.lemmas.Bool.Decides.{nat_tests}
-use Rattle.line_buffer.specs.Event.{ChangeEvent}
+use Rattle.line_buffer.specs.Event.{ChangeEvent, text_after_event}
 use Rattle.line_buffer.specs.Event.ChangeEvent.{StartKilling, StopKilling, Delete, InsertChar, InsertStr, Replace}
-use Rattle.line_buffer.specs.Replay.{text_after_event}
 use Rattle.line_record.specs.Change.{Change}
-use Rattle.line_record.specs.Held.{HeldItem, change_of, join_of, step_of, steps_with_change, steps_with_change_if, record_after_event, has_mark, closes, record_after_close, text_back}
+use Rattle.line_record.specs.Held.{HeldItem, change_of, join_of, step_of, record_after_event, has_mark, closes, record_after_close, text_back}
 use Rattle.line_record.specs.Held.HeldItem.{Opened, Stepped}
-use Rattle.line_record.specs.RecordCourse.{RecordCall, RecordCourse, after_call, after_calls}
+use Rattle.line_record.specs.RecordCourse.{RecordCall, RecordCourse, after_call}
 use Rattle.line_record.specs.RecordCourse.RecordCall.{Told, Begun}
 use Rattle.line_record.specs.Laws.{stays_open, UndoTakesTheGroupBack}
 use Rattle.line_record.proofs.NotedLemmas.{none_there, nothing_put}
 use Rattle.line_record.proofs.RecordLaws.{no_mark}
+use Rattle.line_record.proofs.StepLemmas.{steps_with_change, steps_with_change_if}
 
 -- the text of the oldest of some steps, or the current one without steps
 text_begun : List HeldItem → List ℕ → List ℕ
@@ -66,7 +66,7 @@ told_inside e (Some c) begun_on text newer older is h = stepped_inside e c begun
 told_inside e None begun_on text newer older is h = record { newer = newer; are = refl; begun = ap (text_begun newer) (unchanged e text is) ∙ h }
 
 call_inside : (call : RecordCall) (c : RecordCourse) (begun_on : List ℕ) (older : List HeldItem) → stays_open call ≡ true → Inside begun_on older c.held c.text
-    → Inside begun_on older (after_call call c).held (after_call call c).text
+    → Inside begun_on older (after_call c call).held (after_call c call).text
 unfolding text_begun
 call_inside (Told e) c begun_on older s i =
     subst (λ held. Inside begun_on older (record_after_event e c.text held) (text_after_event e c.text)) (sym i.are) (told_inside e (change_of e) begun_on c.text i.newer older refl i.begun)
@@ -74,10 +74,9 @@ call_inside Begun c begun_on older s i = record { newer = Opened c.text ∷ i.ne
 call_inside _ c begun_on older s i = cc
 
 calls_inside : (calls : List RecordCall) (c : RecordCourse) (begun_on : List ℕ) (older : List HeldItem) → AllByRecursion (λ call. stays_open call ≡ true) calls → Inside begun_on older c.held c.text
-    → Inside begun_on older (after_calls calls c).held (after_calls calls c).text
-unfolding after_calls
+    → Inside begun_on older (fold after_call c calls).held (fold after_call c calls).text
 calls_inside [] c begun_on older s i = i
-calls_inside (call ∷ calls) c begun_on older s i = calls_inside calls (after_call call c) begun_on older s.1 (call_inside call c begun_on older s.0 i)
+calls_inside (call ∷ calls) c begun_on older s i = calls_inside calls (after_call c call) begun_on older s.1 (call_inside call c begun_on older s.0 i)
 
 -- closing the group
 marked : (newer older : List HeldItem) (begun_on : List ℕ) → has_mark (newer ++ (Opened begun_on ∷ older)) ≡ true
@@ -133,8 +132,8 @@ just_begun text older = record { newer = []; are = refl; begun = refl }
 
 pub undo_takes_the_group_back : UndoTakesTheGroupBack
 undo_takes_the_group_back c calls m s h =
-    let inside : RecordCourse = after_calls calls (after_call Begun c) in
-    let i = calls_inside calls (after_call Begun c) c.text c.held s (just_begun c.text c.held) in
+    let inside : RecordCourse = fold after_call (after_call c Begun) calls in
+    let i = calls_inside calls (after_call c Begun) c.text c.held s (just_begun c.text c.held) in
     let g = one_step i.newer c.held c.text inside.text m (subst (λ held. closes held ≡ true) i.are h) in
     let are : record_after_close inside.held ≡ Stepped c.text g.place g.newest false ∷ c.held =
     ap record_after_close i.are ∙ g.are ∙ ap (λ t. Stepped t g.place g.newest false ∷ c.held) i.begun in

@@ -1,13 +1,13 @@
 -- Two listeners, the last of which is a record.
 use Rattle.std.proofs.Common.{◌≡◌, List, refl, ap, ◌∙◌, inl, inr, ℕ, IsUtf8}
-use Rattle.line_buffer.specs.Event.{ChangeEvent}
-use Rattle.line_buffer.specs.Replay.{Reports, StopsAmong}
+use Rattle.line_buffer.specs.Event.{ChangeEvent, Reports, StopsAmong}
 use Rattle.line_buffer.proofs.ReplayLemmas.{stops_wanting}
 use Rattle.line_record.specs.declared.joined.Joined.{Joined}
-use Rattle.line_record.specs.Items.{Items, ItemsStand, RecordsEventIn, record_refuses, record_on}
+use Rattle.line_record.specs.Items.{Items, ItemsStand, RecordsEventIn, record_refuses, record_on, ahead_after}
 use Rattle.line_record.specs.Together.{SameNames, joined_takes, joined_refuses, RefusalsLeaveNoUnmadeChange}
-use Rattle.line_record.specs.RecordCourse.{record_after_events, ahead_all}
+use Rattle.line_record.specs.RecordCourse.{record_after_events}
 use Rattle.line_record.proofs.RunLemmas.{part_told, part_stopped, kept_by_all}
+use Rattle.std.specs.List.{fold}
 
 pub refusals_leave_no_unmade_change : {A : Type 0} (first first_refuses : A → ChangeEvent → A → Type 0) → RefusalsLeaveNoUnmadeChange first first_refuses
 refusals_leave_no_unmade_change {A} first first_refuses closing events s t before after h u call =
@@ -18,7 +18,7 @@ refusals_leave_no_unmade_change {A} first first_refuses closing events s t befor
     record {
       stand = both.0.stand;
       held = both.0.held ∙ ap (record_after_events closing after) both.1.held;
-      ahead = both.0.ahead ∙ ap (ahead_all closing) both.1.ahead;
+      ahead = both.0.ahead ∙ ap (λ x. fold ahead_after x closing) both.1.ahead;
     }
 
 -- the record's changes stand on the line's text, if both were told, and if one failed

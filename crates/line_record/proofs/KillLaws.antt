@@ -1,6 +1,6 @@
 -- A run of kills comes back by one yank.
 use Rattle.std.proofs.Common.{◌≡◌, ◌≢◌, ℕ, ◌+◌, ◌-◌, ◌<◌, ◌≤◌, ◌==◌, inl, inr, ◌||◌, Bool, true, false, List, [], ◌∷◌, ◌++◌, length, take, drop, Option, None, Some, refl, sym, ap, subst, ◌∙◌, arith, add-zero, IsUtf8, IsCharBoundary, IfSome, is_some, slice_range, slice_set, slice_index_or, if◌then◌else◌, nat_lt, nat_le}
-use Rattle.std.specs.List.{AllByRecursion, replace_range}
+use Rattle.std.specs.List.{AllByRecursion, replace_range, fold}
 use Rattle.std.proofs.lemmas.List.{append-nil, length-drop, length-take-le, length-set, get_or-set_same, length-append}
 use Rattle.std.proofs.Math.Bool.{or_assoc, or-false}
 use Rattle.std.proofs.Math.Seq.{get_or-append_seam}
@@ -17,16 +17,17 @@ use Rattle.line_buffer.specs.Event.ChangeEvent.{StartKilling, StopKilling}
 use Rattle.line_buffer.specs.Insertions.{yank, insertion_of, no_insertion, with_text_at_cursor}
 use Rattle.line_buffer.specs.Line.{Line, without_range}
 use Rattle.line_buffer.specs.Range.{range_of, deletion_events, deletion_line, kill_events, kill as killed_in}
-use Rattle.line_buffer.specs.Replay.{insertion}
+use Rattle.line_buffer.specs.Event.{StandsAt, InsertStr}
 use Rattle.line_buffer.proofs.InsertionLemmas.{one_insertion}
 use Rattle.line_record.specs.declared.kill_ring.Action.{Action}
 use Rattle.line_record.specs.declared.kill_ring.Action.TheVariants.{Other, Kill, Yank}
-use Rattle.line_record.specs.Change.{StandsAt, text_with_exchange}
-use Rattle.line_record.specs.Laws.{is_directed, line_killed, ring_killed, some_taken, KillsComeBack}
-use Rattle.line_record.specs.Ring.{Ring, IsRing, joined_text, slot_after, slots_with_text, ring_with_kill, ring_with_kill_after, ring_with_new_kill, mode_of, ring_all}
+use Rattle.line_record.specs.Change.{text_with_exchange}
+use Rattle.line_record.specs.Laws.{is_directed, some_taken, KillsComeBack, after_kill}
+use Rattle.line_record.specs.Ring.{Ring, IsRing, joined_text, slot_after, slots_with_text, ring_with_kill, ring_with_kill_after, mode_of, ring_all}
 use Rattle.line_record.proofs.DirectedLemmas.{Onward, Back, IsDirected, directed}
 use Rattle.line_record.proofs.Exchange.{exchanged, joined_right, joined_left}
 use Rattle.line_record.proofs.NotedLemmas.{none_there, nothing_put}
+use Rattle.line_record.proofs.RingLemmas.{ring_with_new_kill}
 
 -- the text put in at the cursor gives the first text
 record Restores (first : List ℕ) (l : Line) (text : List ℕ) : Type 0 where
@@ -245,18 +246,18 @@ one_kill (Some span) false first l r h run = record {
 }
 
 all_kills : (ms : List Movement) (some : Bool) (first : List ℕ) (l : Line) (r : Ring) → AllByRecursion (λ m. is_directed m ≡ true) ms → Run some first l r
-    → Run (some || some_taken ms l) first (line_killed ms l) (ring_killed ms l r)
+    → Run (some || some_taken ms l) first (fold after_kill (l, r) ms).0 (fold after_kill (l, r) ms).1
 all_kills [] some first l r d run = subst (λ b. Run b first l r) (sym (or-false some)) run
 all_kills (m ∷ ms) some first l r d run =
     let here = one_kill (range_of m l) some first l r (directed m l d.0 run.line.utf8 run.line.cursor) run in
     let told : Run (some || is_some (range_of m l)) first (killed_in m l).line (ring_all (kill_events m l) r) =
     subst (λ es. Run (some || is_some (range_of m l)) first (killed_in m l).line (ring_all es r)) (sym (directed_events m l d.0)) here in
-    subst (λ b. Run b first (line_killed ms (killed_in m l).line) (ring_killed ms (killed_in m l).line (ring_all (kill_events m l) r)))
+    subst (λ b. Run b first (fold after_kill (after_kill (l, r) m) ms).0 (fold after_kill (after_kill (l, r) m) ms).1)
     (or_assoc some (is_some (range_of m l)) (some_taken ms (killed_in m l).line))
     (all_kills ms (some || is_some (range_of m l)) first (killed_in m l).line (ring_all (kill_events m l) r) d.1 told)
 
 put_in_room : (g : Bool) (text : List ℕ) (l : Line) → g ≡ true
-    → (if g || nat_le (length l.text + length text) l.limit then record { answer = Some (l.place == length l.text); events = insertion l.place text ∷ []; line = with_text_at_cursor text l } else no_insertion l).line.text
+    → (if g || nat_le (length l.text + length text) l.limit then record { answer = Some (l.place == length l.text); events = InsertStr l.place text ∷ []; line = with_text_at_cursor text l } else no_insertion l).line.text
     ≡ text_with_exchange l.place [] text l.text
 put_in_room true text l e = ap (λ k. replace_range l.text l.place k text) (sym (add-zero l.place))
 put_in_room false text l e = cc
@@ -277,5 +278,5 @@ kills_come_back ms l r d some u b g ring size last =
       line = record { utf8 = u; cursor = b; text_utf8 = IsUtf8-nil; restored = nothing_put l.text l.place; growth = g };
       ring = record { last = last; size = size; ring = ring; none = refl };
     } in
-    let run = subst (λ k. Run k l.text (line_killed ms l) (ring_killed ms l r)) some (all_kills ms false l.text l r d start) in
-    (run.text, slice_get-get_or _ _ [] run.ring.inside ∙ ap Some run.ring.slot, yanked_back l.text (line_killed ms l) run.text run.line)
+    let run = subst (λ k. Run k l.text (fold after_kill (l, r) ms).0 (fold after_kill (l, r) ms).1) some (all_kills ms false l.text l r d start) in
+    (run.text, slice_get-get_or _ _ [] run.ring.inside ∙ ap Some run.ring.slot, yanked_back l.text (fold after_kill (l, r) ms).0 run.text run.line)

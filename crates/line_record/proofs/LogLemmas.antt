@@ -14,8 +14,8 @@ use Rattle.line_record.specs.Held.{join_of}
 use Rattle.line_buffer.specs.Line.{Line}
 use Rattle.line_record.specs.Items.{lines_ahead}
 use Rattle.line_record.proofs.StepLemmas.{ahead_turn, AheadTurn}
-use Rattle.line_record.specs.Logged.{place_of_span, edit_from, edit_in, edits_in, Spelt, IsLog, old_text_with, change_with_text, join_at, change_told}
-use Rattle.line_record.proofs.SpanLemmas.{take_lower, slice_same, adjoin_at, place_le, place_fits, SpansAre, spans_cut, span_pushed}
+use Rattle.line_record.specs.Log.{edit_from, edit_in, edits_in, Spelt, IsLog, old_text_with, change_with_text, join_at, change_told}
+use Rattle.line_record.proofs.SpanLemmas.{take_lower, slice_same, adjoin_at, place_le, place_fits, SpansAre, spans_cut, span_pushed, place_of_span}
 
 abbrev from_of : LoggedChange → ℕ
 from_of x = x.start

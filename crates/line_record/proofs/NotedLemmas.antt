@@ -4,19 +4,20 @@ use Rattle.std.specs.Prelude.{option_map, unwrap_or}
 use Rattle.std.proofs.lemmas.Bool.{and_parts}
 use Rattle.std.proofs.lemmas.List.{append-nil, take-append-drop, nil_from_length}
 use Rattle.unicode_segmentation.specs.Segments.{is_alphanumeric}
-use Rattle.line_buffer.specs.Event.{ChangeEvent}
+use Rattle.line_buffer.specs.Event.{ChangeEvent, Swaps, Replays, StandsAt}
 use Rattle.line_buffer.specs.Event.ChangeEvent.{StartKilling, StopKilling, Delete, InsertChar, InsertStr, Replace}
-use Rattle.line_buffer.specs.Replay.{Swaps, Replays}
 use Rattle.line_buffer.specs.declared.types.Direction.{Direction}
-use Rattle.line_record.specs.Change.{Change, place_of, old_text_of, new_text_of, text_after_undo, text_with_exchange, StandsAt, StandsIn}
+use Rattle.line_record.specs.Change.{Change, place_of, old_text_of, new_text_of, text_after_undo, text_with_exchange, StandsIn}
 use Rattle.line_record.specs.Change.Change.{Inserted, Deleted, Replaced}
-use Rattle.line_record.specs.Held.{HeldItem, step_of, steps_with_change, steps_with_change_if, record_after_event, change_of, join_of, is_one_alphanumeric}
-use Rattle.line_record.specs.Items.{Item, Items, items_with_texts, DoneStand, ItemsStand, record_on, ahead_on, items_with_change, items_with_change_if, items_after_event, ahead_after, RecordsEvent, RecordsEventIn}
+use Rattle.line_record.specs.Held.{HeldItem, step_of, record_after_event, change_of, join_of, is_one_alphanumeric}
+use Rattle.line_record.specs.Items.{Item, Items, items_with_texts, DoneStand, ItemsStand, record_on, ahead_on, items_after_event, ahead_after, RecordsEvent, RecordsEventIn, join_of_items, items_with_event}
 use Rattle.line_record.specs.Items.Item.{Open, Lone, Group}
-use Rattle.line_record.specs.LogSteps.{event_of}
+use Rattle.line_record.specs.Log.{event_of}
 use Rattle.line_record.specs.declared.report.Report.{Report}
 use Rattle.line_record.specs.declared.report.Report.TheVariants as told
 use Rattle.line_record.proofs.Exchange.{exchanged, Joined, joined_right, joined_left}
+use Rattle.line_record.proofs.StepLemmas.{steps_with_change, steps_with_change_if}
+use Rattle.std.specs.Option.{option_map_or}
 
 -- the text before it was changed stands after the change
 pub record Follows (c : Change) (before after : List ℕ) : Type 0 where
@@ -46,7 +47,7 @@ noted_joined e c d items before after (Some g) is f j s = noted_new g items (tex
 noted_joined e c d items before after None is f j s = noted_new c (Lone d ∷ items) before after f s
 
 noted_step : (e : ChangeEvent) (c : Change) (items : List Item) (before after : List ℕ) → Follows c before after → Joins e before after → DoneStand items before
-    → Noted (items_with_change e c items) (steps_with_change e c before (items_with_texts items before)) after
+    → Noted (unwrap_or (join_of_items e items) (Lone c ∷ items)) (steps_with_change e c before (items_with_texts items before)) after
 noted_step e c [] before after f j s = noted_new c [] before after f s
 noted_step e c (Open ∷ items) before after f j s = noted_new c (Open ∷ items) before after f s
 noted_step e c (Group d ds ∷ items) before after f j s = noted_new c (Group d ds ∷ items) before after f s
@@ -61,9 +62,6 @@ follows c before after s u e =
       stand = subst (StandsIn c) (sym e) x.stand;
       back = ap (text_after_undo c) e ∙ x.back;
     }
-
-stands_from_swaps : {at : ℕ} {from to before after : List ℕ} → Swaps at from to before after → StandsAt at from to before
-stands_from_swaps s = record { start = s.start; end = s.end; bytes = s.stands; utf8 = s.text }
 
 -- the test of a choice that gives something holds
 some_if : {A : Type 0} (b : Bool) (x g : A) → (if b then Some x else None) ≡ Some g → (b ≡ true) × (x ≡ g)
@@ -82,7 +80,7 @@ unfolding Joins
 joins_char at c before after u w (Inserted place text) g e s =
     let h = some_if (is_alphanumeric c && (at == place + length text)) (Inserted place (text ++ encode_utf8 c)) g e in
     let i : at ≡ place + length text = eqb-true at (place + length text) (and_parts (is_alphanumeric c) (at == place + length text) h.0).1 in
-    let t : StandsAt (place + length text) [] (encode_utf8 c) before = subst (λ k. StandsAt k [] (encode_utf8 c) before) i (stands_from_swaps w) in
+    let t : StandsAt (place + length text) [] (encode_utf8 c) before = subst (λ k. StandsAt k [] (encode_utf8 c) before) i w.stands in
     let x : Follows (Inserted place (text ++ encode_utf8 c)) (text_after_undo (Inserted place text) before) after =
     from_joined (Inserted place (text ++ encode_utf8 c)) after (joined_right place [] text [] (encode_utf8 c) before s u t) (w.becomes ∙ ap (λ k. text_with_exchange k [] (encode_utf8 c) before) i) in
     subst (λ y. Follows y (text_after_undo (Inserted place text) before) after) h.1 x
@@ -94,7 +92,7 @@ unfolding Joins
 joins_replacement at removed added before after u w (Replaced place was is) g e s =
     let h = some_if (at == place + length is) (Replaced place (was ++ removed) (is ++ added)) g e in
     let i : at ≡ place + length is = eqb-true at (place + length is) h.0 in
-    let t : StandsAt (place + length is) removed added before = subst (λ k. StandsAt k removed added before) i (stands_from_swaps w) in
+    let t : StandsAt (place + length is) removed added before = subst (λ k. StandsAt k removed added before) i w.stands in
     let x : Follows (Replaced place (was ++ removed) (is ++ added)) (text_after_undo (Replaced place was is) before) after =
     from_joined (Replaced place (was ++ removed) (is ++ added)) after (joined_right place was is removed added before s u t) (w.becomes ∙ ap (λ k. text_with_exchange k removed added before) i) in
     subst (λ y. Follows y (text_after_undo (Replaced place was is) before) after) h.1 x
@@ -105,13 +103,13 @@ deletion_ahead : (at place : ℕ) (removed deleted before after : List ℕ) → 
     → at ≡ place → Follows (Deleted place (deleted ++ removed)) (text_after_undo (Deleted place deleted) before) after
 deletion_ahead at place removed deleted before after u w s i =
     let j : at ≡ place + 0 = i ∙ sym (add-zero place) in
-    let t : StandsAt (place + 0) removed [] before = subst (λ k. StandsAt k removed [] before) j (stands_from_swaps w) in
+    let t : StandsAt (place + 0) removed [] before = subst (λ k. StandsAt k removed [] before) j w.stands in
     from_joined (Deleted place (deleted ++ removed)) after (joined_right place deleted [] removed [] before s u t) (w.becomes ∙ ap (λ k. text_with_exchange k removed [] before) j)
 
 deletion_behind : (at place : ℕ) (removed deleted before after : List ℕ) → IsUtf8 before → Swaps at removed [] before after → StandsIn (Deleted place deleted) before
     → at + length removed ≡ place → Follows (Deleted at (removed ++ deleted)) (text_after_undo (Deleted place deleted) before) after
 deletion_behind at place removed deleted before after u w s i =
-    from_joined (Deleted at (removed ++ deleted)) after (joined_left at place deleted removed before s u (stands_from_swaps w) i) w.becomes
+    from_joined (Deleted at (removed ++ deleted)) after (joined_left at place deleted removed before s u w.stands i) w.becomes
 
 -- the choice that a deletion makes of what it joins
 chosen_deletion : (a b : Bool) (at place : ℕ) (removed deleted : List ℕ) (g : Change) (P : Change → Type 0) → (at == place) ≡ a → (at + length removed == place) ≡ b
@@ -146,17 +144,17 @@ Changes e before after None = after ≡ before
 Changes e before after (Some c) = Follows c before after × Joins e before after
 
 noted_any : (e : ChangeEvent) (o : Option Change) (items : List Item) (before after : List ℕ) → Changes e before after o → DoneStand items before
-    → Noted (items_with_change_if e o items) (steps_with_change_if e o before (items_with_texts items before)) after
+    → Noted (option_map_or (λ c. unwrap_or (join_of_items e items) (Lone c ∷ items)) o items) (steps_with_change_if e o before (items_with_texts items before)) after
 unfolding Changes
 noted_any e None items before after h s = record { stand = subst (DoneStand items) (sym h) s; held = ap (items_with_texts items) h }
 noted_any e (Some c) items before after h s = noted_step e c items before after h.0 h.1 s
 
-recorded_told : (e : ChangeEvent) (s : Items) (before after : List ℕ) → Noted (items_with_change_if e (change_of e) s.done) (record_after_event e before (items_with_texts s.done before)) after → ahead_after e (ahead_on s before) ≡ []
+recorded_told : (e : ChangeEvent) (s : Items) (before after : List ℕ) → Noted (items_with_event e s.done) (record_after_event e before (items_with_texts s.done before)) after → ahead_after (ahead_on s before) e ≡ []
     → RecordsEvent e before after s (items_after_event e s)
 recorded_told e s before after n a = record { stand = (n.stand, tt); held = n.held; ahead = sym a }
 
 swapped : (c : Change) (before after : List ℕ) → IsUtf8 before → Swaps (place_of c) (old_text_of c) (new_text_of c) before after → Follows c before after
-swapped c before after u w = follows c before after (stands_from_swaps w) u w.becomes
+swapped c before after u w = follows c before after w.stands u w.becomes
 
 pub none_there : (xs : List ℕ) → (length xs == 0) ≡ true → xs ≡ []
 none_there xs h = nil_from_length xs (eqb-true (length xs) 0 h)
@@ -193,7 +191,7 @@ unfolding Changes
 changes_char at c before after u w = (swapped (Inserted at (encode_utf8 c)) before after u w, joins_char at c before after u w)
 
 recorded_same : (e : ChangeEvent) (s : Items) (before after : List ℕ) → ItemsStand s before → after ≡ before → record_after_event e before (record_on s before) ≡ record_on s before
-    → ahead_after e (ahead_on s before) ≡ ahead_on s before → RecordsEvent e before after s s
+    → ahead_after (ahead_on s before) e ≡ ahead_on s before → RecordsEvent e before after s s
 recorded_same e s before after h i r a = record {
   stand = subst (ItemsStand s) (sym i) h;
   held = ap (record_on s) i ∙ sym r;

@@ -10,10 +10,11 @@ use Rattle.line_buffer.specs.Event.ChangeEvent.{StartKilling, StopKilling, Delet
 use Rattle.line_buffer.specs.declared.types.Mode.{Mode}
 use Rattle.line_record.specs.declared.kill_ring.Action.{Action}
 use Rattle.line_record.specs.declared.kill_ring.Action.TheVariants.{Other, Kill, Yank}
-use Rattle.line_record.specs.Ring.{RingCall, Kills, no_kills, run_with, kill_taken, kills_heard, kills_after, all_kills_after, ring_after, ring_after_all, Ring, new_ring, joined_text, slot_after, slots_with_text, ring_with_kill, ring_with_kill_after, ring_with_new_kill, mode_of, ring_after_yank, ring_step}
+use Rattle.line_record.specs.Ring.{RingCall, Kills, no_kills, run_with, kill_taken, kills_after, ring_after, Ring, new_ring, joined_text, slot_after, slots_with_text, ring_with_kill, ring_with_kill_after, mode_of, ring_after_yank, ring_step}
 use Rattle.line_record.specs.Ring.RingCall.{Taken, Heard, Ended, Lent}
 use Rattle.line_record.specs.Laws.{RingHoldsTheLastRuns}
-use Rattle.line_record.proofs.RingLemmas.{put_there}
+use Rattle.line_record.proofs.RingLemmas.{put_there, ring_with_new_kill}
+use Rattle.std.specs.List.{fold}
 
 -- the slots from the current one back, and round to the one after it, are the first of the runs
 record Filled (size : ℕ) (runs slots : List (List ℕ)) (place : ℕ) : Type 0 where
@@ -268,11 +269,11 @@ delete_holds : (n : ℕ) (b : Bool) (text : List ℕ) (mode : Mode) (k : Kills) 
 delete_holds n true text mode k r h = kill_holds n text mode k r h
 delete_holds n false text mode k r h = h
 
-heard_holds : (n : ℕ) (e : ChangeEvent) (k : Kills) (r : Ring) → Holds (suc n) k r → Holds (suc n) (kills_heard e k) (ring_step e r)
+heard_holds : (n : ℕ) (e : ChangeEvent) (k : Kills) (r : Ring) → Holds (suc n) k r → Holds (suc n) (kills_after k (Heard e)) (ring_step e r)
 heard_holds n StartKilling k r h = record { sized = h.sized; killing = refl; running = h.running; slots = h.slots }
 heard_holds n StopKilling k r h = record { sized = h.sized; killing = refl; running = h.running; slots = h.slots }
 heard_holds n (Delete at text direction) k r h =
-    subst (λ b. Holds (suc n) (kills_heard (Delete at text direction) k) (if b then ring_with_kill text (mode_of direction) r else r)) (sym h.killing)
+    subst (λ b. Holds (suc n) (kills_after k (Heard (Delete at text direction))) (if b then ring_with_kill text (mode_of direction) r else r)) (sym h.killing)
     (delete_holds n k.killing text (mode_of direction) k r h)
 heard_holds n _ k r h = h
 
@@ -299,17 +300,16 @@ lent_holds n k r h = by_slots (length r.slots == 0) refl
     }
     by_slots false e = record { sized = h.sized; killing = h.killing; running = refl; slots = stopped_slots h.slots }
 
-call_holds : (n : ℕ) (call : RingCall) (k : Kills) (r : Ring) → Holds (suc n) k r → Holds (suc n) (kills_after call k) (ring_after call r)
+call_holds : (n : ℕ) (call : RingCall) (k : Kills) (r : Ring) → Holds (suc n) k r → Holds (suc n) (kills_after k call) (ring_after r call)
 unfolding is_kill
 call_holds n (Taken text mode) k r h = kill_holds n text mode k r h
 call_holds n (Heard e) k r h = heard_holds n e k r h
 call_holds n Ended k r h = record { sized = h.sized; killing = h.killing; running = refl; slots = stopped_slots h.slots }
 call_holds n Lent k r h = lent_holds n k r h
 
-calls_hold : (n : ℕ) (calls : List RingCall) (k : Kills) (r : Ring) → Holds (suc n) k r → Holds (suc n) (all_kills_after calls k) (ring_after_all calls r)
-unfolding all_kills_after ring_after_all
+calls_hold : (n : ℕ) (calls : List RingCall) (k : Kills) (r : Ring) → Holds (suc n) k r → Holds (suc n) (fold kills_after k calls) (fold ring_after r calls)
 calls_hold n [] k r h = h
-calls_hold n (call ∷ calls) k r h = calls_hold n calls (kills_after call k) (ring_after call r) (call_holds n call k r h)
+calls_hold n (call ∷ calls) k r h = calls_hold n calls (kills_after k call) (ring_after r call) (call_holds n call k r h)
 
 new_holds : (n : ℕ) → Holds (suc n) no_kills (new_ring (suc n))
 unfolding is_kill
@@ -345,8 +345,8 @@ read_filled n runs slots place f =
 pub ring_holds_the_last_runs : RingHoldsTheLastRuns
 ring_holds_the_last_runs zero calls some = absurd (omega (arith, some))
 ring_holds_the_last_runs (suc n) calls some =
-    let r : Ring = ring_after_all calls (new_ring (suc n)) in
-    let k : Kills = all_kills_after calls no_kills in
+    let r : Ring = fold ring_after (new_ring (suc n)) calls in
+    let k : Kills = fold kills_after no_kills calls in
     let h = calls_hold n calls no_kills (new_ring (suc n)) (new_holds n) in
     let read : Read (suc n) k.runs r.slots r.place =
     elim h.slots [ inl e ↦ read_empty (suc n) k.runs r.slots r.place k.running e | inr f ↦ read_filled n k.runs r.slots r.place f ] in

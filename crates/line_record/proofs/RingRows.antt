@@ -4,14 +4,19 @@ use Rattle.line_buffer.specs.declared.types.Mode.TheVariants.{Append, Prepend}
 use Rattle.line_record.specs.declared.kill_ring.Action.TheVariants.{Other}
 use Rattle.line_buffer.specs.Event.ChangeEvent.{StartKilling, StopKilling, Delete, InsertChar}
 use Rattle.line_buffer.specs.declared.types.Direction.TheVariants.{Forward, Backward}
-use Rattle.line_record.specs.Ring.{RingCall, no_kills, all_kills_after, ring_after_all, newest_first, Ring, new_ring, ring_with_kill, ring_after_yank, ring_after_turn, yank_exchange}
+use Rattle.line_record.specs.Ring.{RingCall, no_kills, Ring, new_ring, ring_with_kill, ring_after_yank, ring_after_turn, yank_exchange, kills_after, ring_after}
 use Rattle.line_record.specs.Ring.RingCall.{Taken, Heard, Ended, Lent}
+use Rattle.std.specs.List.{fold}
+use Rattle.std.specs.Prelude.{suc, take, drop, reverse, ◌++◌}
 
 abbrev ended_run : Ring → Ring
 ended_run r = record r { last = Other }
 
 abbrev lent : Ring → Option (List ℕ)
 lent r = slice_get r.slots r.place
+
+abbrev newest_first : Ring → List (List ℕ)
+newest_first r = reverse (take (suc r.place) r.slots) ++ reverse (drop (suc r.place) r.slots)
 
 abbrev two_kills : Ring
 two_kills = ring_after_yank (ring_with_kill (codes "c") Append (ended_run (ring_with_kill (codes "ab") Append (new_ring 2))))
@@ -44,8 +49,8 @@ three_runs = Taken (codes "b") Append ∷ (Taken (codes "a") Prepend ∷ (Ended 
 
 -- the runs are three: a ring of two holds the last two, a larger one all
 runs_held :
-    ((all_kills_after three_runs no_kills).runs ≡ codes "de" ∷ (codes "c" ∷ (codes "ab" ∷ [])))
-    × (newest_first (ring_after_all three_runs (new_ring 2)) ≡ codes "de" ∷ (codes "c" ∷ []))
-    × (newest_first (ring_after_all three_runs (new_ring 5)) ≡ codes "de" ∷ (codes "c" ∷ (codes "ab" ∷ [])))
-unfolding three_runs all_kills_after ring_after_all
+    ((fold kills_after no_kills three_runs).runs ≡ codes "de" ∷ (codes "c" ∷ (codes "ab" ∷ [])))
+    × (newest_first (fold ring_after (new_ring 2) three_runs) ≡ codes "de" ∷ (codes "c" ∷ []))
+    × (newest_first (fold ring_after (new_ring 5) three_runs) ≡ codes "de" ∷ (codes "c" ∷ (codes "ab" ∷ [])))
+unfolding three_runs
 runs_held = (refl, refl, refl)

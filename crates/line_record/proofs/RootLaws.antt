@@ -1,17 +1,19 @@
 -- A record that is undone altogether gives the text that it began on.
 use Rattle.std.proofs.Common.{◌≡◌, ℕ, zero, suc, Bool, true, false, List, [], ◌∷◌, length, drop, Option, Some, None, refl, sym, ap, subst, ◌∙◌, if◌then◌else◌}
-use Rattle.std.specs.Prelude.{option_map, unwrap_or}
-use Rattle.line_buffer.specs.Event.{ChangeEvent}
+use Rattle.std.specs.Prelude.{option_map, unwrap_or, slice_get}
+use Rattle.line_buffer.specs.Event.{ChangeEvent, text_after_event}
 use Rattle.line_buffer.specs.Event.ChangeEvent.{StartKilling, StopKilling}
-use Rattle.line_buffer.specs.Replay.{text_after_event}
 use Rattle.line_record.specs.Change.{Change}
-use Rattle.line_record.specs.Held.{HeldItem, Undone, text_of, change_of, join_of, step_of, steps_with_change, steps_with_change_if, has_mark, closes, group_with_change, record_after_close, text_back, ahead_back, record_ahead}
+use Rattle.line_record.specs.Held.{HeldItem, Undone, text_of, change_of, join_of, step_of, has_mark, closes, group_with_change, record_after_close, text_back, ahead_back, record_ahead}
 use Rattle.line_record.specs.Held.HeldItem.{Opened, Stepped}
 use Rattle.line_record.specs.Items.{ahead_after}
-use Rattle.line_record.specs.RecordCourse.{RecordCall, RecordCourse, new_course, after_call, after_calls, text_ahead}
+use Rattle.line_record.specs.RecordCourse.{RecordCall, RecordCourse, new_course, after_call}
 use Rattle.line_record.specs.RecordCourse.RecordCall.{Told, Begun, Ended, TakenBack, MadeAnew}
 use Rattle.line_record.specs.Laws.{UndoOfAllGivesTheFirstText}
 use Rattle.line_record.proofs.GroupLaws.{unchanged}
+use Rattle.line_record.proofs.StepLemmas.{steps_with_change, steps_with_change_if}
+use Rattle.std.specs.List.{fold}
+use Rattle.std.specs.Option.{option_map_or}
 
 -- the text before everything
 abbrev root : List HeldItem → List ℕ → List ℕ
@@ -58,7 +60,7 @@ told_rooted : (e : ChangeEvent) (o : Option Change) (first text : List ℕ) (hel
 told_rooted e (Some c) first text held is h = stepped_rooted e c first text (text_after_event e text) held h
 told_rooted e None first text held is h = subst (HeldRooted first held) (sym (unchanged e text is)) h
 
-ahead_told : (e : ChangeEvent) (ahead : List Undone) (text : List ℕ) → AheadFits ahead text → AheadFits (ahead_after e ahead) (text_after_event e text)
+ahead_told : (e : ChangeEvent) (ahead : List Undone) (text : List ℕ) → AheadFits ahead text → AheadFits (ahead_after ahead e) (text_after_event e text)
 unfolding AheadFits
 ahead_told StartKilling ahead text h = h
 ahead_told StopKilling ahead text h = h
@@ -120,7 +122,7 @@ back_rooted (suc n) first (h ∷ held) ahead text r =
     back_rooted n first held (record { held = h; text = text } ∷ ahead) (text_of h) (record { begun = r.begun; marks = r.marks.1; fits = (refl, r.marks.0, r.fits) })
 
 call_rooted : (call : RecordCall) (first : List ℕ) (c : RecordCourse) → Rooted first c.held c.ahead c.text
-    → Rooted first (after_call call c).held (after_call call c).ahead (after_call call c).text
+    → Rooted first (after_call c call).held (after_call c call).ahead (after_call c call).text
 unfolding MarkSits MarksSit AheadFits
 call_rooted (Told e) first c r =
     let h = told_rooted e (change_of e) first c.text c.held refl (record { begun = r.begun; marks = r.marks }) in
@@ -133,7 +135,7 @@ call_rooted (TakenBack n) first c r = back_rooted n first c.held c.ahead c.text 
 call_rooted MadeAnew first c r = anew c.ahead r.fits
   where
     anew : (ahead : List Undone) → AheadFits ahead c.text
-        → Rooted first (record_ahead ahead c.held) (drop 1 ahead) (text_ahead ahead c.text)
+        → Rooted first (record_ahead ahead c.held) (drop 1 ahead) (option_map_or (λ (u : Undone). u.text) (slice_get ahead 0) c.text)
     anew [] k = record { begun = r.begun; marks = r.marks; fits = tt }
     anew (u ∷ ahead) k = record {
       begun = ap (root c.held) k.0 ∙ r.begun;
@@ -142,10 +144,9 @@ call_rooted MadeAnew first c r = anew c.ahead r.fits
     }
 
 calls_rooted : (calls : List RecordCall) (first : List ℕ) (c : RecordCourse) → Rooted first c.held c.ahead c.text
-    → Rooted first (after_calls calls c).held (after_calls calls c).ahead (after_calls calls c).text
-unfolding after_calls
+    → Rooted first (fold after_call c calls).held (fold after_call c calls).ahead (fold after_call c calls).text
 calls_rooted [] first c r = r
-calls_rooted (call ∷ calls) first c r = calls_rooted calls first (after_call call c) (call_rooted call first c r)
+calls_rooted (call ∷ calls) first c r = calls_rooted calls first (after_call c call) (call_rooted call first c r)
 
 start_rooted : (text : List ℕ) → Rooted text [] [] text
 unfolding MarksSit AheadFits

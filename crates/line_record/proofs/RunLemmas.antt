@@ -1,13 +1,13 @@
 -- The record of texts after several events, of the record alone or as a part of a listener.
 use Rattle.std.proofs.Common.{◌≡◌, ℕ, List, [], ◌∷◌, refl, sym, ap, subst, ◌∙◌, inl, inr, IsUtf8}
-use Rattle.line_buffer.specs.Event.{ChangeEvent}
+use Rattle.line_buffer.specs.Event.{ChangeEvent, text_after_event, text_after_events, Swaps, Replays, TakesAll, Reports, StopsAmong, wants_or}
 use Rattle.line_buffer.specs.Event.ChangeEvent.{StartKilling, StopKilling}
-use Rattle.line_buffer.specs.Replay.{text_after_event, text_after_events, Swaps, Replays, TakesAll, Reports, StopsAmong, wants_or}
-use Rattle.line_record.specs.Held.{HeldItem, Undone, record_after_event}
+use Rattle.line_record.specs.Held.{HeldItem, record_after_event}
 use Rattle.line_record.specs.Items.{Items, ItemsStand, record_on, ahead_on, ahead_after, RecordsEventIn, record_refuses}
-use Rattle.line_record.specs.RecordCourse.{record_after_events, ahead_all}
+use Rattle.line_record.specs.RecordCourse.{record_after_events}
 use Rattle.line_buffer.proofs.ReplayedLemmas.{replayed_all-none, replayed_all-first}
 use Rattle.line_record.proofs.Exchange.{exchanged}
+use Rattle.std.specs.List.{fold}
 
 pub recorded_all-nil : (text : List ℕ) (held : List HeldItem) → record_after_events [] text held ≡ held
 unfolding record_after_events
@@ -17,14 +17,6 @@ pub recorded_all-cons : (e : ChangeEvent) (es : List ChangeEvent) (text : List �
 unfolding record_after_events
 recorded_all-cons e es text held = refl
 
-pub ahead_all-nil : (ahead : List Undone) → ahead_all [] ahead ≡ ahead
-unfolding ahead_all
-ahead_all-nil ahead = refl
-
-pub ahead_all-cons : (e : ChangeEvent) (es : List ChangeEvent) (ahead : List Undone) → ahead_all (e ∷ es) ahead ≡ ahead_all es (ahead_after e ahead)
-unfolding ahead_all
-ahead_all-cons e es ahead = refl
-
 -- the text that an event leaves
 pub replayed_is : (e : ChangeEvent) (before after : List ℕ) → Replays e before after → after ≡ text_after_event e before
 replayed_is StartKilling before after r = r
@@ -33,7 +25,7 @@ replayed_is _ before after r = r.becomes
 
 swapped_utf8 : {at : ℕ} {from to before after : List ℕ} → IsUtf8 before → Swaps at from to before after → IsUtf8 after
 swapped_utf8 {at} {from} {to} {before} {after} u w =
-    subst IsUtf8 (sym w.becomes) (exchanged at from to before (record { start = w.start; end = w.end; bytes = w.stands; utf8 = w.text }) u).utf8
+    subst IsUtf8 (sym w.becomes) (exchanged at from to before w.stands u).utf8
 
 pub replayed_utf8 : (e : ChangeEvent) (before after : List ℕ) → IsUtf8 before → Replays e before after → IsUtf8 after
 replayed_utf8 StartKilling before after u r = subst IsUtf8 (sym r) u
@@ -44,7 +36,7 @@ replayed_utf8 _ before after u r = swapped_utf8 u r
 pub record RecordedAll (events : List ChangeEvent) (s t : Items) (before after : List ℕ) : Type 0 where
   pub stand : ItemsStand t after
   pub held : record_on t after ≡ record_after_events events before (record_on s before)
-  pub ahead : ahead_on t after ≡ ahead_all events (ahead_on s before)
+  pub ahead : ahead_on t after ≡ fold ahead_after (ahead_on s before) events
   pub text : after ≡ text_after_events events before
   pub utf8 : IsUtf8 after
 
@@ -55,7 +47,7 @@ module _ {S : Type 0} (takes : S → ChangeEvent → S → Type 0) (part : S →
   all_recorded [] s t before after told replays h u = record {
     stand = subst (λ x. ItemsStand (part x) after) (sym told) (subst (ItemsStand (part s)) (sym replays) h);
     held = ap (λ x. record_on (part x) after) told ∙ ap (record_on (part s)) replays ∙ sym (recorded_all-nil before (record_on (part s) before));
-    ahead = ap (λ x. ahead_on (part x) after) told ∙ ap (ahead_on (part s)) replays ∙ sym (ahead_all-nil (ahead_on (part s) before));
+    ahead = ap (λ x. ahead_on (part x) after) told ∙ ap (ahead_on (part s)) replays;
     text = replays ∙ sym (replayed_all-none before);
     utf8 = subst IsUtf8 (sym replays) u;
   }
@@ -67,7 +59,7 @@ module _ {S : Type 0} (takes : S → ChangeEvent → S → Type 0) (part : S →
         stand = rest.stand;
         held = rest.held ∙ ap (record_after_events es between) first.held ∙ ap (λ x. record_after_events es x (record_after_event e before (record_on (part s) before))) is
             ∙ sym (recorded_all-cons e es before (record_on (part s) before));
-        ahead = rest.ahead ∙ ap (ahead_all es) first.ahead ∙ sym (ahead_all-cons e es (ahead_on (part s) before));
+        ahead = rest.ahead ∙ ap (λ x. fold ahead_after x es) first.ahead;
         text = rest.text ∙ ap (text_after_events es) is ∙ sym (replayed_all-first e es before);
         utf8 = rest.utf8;
       }

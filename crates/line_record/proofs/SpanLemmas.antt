@@ -1,7 +1,12 @@
 -- Spans that adjoin: which of them stand, and what they stand for, where the list changes after them.
 use Rattle.std.proofs.Common.{◌≡◌, ℕ, zero, suc, ◌+◌, ◌-◌, ◌<◌, ◌≤◌, List, [], ◌∷◌, ◌++◌, length, take, drop, map, refl, sym, ap, ◌∙◌, arith, get_or, slice_range, subst}
 use Rattle.std.proofs.lemmas.List.{take-take, drop-take, take-map, length-take-le, map_push}
-use Rattle.line_record.specs.Logged.{Adjoin, place_of_span}
+use Rattle.line_record.specs.Log.{Adjoin}
+use Rattle.std.specs.Prelude.{unwrap_or, option_map, slice_get}
+
+-- where the span of an index begins; the end of all spans if there is none
+abbrev pub place_of_span : {S : Type 0} → (S → ℕ) → List S → ℕ → ℕ → ℕ
+place_of_span first spans n to = unwrap_or (option_map first (slice_get spans n)) to
 
 pub take_lower : {A : Type 0} (i j : ℕ) (xs ys : List A) → i ≤ j → take j xs ≡ take j ys → take i xs ≡ take i ys
 take_lower i j xs ys le e = sym (take-take i j xs le) ∙ ap (take i) e ∙ take-take i j ys le

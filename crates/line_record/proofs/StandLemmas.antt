@@ -1,9 +1,8 @@
 -- The record stands on the line's text after each edit, also after one that failed.
 use Rattle.std.proofs.Common.{◌≡◌, List, ℕ, sym, ap, subst, inl, inr, Result, Ok, Err, IsUtf8}
 use Rattle.line_buffer.specs.Edit.{Edit, EditsLine, CutsLine, ChangesLine}
-use Rattle.line_buffer.specs.Event.{ChangeEvent}
+use Rattle.line_buffer.specs.Event.{ChangeEvent, wants_or}
 use Rattle.line_buffer.specs.Line.{Line}
-use Rattle.line_buffer.specs.Replay.{wants_or}
 use Rattle.line_buffer.proofs.LeftLemmas.{stopped_wanting}
 use Rattle.line_record.specs.Items.{Items, ItemsStand, RecordsEventIn, record_refuses}
 use Rattle.line_record.proofs.RunLemmas.{told_stand, stopped_stand}

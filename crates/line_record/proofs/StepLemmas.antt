@@ -4,7 +4,26 @@ use Rattle.std.proofs.Math.Seq.{take-append_seam, drop-append_seam, take-suc}
 use Rattle.std.proofs.lemmas.List.{take-append-drop, drop-map, map-append, length-map, get_or-map}
 use Rattle.line_buffer.specs.Line.{Line}
 use Rattle.line_record.specs.Change.{Change, all_taken_back, all_made_anew, AllStandIn, AllFitIn, StandsIn, FitsIn}
-use Rattle.line_record.specs.Items.{lines_back, lines_ahead, line_after_undo, line_after_redo}
+use Rattle.line_record.specs.Held.{HeldItem, step_of, join_of_steps}
+use Rattle.line_record.specs.Items.{Items, lines_back, lines_ahead, line_after_undo, line_after_redo}
+use Rattle.line_record.specs.Items.Item.{Open}
+use Rattle.line_buffer.specs.Event.{ChangeEvent}
+use Rattle.std.specs.Prelude.{◌-◌, Option, unwrap_or}
+use Rattle.std.specs.Option.{option_map_or}
+
+-- the record of texts after an event of a change, and of one that may have none
+abbrev pub steps_with_change : ChangeEvent → Change → List ℕ → List HeldItem → List HeldItem
+steps_with_change e c text held = unwrap_or (join_of_steps e held) (step_of c text ∷ held)
+
+abbrev pub steps_with_change_if : ChangeEvent → Option Change → List ℕ → List HeldItem → List HeldItem
+steps_with_change_if e o text held = option_map_or (λ c. steps_with_change e c text held) o held
+
+-- a mark set, and the first items kept
+abbrev pub items_with_mark : Items → Items
+items_with_mark s = record { done = Open ∷ s.done; undone = [] }
+
+abbrev pub first_items : ℕ → Items → Items
+first_items n s = record { done = drop (length s.done - n) s.done; undone = [] }
 
 pub lines_back_text : (cs : List Change) (l : Line) → (lines_back cs l).text ≡ all_taken_back cs l.text
 lines_back_text [] l = refl

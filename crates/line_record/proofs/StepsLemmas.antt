@@ -9,14 +9,13 @@ use Rattle.line_record.specs.Change.{Change}
 use Rattle.line_buffer.specs.Event.{ChangeEvent}
 use Rattle.line_record.specs.Change.Change.{Inserted}
 use Rattle.line_record.specs.Held.{join_of, text_inserted_by}
-use Rattle.line_record.specs.Logged.{join_at, Adjoin, place_of_span}
+use Rattle.line_record.specs.Log.{join_at, Adjoin, items_in, AreSteps, item_from, item_inserted, is_open}
 use Rattle.line_record.specs.Items.{Item, changes_of, changes_of_all, group_of, join_of_items}
 use Rattle.line_record.specs.Items.Item.{Open, Lone}
-use Rattle.line_record.specs.LogSteps.{item_in, items_in, AreSteps, item_from, item_inserted, is_open}
 use Rattle.line_record.proofs.EndLemmas.{changes_of-item_from, group_pushed}
 use Rattle.line_record.proofs.LogLemmas.{joined_at_is}
 use Rattle.line_record.proofs.StoredLemmas.{before_last, inserted_last}
-use Rattle.line_record.proofs.SpanLemmas.{take_lower, slice_same, adjoin_le, adjoin_cut, adjoin_drop, adjoin_at, SpansAre, place_inside, spans_cut, span_pushed}
+use Rattle.line_record.proofs.SpanLemmas.{take_lower, slice_same, adjoin_le, adjoin_cut, adjoin_drop, adjoin_at, SpansAre, place_inside, spans_cut, span_pushed, place_of_span}
 
 abbrev first_of : Step → ℕ
 first_of s = s.first
@@ -26,6 +25,9 @@ last_of s = s.last
 
 abbrev Any : List Change → Step → Type 0
 Any edits s = ⊤
+
+abbrev pub item_in : List Change → Step → Item
+item_in edits s = item_from s.closed (slice_range edits s.first s.last)
 
 item_kept : (s : Step) (xs ys : List Change) → s.first ≤ s.last → take s.last xs ≡ take s.last ys → Any xs s → item_in ys s ≡ item_in xs s
 item_kept s xs ys le e h = ap (item_from s.closed) (sym (slice_same s.first s.last xs ys le e))

@@ -2,11 +2,12 @@
 use Rattle.std.proofs.Common.{◌≡◌, ℕ, zero, suc, ◌-◌, ◌<◌, Bool, true, false, List, [], ◌∷◌, ◌++◌, length, take, drop, refl, sym, ap, subst, ◌∙◌, arith, get_or}
 use Rattle.std.proofs.Math.Seq.{take-suc, take-length}
 use Rattle.line_record.specs.Change.{Change}
-use Rattle.line_record.specs.Held.{text_of, text_back, text_kept, first_held, text_inserted_by}
-use Rattle.line_record.specs.Items.{Item, before_item, item_with_text, items_with_texts, DoneStand, Items, ItemsStand, record_on, first_items}
+use Rattle.line_record.specs.Held.{text_of, text_back, text_inserted_by, HeldItem}
+use Rattle.line_record.specs.Items.{Item, before_item, item_with_text, items_with_texts, DoneStand, Items, ItemsStand, record_on}
 use Rattle.line_record.specs.Items.Item.{Open}
-use Rattle.line_record.specs.LogSteps.{item_from, item_inserted}
+use Rattle.line_record.specs.Log.{item_from, item_inserted}
 use Rattle.line_record.proofs.EndLemmas.{newest_of-append}
+use Rattle.line_record.proofs.StepLemmas.{first_items}
 
 pub before_last : {A : Type 0} (xs : List A) (d : A) → 0 < length xs → xs ≡ take (length xs - 1) xs ++ (get_or xs (length xs - 1) d ∷ [])
 before_last xs d h =
@@ -43,6 +44,13 @@ inserted_last true (c ∷ []) d = refl
 inserted_last false (c ∷ []) d = refl
 inserted_last true (c ∷ (e ∷ cs)) d = ap text_inserted_by (newest_of-append e d cs [])
 inserted_last false (c ∷ (e ∷ cs)) d = ap text_inserted_by (newest_of-append e d cs [])
+
+-- the first n items, and the last text that the last of them had
+abbrev pub first_held : ℕ → List HeldItem → List HeldItem
+first_held n held = drop (length held - n) held
+
+abbrev pub text_kept : ℕ → List HeldItem → List ℕ → List ℕ
+text_kept n held text = text_back (length held - n) held text
 
 pub truncated_held : (n : ℕ) (s : Items) (text : List ℕ) (t : Items) → t ≡ first_items n s → record_on t (text_kept n (record_on s text) text) ≡ first_held n (record_on s text)
 truncated_held n s text t e =

@@ -11,7 +11,7 @@ use Rattle.std.specs.List.{list_any}
 use Rattle.line_buffer.specs.Line.{Line}
 use Rattle.line_record.specs.Change.{Change, place_of, old_text_of, new_text_of, text_after_undo, text_after_redo, redo_place, StandsIn, all_taken_back, all_made_anew, AllStandIn, AllFitIn, newest_of}
 use Rattle.line_record.specs.Held.{HeldItem, is_step, line_before_item, line_back, has_step, ahead_back, line_ahead, record_ahead, Undone}
-use Rattle.line_record.specs.Items.{Item, Items, changes_of, before_item, after_item, item_with_text, items_with_texts, ahead_with_texts, DoneStand, UndoneFit, ItemsStand, record_on, ahead_on, line_after_undo, line_after_redo, lines_back, lines_ahead, nearest_changes, undo_some, redo_one, is_step_item, UndoesItems, last_changes, CutUndo, changes_of_all}
+use Rattle.line_record.specs.Items.{Item, Items, changes_of, before_item, after_item, item_with_text, items_with_texts, ahead_with_texts, DoneStand, UndoneFit, ItemsStand, record_on, ahead_on, line_after_undo, line_after_redo, lines_back, lines_ahead, nearest_changes, undo_some, is_step_item, UndoesItems, last_changes, CutUndo, changes_of_all}
 use Rattle.line_record.specs.Items.Item.{Open, Lone, Group}
 use Rattle.line_record.proofs.Exchange.{exchanged}
 use Rattle.line_record.proofs.StepLemmas.{lines_back_text, lines_ahead_text, lines_back_but_place}
@@ -251,6 +251,10 @@ undone_as n first last before after undone f h u = undone_by n first.done first.
 abbrev pub RedoneAs : Items → Items → Line → Line → Type 0
 RedoneAs first last before after =
     let ahead = ahead_on first before.text in Leads last after (line_ahead ahead before) (record_ahead ahead (record_on first before.text)) (drop 1 ahead)
+
+-- the nearest item undone moves back
+abbrev pub redo_one : List Item → List Item → Items
+redo_one done undone = record { done = take 1 undone ++ done; undone = drop 1 undone }
 
 redone_on : (done undone_items : List Item) (last : Items) (before after : Line) → last ≡ redo_one done undone_items → after ≡ lines_ahead (nearest_changes undone_items) before
     → ItemsStand (both done undone_items) before.text → IsUtf8 before.text → RedoneAs (both done undone_items) last before after

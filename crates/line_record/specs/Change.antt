@@ -1,6 +1,7 @@
 -- A change of a text, and how it is undone and redone.
-use Rattle.std.specs.Prelude.{◌≡◌, ℕ, ◌+◌, List, [], ◌∷◌, length, slice_range, IsUtf8, IsCharBoundary}
-use Rattle.std.specs.List.{replace_range}
+use Rattle.std.specs.Prelude.{ℕ, ◌+◌, List, [], ◌∷◌, length}
+use Rattle.std.specs.List.{replace_range, fold}
+use Rattle.line_buffer.specs.Event.{StandsAt}
 
 pub data Change : Type 0 where
   Inserted : (at : ℕ) (text : List ℕ) → Change
@@ -42,13 +43,6 @@ undo_place c = place_of c + length (old_text_of c)
 abbrev pub redo_place : Change → ℕ
 redo_place c = place_of c + length (new_text_of c)
 
--- a text is at a place, on character boundaries, and another may replace it
-pub record StandsAt (at : ℕ) (from to text : List ℕ) : Type 0 where
-  pub start : IsCharBoundary text at
-  pub end : IsCharBoundary text (at + length from)
-  pub bytes : slice_range text at (at + length from) ≡ from
-  pub utf8 : IsUtf8 to
-
 -- the change can be undone on the text
 abbrev pub StandsIn : Change → List ℕ → Type 0
 StandsIn c text = StandsAt (place_of c) (new_text_of c) (old_text_of c) text
@@ -68,14 +62,17 @@ AllStandIn (c ∷ cs) text = StandsIn c (all_taken_back cs text) × AllStandIn c
 
 -- the text after several changes
 abbrev pub all_made_anew : List Change → List ℕ → List ℕ
-all_made_anew [] text = text
-all_made_anew (c ∷ cs) text = all_made_anew cs (text_after_redo c text)
+all_made_anew cs text = fold (λ t c. text_after_redo c t) text cs
+
+-- P holds of each of several parts, on the text to which those before it lead
+abbrev pub AllAlong : {A : Type 0} → (A → List ℕ → Type 0) → (A → List ℕ → List ℕ) → List A
+    → List ℕ → Type 0
+AllAlong P lead [] text = Unit {0}
+AllAlong P lead (x ∷ xs) text = P x text × AllAlong P lead xs (lead x text)
 
 abbrev pub AllFitIn : List Change → List ℕ → Type 0
-AllFitIn [] text = Unit {0}
-AllFitIn (c ∷ cs) text = FitsIn c text × AllFitIn cs (text_after_redo c text)
+AllFitIn cs text = AllAlong FitsIn text_after_redo cs text
 
 -- the newest of several changes
 abbrev pub newest_of : Change → List Change → Change
-newest_of c [] = c
-newest_of c (d ∷ cs) = newest_of d cs
+newest_of c cs = fold (λ d newer. newer) c cs

@@ -1,5 +1,7 @@
 -- The record of texts: steps and open marks, the newest first, and the effect of each call on it.
-use Rattle.std.specs.Prelude.{ℕ, zero, suc, ◌+◌, ◌==◌, ◌&&◌, ◌||◌, not, Bool, true, false, if◌then◌else◌, List, [], ◌∷◌, ◌++◌, ◌-◌, drop, length, encode_utf8, Option, Some, None, option_map, unwrap_or}
+use Rattle.std.specs.Prelude.{ℕ, zero, suc, ◌+◌, ◌==◌, ◌&&◌, not, Bool, true, false, if◌then◌else◌, List, [], ◌∷◌, ◌++◌, take, length, encode_utf8, Option, Some, None, option_map, unwrap_or}
+use Rattle.std.specs.List.{fold, list_any}
+use Rattle.std.specs.Option.{option_map_or}
 use Rattle.unicode_segmentation.specs.Grapheme.{graphemes}
 use Rattle.unicode_segmentation.specs.Segments.{is_alphanumeric}
 use Rattle.line_buffer.specs.Event.{ChangeEvent}
@@ -58,23 +60,18 @@ join_of_steps e (Stepped text place d true ∷ held) =
     option_map (λ j. step_of j text ∷ held) (join_of e d)
 join_of_steps e held = None
 
-abbrev pub steps_with_change : ChangeEvent → Change → List ℕ → List HeldItem → List HeldItem
-steps_with_change e c text held = unwrap_or (join_of_steps e held) (step_of c text ∷ held)
-
-abbrev pub steps_with_change_if : ChangeEvent → Option Change → List ℕ → List HeldItem
-    → List HeldItem
-steps_with_change_if e None text held = held
-steps_with_change_if e (Some c) text held = steps_with_change e c text held
-
 -- the record after an event on the text
 abbrev pub record_after_event : ChangeEvent → List ℕ → List HeldItem → List HeldItem
-record_after_event e text held = steps_with_change_if e (change_of e) text held
+record_after_event e text held =
+    option_map_or (λ c. unwrap_or (join_of_steps e held) (step_of c text ∷ held)) (change_of e) held
+
+abbrev pub is_step : HeldItem → Bool
+is_step (Opened text) = false
+is_step (Stepped text place newest joinable) = true
 
 -- some mark is open
 abbrev pub has_mark : List HeldItem → Bool
-has_mark [] = false
-has_mark (Opened text ∷ held) = true
-has_mark (Stepped text place newest joinable ∷ held) = has_mark held
+has_mark held = list_any (λ h. not (is_step h)) held
 
 -- a step is newer than the oldest open mark
 abbrev pub closes : List HeldItem → Bool
@@ -102,31 +99,14 @@ abbrev pub line_before_item : HeldItem → Line → Line
 line_before_item (Opened text) l = record l { text = text }
 line_before_item (Stepped text place newest joinable) l = record l { text = text; place = place }
 
-abbrev pub is_step : HeldItem → Bool
-is_step (Opened text) = false
-is_step (Stepped text place newest joinable) = true
-
 abbrev pub line_back : ℕ → List HeldItem → Line → Line
-line_back zero held l = l
-line_back (suc n) [] l = l
-line_back (suc n) (h ∷ held) l = line_back n held (line_before_item h l)
+line_back n held l = fold (λ m h. line_before_item h m) l (take n held)
 
 abbrev pub text_back : ℕ → List HeldItem → List ℕ → List ℕ
-text_back zero held text = text
-text_back (suc n) [] text = text
-text_back (suc n) (h ∷ held) text = text_back n held (text_of h)
-
--- the first n items, and the last text that the last of them had
-abbrev pub first_held : ℕ → List HeldItem → List HeldItem
-first_held n held = drop (length held - n) held
-
-abbrev pub text_kept : ℕ → List HeldItem → List ℕ → List ℕ
-text_kept n held text = text_back (length held - n) held text
+text_back n held text = fold (λ t h. text_of h) text (take n held)
 
 abbrev pub has_step : ℕ → List HeldItem → Bool
-has_step zero held = false
-has_step (suc n) [] = false
-has_step (suc n) (h ∷ held) = is_step h || has_step n held
+has_step n held = list_any is_step (take n held)
 
 -- an undone item: as it was held, and the text after its redo
 pub record Undone : Type 0 where
@@ -147,10 +127,6 @@ place_ahead (Stepped text before newest joinable) place = redo_place newest
 abbrev pub line_ahead : List Undone → Line → Line
 line_ahead [] l = l
 line_ahead (u ∷ ahead) l = record l { text = u.text; place = place_ahead u.held l.place }
-
-abbrev pub has_step_ahead : List Undone → Bool
-has_step_ahead [] = false
-has_step_ahead (u ∷ ahead) = is_step u.held
 
 abbrev pub record_ahead : List Undone → List HeldItem → List HeldItem
 record_ahead [] held = held

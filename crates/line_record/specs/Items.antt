@@ -1,16 +1,16 @@
 -- The record's value: the changes done and undone, each side nearest first, and the texts that they
 -- stand for on a line's text. Also the effect of undo and redo on the record and its line.
-use Rattle.std.specs.Prelude.{◌≡◌, ◌<◌, ◌≤◌, ℕ, Bool, true, false, List, [], ◌∷◌, ◌++◌, drop, length, ◌-◌, Option, Some, None, is_some, option_map, unwrap_or, slice_get, IsUtf8, take, reverse, flat_map, Result, IfOk, OnOk, OnErr}
-use Rattle.line_buffer.specs.Event.{ChangeEvent}
+use Rattle.std.specs.Prelude.{◌≡◌, ◌<◌, ◌≤◌, ℕ, Bool, true, false, List, [], ◌∷◌, ◌++◌, drop, length, Option, None, is_some, option_map, unwrap_or, slice_get, IsUtf8, take, reverse, flat_map, Result, IfOk, OnOk, OnErr}
+use Rattle.line_buffer.specs.Event.{ChangeEvent, Replays}
 use Rattle.line_buffer.specs.Event.ChangeEvent.{StartKilling, StopKilling}
 use Rattle.line_buffer.specs.Line.{Line}
-use Rattle.line_buffer.specs.Replay.{Replays}
-use Rattle.line_record.specs.Change.{Change, undo_place, redo_place, text_after_undo, text_after_redo, all_taken_back, AllStandIn, all_made_anew, AllFitIn, newest_of, StandsAt}
+use Rattle.line_record.specs.Change.{Change, undo_place, redo_place, text_after_undo, text_after_redo, all_taken_back, AllStandIn, all_made_anew, AllFitIn, newest_of, AllAlong, FitsIn}
 use Rattle.line_record.specs.Held.{HeldItem, Undone, step_of, change_of, join_of, record_after_event, record_after_close, closes}
 use Rattle.line_record.specs.Held.HeldItem.{Opened, Stepped}
 use Rattle.std.specs.Coded.{Unit-prop, ×_prop}
 use Rattle.std.proofs.Props.{props}
-use Rattle.std.specs.List.{list_any}
+use Rattle.std.specs.List.{list_any, fold}
+use Rattle.std.specs.Option.{option_map_or}
 
 -- an open mark, a change to which others may be joined, or a closed group with its oldest change
 -- and the newer ones in order
@@ -51,8 +51,7 @@ lines_back (c ∷ cs) l = line_after_undo c (lines_back cs l)
 
 -- the line after the redo of several changes, the oldest first
 abbrev pub lines_ahead : List Change → Line → Line
-lines_ahead [] l = l
-lines_ahead (c ∷ cs) l = lines_ahead cs (line_after_redo c l)
+lines_ahead cs l = fold (λ m c. line_after_redo c m) l cs
 
 -- an item, with the text before it
 abbrev pub item_with_text : Item → List ℕ → HeldItem
@@ -72,12 +71,10 @@ ahead_with_texts (x ∷ items) text =
     ∷ ahead_with_texts items (after_item x text)
 
 abbrev pub DoneStand : List Item → List ℕ → Type 0
-DoneStand [] text = Unit {0}
-DoneStand (x ∷ items) text = AllStandIn (changes_of x) text × DoneStand items (before_item x text)
+DoneStand items text = AllAlong (λ x. AllStandIn (changes_of x)) before_item items text
 
 abbrev pub UndoneFit : List Item → List ℕ → Type 0
-UndoneFit [] text = Unit {0}
-UndoneFit (x ∷ items) text = AllFitIn (changes_of x) text × UndoneFit items (after_item x text)
+UndoneFit items text = AllAlong (λ x. AllFitIn (changes_of x)) after_item items text
 
 -- the changes done can be undone on the text, and those undone can be redone on it
 abbrev pub ItemsStand : Items → List ℕ → Type 0
@@ -90,10 +87,6 @@ record_on s text = items_with_texts s.done text
 -- what can be redone, on the line's text
 abbrev pub ahead_on : Items → List ℕ → List Undone
 ahead_on s text = ahead_with_texts s.undone text
-
--- a mark set
-abbrev pub items_with_mark : Items → Items
-items_with_mark s = record { done = Open ∷ s.done; undone = [] }
 
 -- the changes of several items, the oldest item first
 abbrev pub changes_of_all : List Item → List Change
@@ -110,17 +103,9 @@ pub record EndedBy (closed : Bool) (items after : List Item) (text : List ℕ) :
   pub held : items_with_texts after text ≡ record_after_close (items_with_texts items text)
   pub stand : DoneStand items text → DoneStand after text
 
--- the first items kept
-abbrev pub first_items : ℕ → Items → Items
-first_items n s = record { done = drop (length s.done - n) s.done; undone = [] }
-
 -- the nearest n items done move to the undone
 abbrev pub undo_some : ℕ → List Item → List Item → Items
 undo_some n done undone = record { done = drop n done; undone = reverse (take n done) ++ undone }
-
--- the nearest item undone moves back
-abbrev pub redo_one : List Item → List Item → Items
-redo_one done undone = record { done = take 1 undone ++ done; undone = drop 1 undone }
 
 abbrev pub is_step_item : Item → Bool
 is_step_item Open = false
@@ -128,71 +113,59 @@ is_step_item x = true
 
 -- the changes of the nearest item, if there is one
 abbrev pub nearest_changes : List Item → List Change
-nearest_changes [] = []
-nearest_changes (x ∷ items) = changes_of x
+nearest_changes items = option_map_or changes_of (slice_get items 0) []
 
 -- the items with an event's change joined to the nearest one, if the two can be joined
 abbrev pub join_of_items : ChangeEvent → List Item → Option (List Item)
 join_of_items e (Lone d ∷ items) = option_map (λ j. Lone j ∷ items) (join_of e d)
 join_of_items e items = None
 
--- a change noted after the items done
-abbrev pub items_with_change : ChangeEvent → Change → List Item → List Item
-items_with_change e c items = unwrap_or (join_of_items e items) (Lone c ∷ items)
-
-abbrev pub items_with_change_if : ChangeEvent → Option Change → List Item → List Item
-items_with_change_if e None items = items
-items_with_change_if e (Some c) items = items_with_change e c items
+-- an event's change noted after the items done, if it isn't empty
+abbrev pub items_with_event : ChangeEvent → List Item → List Item
+items_with_event e items =
+    option_map_or (λ c. unwrap_or (join_of_items e items) (Lone c ∷ items)) (change_of e) items
 
 -- a recorded event: the undone changes can't be redone any more
 abbrev pub items_after_event : ChangeEvent → Items → Items
-items_after_event e s = record { done = items_with_change_if e (change_of e) s.done; undone = [] }
+items_after_event e s = record { done = items_with_event e s.done; undone = [] }
 
 -- recording a change that isn't empty may fail, and the record stays as it was
 abbrev pub record_refuses : Items → ChangeEvent → Items → Type 0
 record_refuses s e t = (t ≡ s) × (is_some (change_of e) ≡ true)
 
-abbrev pub ahead_after : ChangeEvent → List Undone → List Undone
-ahead_after StartKilling ahead = ahead
-ahead_after StopKilling ahead = ahead
-ahead_after e ahead = []
+abbrev pub ahead_after : List Undone → ChangeEvent → List Undone
+ahead_after ahead StartKilling = ahead
+ahead_after ahead StopKilling = ahead
+ahead_after ahead e = []
 
 -- the effect of an event on the record: if its changes can be undone and redone, they still can be
 -- after it, and the record of texts follows
 pub record RecordsEvent (e : ChangeEvent) (before after : List ℕ) (s t : Items) : Type 0 where
   pub stand : ItemsStand t after
   pub held : record_on t after ≡ record_after_event e before (record_on s before)
-  pub ahead : ahead_on t after ≡ ahead_after e (ahead_on s before)
+  pub ahead : ahead_on t after ≡ ahead_after (ahead_on s before) e
 
 pub record RecordsEventIn (s : Items) (e : ChangeEvent) (t : Items) : Type 0 where
   pub on : (before after : List ℕ) → ItemsStand s before → IsUtf8 before → Replays e before after
       → RecordsEvent e before after s t
 
-StandsAt-prop : (at : ℕ) (from to text : List ℕ) → IsProp (StandsAt at from to text)
-StandsAt-prop at from to text = Prim.hlevel props
-
 AllStandIn-prop : (cs : List Change) (text : List ℕ) → IsProp (AllStandIn cs text)
 AllStandIn-prop [] text = Unit-prop
-AllStandIn-prop (c ∷ cs) text =
-    ×_prop (StandsAt-prop _ _ _ (all_taken_back cs text)) (AllStandIn-prop cs text)
+AllStandIn-prop (c ∷ cs) text = ×_prop (Prim.hlevel props) (AllStandIn-prop cs text)
+
+AllAlong-prop : {A : Type 0} (P : A → List ℕ → Type 0) (lead : A → List ℕ → List ℕ)
+    → ((x : A) (text : List ℕ) → IsProp (P x text)) → (xs : List A) (text : List ℕ)
+    → IsProp (AllAlong P lead xs text)
+AllAlong-prop P lead p [] text = Unit-prop
+AllAlong-prop P lead p (x ∷ xs) text = ×_prop (p x text) (AllAlong-prop P lead p xs (lead x text))
 
 AllFitIn-prop : (cs : List Change) (text : List ℕ) → IsProp (AllFitIn cs text)
-AllFitIn-prop [] text = Unit-prop
-AllFitIn-prop (c ∷ cs) text =
-    ×_prop (StandsAt-prop _ _ _ text) (AllFitIn-prop cs (text_after_redo c text))
-
-DoneStand-prop : (items : List Item) (text : List ℕ) → IsProp (DoneStand items text)
-DoneStand-prop [] text = Unit-prop
-DoneStand-prop (x ∷ items) text =
-    ×_prop (AllStandIn-prop (changes_of x) text) (DoneStand-prop items (before_item x text))
-
-UndoneFit-prop : (items : List Item) (text : List ℕ) → IsProp (UndoneFit items text)
-UndoneFit-prop [] text = Unit-prop
-UndoneFit-prop (x ∷ items) text =
-    ×_prop (AllFitIn-prop (changes_of x) text) (UndoneFit-prop items (after_item x text))
+AllFitIn-prop cs text = AllAlong-prop FitsIn text_after_redo (λ c t. Prim.hlevel props) cs text
 
 pub ItemsStand-prop : (s : Items) (text : List ℕ) → IsProp (ItemsStand s text)
-ItemsStand-prop s text = ×_prop (DoneStand-prop s.done text) (UndoneFit-prop s.undone text)
+ItemsStand-prop s text = ×_prop
+    (AllAlong-prop _ before_item (λ x. AllStandIn-prop (changes_of x)) s.done text)
+    (AllAlong-prop _ after_item (λ x. AllFitIn-prop (changes_of x)) s.undone text)
 
 -- the newest of several changes were undone; at least one, the first, was not
 pub record CutUndo (changes : List Change) (before after : Line) : Type 0 where
@@ -234,5 +207,6 @@ pub record UndoesItems {E : Type 0} (n : ℕ) (old new : Items) (before after : 
 pub record RedoesItem {E : Type 0} (old new : Items) (before after : Line)
     (result : Result (Option Bool) E) : Type 0 where
   pub answer : IfOk result (λ o. o ≡ option_map is_step_item (slice_get old.undone 0))
-  pub items : OnOk result (new ≡ redo_one old.done old.undone)
+  pub items : OnOk result
+      (new ≡ record { done = take 1 old.undone ++ old.done; undone = drop 1 old.undone })
   pub anew : MakesAnew (nearest_changes old.undone) before after result

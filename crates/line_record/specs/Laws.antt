@@ -1,6 +1,6 @@
 -- Laws of the record and of the kill ring.
-use Rattle.std.specs.Prelude.{◌≡◌, ℕ, ◌<◌, ◌≢◌, Bool, true, false, List, [], ◌∷◌, length, take, Some, slice_get, is_some, ◌||◌, IsUtf8, IsCharBoundary}
-use Rattle.std.specs.List.{AllByRecursion}
+use Rattle.std.specs.Prelude.{◌≡◌, ℕ, ◌<◌, ◌≢◌, Bool, true, false, List, [], ◌∷◌, length, take, Some, slice_get, is_some, ◌||◌, IsUtf8, IsCharBoundary, suc, drop, reverse, ◌++◌}
+use Rattle.std.specs.List.{AllByRecursion, fold}
 use Rattle.line_buffer.specs.Line.{Line}
 use Rattle.line_buffer.specs.Insertions.{yank}
 use Rattle.line_buffer.specs.Range.{range_of, kill_events, kill}
@@ -10,21 +10,21 @@ use Rattle.line_record.specs.declared.kill_ring.Action.TheVariants.{Kill}
 use Rattle.line_record.specs.Held.{HeldItem, Undone, text_back, record_after_close, closes, has_mark, line_back, line_ahead, ahead_back, record_ahead}
 use Rattle.line_record.specs.Held.HeldItem.{Opened}
 use Rattle.line_record.specs.Items.{Item, Items, ItemsStand, record_on, after_item}
-use Rattle.line_record.specs.RecordCourse.{RecordCall, RecordCourse, new_course, after_call, after_calls, IsAmong}
+use Rattle.line_record.specs.RecordCourse.{RecordCall, RecordCourse, new_course, after_call, IsAmong}
 use Rattle.line_record.specs.RecordCourse.RecordCall.{Told, Begun, Ended, TakenBack}
-use Rattle.line_record.specs.Ring.{RingCall, no_kills, all_kills_after, ring_after_all, newest_first, Ring, IsRing, new_ring, ring_all}
+use Rattle.line_record.specs.Ring.{RingCall, no_kills, Ring, IsRing, new_ring, ring_all, kills_after, ring_after}
 
 -- whatever is done to a line with a new record, an undo leaves a text that the line had before
 abbrev pub UndoLeavesAnEarlierText : Type 0
 UndoLeavesAnEarlierText = (calls : List RecordCall) (text : List ℕ) (n : ℕ) →
-    let c = after_calls calls (new_course text) in
+    let c = fold after_call (new_course text) calls in
     IsAmong (text_back n c.held c.text) c.seen
 
 -- undoing everything restores the text that the line had when its record was new; so a record
 -- without items is on that text
 abbrev pub UndoOfAllGivesTheFirstText : Type 0
 UndoOfAllGivesTheFirstText = (calls : List RecordCall) (text : List ℕ) →
-    let c = after_calls calls (new_course text) in
+    let c = fold after_call (new_course text) calls in
     text_back (length c.held) c.held c.text ≡ text
 
 -- the text after all items, made on a text
@@ -53,8 +53,8 @@ stays_open call = false
 abbrev pub UndoTakesTheGroupBack : Type 0
 UndoTakesTheGroupBack = (c : RecordCourse) (calls : List RecordCall) → has_mark c.held ≡ false →
     AllByRecursion (λ call. stays_open call ≡ true) calls →
-    let inside = after_calls calls (after_call Begun c) in
-    let undone = after_call (TakenBack 1) (after_call Ended inside) in
+    let inside = fold after_call (after_call c Begun) calls in
+    let undone = after_call (after_call inside Ended) (TakenBack 1) in
     closes inside.held ≡ true → (undone.text ≡ c.text) × (undone.held ≡ c.held)
 
 -- redoing what was undone last restores the text and the record from before
@@ -75,15 +75,9 @@ is_directed (ForwardWord n at word) = true
 is_directed (ViCharSearch n search) = true
 is_directed movement = false
 
--- a line and a ring after kills
-abbrev pub line_killed : List Movement → Line → Line
-line_killed [] l = l
-line_killed (m ∷ movements) l = line_killed movements (kill m l).line
-
-abbrev pub ring_killed : List Movement → Line → Ring → Ring
-ring_killed [] l r = r
-ring_killed (m ∷ movements) l r =
-    ring_killed movements (kill m l).line (ring_all (kill_events m l) r)
+-- a line and a ring after a kill
+abbrev pub after_kill : Line × Ring → Movement → Line × Ring
+after_kill s m = ((kill m s.0).line, ring_all (kill_events m s.0) s.1)
 
 -- one of the kills deletes something
 abbrev pub some_taken : List Movement → Line → Bool
@@ -96,14 +90,15 @@ KillsComeBack = (movements : List Movement) (l : Line) (r : Ring) →
     AllByRecursion (λ m. is_directed m ≡ true) movements → some_taken movements l ≡ true →
     IsUtf8 l.text → IsCharBoundary l.text l.place → l.growth ≡ true →
     IsRing (length r.slots) r.size r.place r.last → 0 < r.size → r.last ≢ Kill →
-    let q = ring_killed movements l r in
-    (text : List ℕ) × (slice_get q.slots q.place ≡ Some text)
-    × ((yank text 1 (line_killed movements l)).line.text ≡ l.text)
+    let killed = fold after_kill (l, r) movements in
+    (text : List ℕ) × (slice_get killed.1.slots killed.1.place ≡ Some text)
+    × ((yank text 1 killed.0).line.text ≡ l.text)
 
--- a new ring that is never turned holds the last runs of kills, as many as it has slots, and lends
--- the newest
+-- a new ring that is never turned holds the last runs of kills, as many as it has slots, from its
+-- current slot back and round to the slot after it, and lends the newest
 abbrev pub RingHoldsTheLastRuns : Type 0
 RingHoldsTheLastRuns = (size : ℕ) (calls : List RingCall) → 0 < size →
-    let r = ring_after_all calls (new_ring size) in
-    let runs = (all_kills_after calls no_kills).runs in
-    (newest_first r ≡ take size runs) × (slice_get r.slots r.place ≡ slice_get runs 0)
+    let r = fold ring_after (new_ring size) calls in
+    let runs = (fold kills_after no_kills calls).runs in
+    let texts = reverse (take (suc r.place) r.slots) ++ reverse (drop (suc r.place) r.slots) in
+    (texts ≡ take size runs) × (slice_get r.slots r.place ≡ slice_get runs 0)

@@ -1,11 +1,9 @@
 pub mod Change
 pub mod RecordCourse
-pub mod Gap
 pub mod Held
 pub mod Items
 pub mod Laws
-pub mod Logged
+pub mod Log
 pub mod Ring
 pub mod RingLends
-pub mod LogSteps
 pub mod Together

@@ -1,7 +1,6 @@
 -- A kill ring: slots of killed texts, the place of the slot that a yank returns, and the last
--- action. And the kills that were reported to it: a list of runs, the newest first, which has no
--- slots.
-use Rattle.std.specs.Prelude.{◌≡◌, ℕ, ◌+◌, ◌-◌, ◌==◌, ◌<◌, ◌≤◌, Bool, true, false, List, [], ◌∷◌, ◌++◌, length, if◌then◌else◌, nat_lt, Option, Some, None, is_some, slice_set, slice_index_or, suc, take, drop, reverse}
+-- action. And the kills that were reported to it: a list of runs, the newest first, without slots.
+use Rattle.std.specs.Prelude.{◌≡◌, ℕ, ◌+◌, ◌-◌, ◌==◌, ◌<◌, ◌≤◌, Bool, true, false, List, [], ◌∷◌, ◌++◌, length, if◌then◌else◌, nat_lt, Option, Some, None, is_some, slice_set, slice_index_or}
 use Rattle.std.specs.List.{fold}
 use Rattle.line_buffer.specs.Event.{ChangeEvent}
 use Rattle.line_buffer.specs.Event.ChangeEvent.{StartKilling, StopKilling, Delete}
@@ -48,16 +47,13 @@ abbrev pub slots_with_text : ℕ → List ℕ → List (List ℕ) → List (List
 slots_with_text place text slots =
     if nat_lt place (length slots) then slice_set slots place text else slots ++ text ∷ []
 
-abbrev pub ring_with_new_kill : List ℕ → Ring → Ring
-ring_with_new_kill text r =
-    let next = slot_after (length r.slots) r.size r.place in
-    record r { slots = slots_with_text next text r.slots; place = next; last = Kill }
-
 abbrev pub ring_with_kill_after : Action → List ℕ → Mode → Ring → Ring
 ring_with_kill_after Kill text mode r =
     let joined = joined_text mode text (slice_index_or r.slots r.place []) in
     record r { slots = slice_set r.slots r.place joined }
-ring_with_kill_after last text mode r = ring_with_new_kill text r
+ring_with_kill_after last text mode r =
+    let next = slot_after (length r.slots) r.size r.place in
+    record r { slots = slots_with_text next text r.slots; place = next; last = Kill }
 
 -- a kill after a kill is joined to the text of its slot, any other takes the next slot; a ring
 -- without slots keeps nothing
@@ -139,33 +135,18 @@ run_with running text mode runs = text ∷ runs
 abbrev pub kill_taken : List ℕ → Mode → Kills → Kills
 kill_taken text mode k = record k { runs = run_with k.running text mode k.runs; running = true }
 
-abbrev pub kills_heard : ChangeEvent → Kills → Kills
-kills_heard StartKilling k = record k { killing = true }
-kills_heard StopKilling k = record k { killing = false }
-kills_heard (Delete at text direction) k =
+abbrev pub kills_after : Kills → RingCall → Kills
+kills_after k (Taken text mode) = kill_taken text mode k
+kills_after k (Heard StartKilling) = record k { killing = true }
+kills_after k (Heard StopKilling) = record k { killing = false }
+kills_after k (Heard (Delete at text direction)) =
     if k.killing then kill_taken text (mode_of direction) k else k
-kills_heard e k = k
+kills_after k (Heard e) = k
+kills_after k call = record k { running = false }
 
-abbrev pub kills_after : RingCall → Kills → Kills
-kills_after (Taken text mode) k = kill_taken text mode k
-kills_after (Heard e) k = kills_heard e k
-kills_after call k = record k { running = false }
-
-unfoldable pub all_kills_after : List RingCall → Kills → Kills
-all_kills_after [] k = k
-all_kills_after (call ∷ calls) k = all_kills_after calls (kills_after call k)
-
--- the effect of the same calls on a ring
-abbrev pub ring_after : RingCall → Ring → Ring
-ring_after (Taken text mode) r = ring_with_kill text mode r
-ring_after (Heard e) r = ring_step e r
-ring_after Ended r = record r { last = Other }
-ring_after Lent r = ring_after_yank r
-
-unfoldable pub ring_after_all : List RingCall → Ring → Ring
-ring_after_all [] r = r
-ring_after_all (call ∷ calls) r = ring_after_all calls (ring_after call r)
-
--- the texts of a ring from its current slot back, and round to the slot after it
-abbrev pub newest_first : Ring → List (List ℕ)
-newest_first r = reverse (take (suc r.place) r.slots) ++ reverse (drop (suc r.place) r.slots)
+-- the effect of the same call on a ring
+abbrev pub ring_after : Ring → RingCall → Ring
+ring_after r (Taken text mode) = ring_with_kill text mode r
+ring_after r (Heard e) = ring_step e r
+ring_after r Ended = record r { last = Other }
+ring_after r Lent = ring_after_yank r

@@ -1,11 +1,11 @@
 -- Two listeners that are notified in turn: the effect of an event on both, and of an error of one.
 use Rattle.std.specs.Prelude.{◌≡◌, ◌⊎◌, ℕ, List, IsUtf8}
-use Rattle.line_buffer.specs.Event.{ChangeEvent}
-use Rattle.line_buffer.specs.Replay.{StopsAmong, wants_or}
+use Rattle.line_buffer.specs.Event.{ChangeEvent, StopsAmong, wants_or}
 use Rattle.line_record.specs.declared.joined.Joined.{Joined}
-use Rattle.line_record.specs.Items.{Items, ItemsStand, RecordsEventIn, record_refuses, record_on, ahead_on}
-use Rattle.line_record.specs.RecordCourse.{record_after_events, ahead_all}
+use Rattle.line_record.specs.Items.{Items, ItemsStand, RecordsEventIn, record_refuses, record_on, ahead_on, ahead_after}
+use Rattle.line_record.specs.RecordCourse.{record_after_events}
 use Rattle.std.specs.Borrow.{MutBor}
+use Rattle.std.specs.List.{fold}
 
 pub record SameNames {A B : Type 0} (first : MutBor A) (second : MutBor B) (first_after : MutBor A)
     (second_after : MutBor B) : Type 0 where
@@ -37,7 +37,7 @@ pub record HoldsWhatWasMade {S : Type 0} {takes refuses : S → ChangeEvent → 
         ≡ record_after_events closing after
         (record_after_events call.done before (record_on (part s) before))
     pub ahead : ahead_on (part t) after
-        ≡ ahead_all closing (ahead_all call.done (ahead_on (part s) before))
+        ≡ fold ahead_after (fold ahead_after (ahead_on (part s) before) call.done) closing
 
 abbrev pub RefusalsLeaveNoUnmadeChange : {A : Type 0} → (A → ChangeEvent → A → Type 0)
     → (A → ChangeEvent → A → Type 0) → Type 0

@@ -21,7 +21,7 @@ impl Model for Changeset {
 
     ghost Value = { Items };
 
-    ghost use Rattle.line_record.specs.LogSteps.{record_of, IsRecord};
+    ghost use Rattle.line_record.specs.Log.{record_of, IsRecord};
 
     ghost view = { λ c. record_of c.steps c.done };
 
@@ -29,12 +29,12 @@ impl Model for Changeset {
 }
 
 impl Changeset {
-    ghost use Rattle.std.specs.Prelude.{◌≡◌, ◌-◌, ℕ, true, [], List, length, drop, is_some, IfOk, IsOkAnd, OnOk, OnErr, option_map, option_copied, string_bytes};
+    ghost use Rattle.std.specs.Prelude.{◌≡◌, ◌-◌, ℕ, true, [], ◌∷◌, List, length, drop, is_some, IfOk, IsOkAnd, OnOk, OnErr, option_map, option_copied, string_bytes};
     ghost use Rattle.line_buffer.specs.Event.ChangeEvent.{InsertChar, InsertStr, Delete, Replace};
     ghost use Rattle.line_buffer.specs.declared.types.Direction.TheVariants.{Forward};
-    ghost use Rattle.line_record.specs.Held.{record_after_close, closes, last_inserted, first_held, text_kept};
-    ghost use Rattle.line_record.specs.Items.{no_items, items_with_mark, first_items, items_after_event, ItemsStand, RecordsEventIn, record_refuses, record_on};
-    ghost use Rattle.line_record.specs.LogSteps.{event_of};
+    ghost use Rattle.line_record.specs.Held.{record_after_close, closes, last_inserted, text_back};
+    ghost use Rattle.line_record.specs.Items.{no_items, Open, items_after_event, ItemsStand, RecordsEventIn, record_refuses, record_on};
+    ghost use Rattle.line_record.specs.Log.{event_of};
 
     /// An empty record. It allocates nothing yet and never fails. It returns a `Result` like
     /// rustyline's other constructors of the editor's parts, which may all run out of memory.
@@ -63,7 +63,7 @@ impl Changeset {
     /// marks.
     pub fn begin(&mut self, alloc: Global) -> Result<usize, OutOfMemory>
         ensures answer { IfOk result (λ n. (text : List ℕ) → n ≡ length (record_on self.old text)) }
-        ensures value { OnOk result (self.new ≡ items_with_mark self.old) }
+        ensures value { OnOk result (self.new ≡ record { done = Open ∷ self.old.done; undone = [] }) }
         ensures kept { OnErr result (self.new ≡ self.old) }
     {
         let before = self.done;
@@ -90,12 +90,14 @@ impl Changeset {
 
     /// Keeps the first `n` items: steps and open marks.
     pub fn truncate(&mut self, n: usize)
-        ensures value { self.new ≡ first_items n self.old }
-        ensures held { (text : List ℕ) → record_on self.new
-            (text_kept n (record_on self.old text) text)
-            ≡ first_held n (record_on self.old text) }
-        ensures stand { (text : List ℕ) → ItemsStand self.old text → ItemsStand self.new
-            (text_kept n (record_on self.old text) text) }
+        ensures value { self.new
+            ≡ record { done = drop (length self.old.done - n) self.old.done; undone = [] } }
+        ensures held { (text : List ℕ) → let held = record_on self.old text in
+            record_on self.new (text_back (length held - n) held text)
+            ≡ drop (length held - n) held }
+        ensures stand { (text : List ℕ) → ItemsStand self.old text →
+            let held = record_on self.old text in
+            ItemsStand self.new (text_back (length held - n) held text) }
     {
         let kept = n.min(self.done);
         self.steps.truncate(kept);
@@ -201,9 +203,9 @@ impl Changeset {
     }
 }
 
-ghost use Rattle.std.specs.Prelude.{◌≡◌, ℕ, List, take, reverse, None};
+ghost use Rattle.std.specs.Prelude.{◌≡◌, ℕ, List, take, reverse, None, Some, unwrap_or, if◌then◌else◌};
 ghost use Rattle.line_record.specs.Items.{EndedBy};
-ghost use Rattle.line_record.specs.LogSteps as marked;
+ghost use Rattle.line_record.specs.Log as marked;
 
 /// Closes the open marks of the first `done` steps; `mark` is the oldest of them. Returns false if
 /// nothing was recorded since.
@@ -224,7 +226,7 @@ fn close(steps: &mut Steps, done: usize, mark: Option<usize>) -> bool
 
 /// The oldest mark after one more item, which has `before` items before it.
 pub(crate) fn mark_with(mark: Option<usize>, is_mark: bool, before: usize) -> Option<usize>
-    ensures { result ≡ marked.mark_with mark is_mark before }
+    ensures { result ≡ (if is_mark then Some (unwrap_or mark before) else mark) }
 {
     if is_mark { mark.or(Some(before)) } else { mark }
 }

@@ -6,8 +6,9 @@ use std::alloc::Global;
 /// A line in which one text can be replaced by another. `value` is that line.
 pub trait EditedLine {
     ghost use Rattle.std.specs.Prelude.{◌≡◌, ◌+◌, length, OnOk, OnErr};
+    ghost use Rattle.line_buffer.specs.Event.{StandsAt};
     ghost use Rattle.line_buffer.specs.Line.{Line};
-    ghost use Rattle.line_record.specs.Change.{StandsAt, text_with_exchange};
+    ghost use Rattle.line_record.specs.Change.{text_with_exchange};
 
     ghost value: { Self → Line };
 

@@ -30,8 +30,7 @@ impl LoggedChange {
     ghost use Rattle.line_record.specs.Change.{old_text_of, new_text_of, StandsIn, FitsIn};
     ghost use Rattle.line_record.specs.Held.{join_of, text_inserted_by};
     ghost use Rattle.line_record.specs.Items.{line_after_undo, line_after_redo};
-    ghost use Rattle.line_record.specs.Logged.{edit_from, edit_in, Spelt, change_told, change_with_text};
-    ghost use Rattle.line_record.specs.LogSteps.{event_of};
+    ghost use Rattle.line_record.specs.Log.{edit_from, edit_in, Spelt, change_told, change_with_text, event_of};
 
     /// Where more of the old text is added: before it, or after it.
     pub fn seam(&self, before: bool) -> usize
@@ -140,7 +139,7 @@ impl LoggedChange {
 
 ghost use Rattle.std.specs.Prelude.{◌≡◌, ◌+◌, ◌==◌, All};
 ghost use Rattle.line_record.specs.Change.{AllStandIn, AllFitIn};
-ghost use Rattle.line_record.specs.Logged.{edits_in, Spelt};
+ghost use Rattle.line_record.specs.Log.{edits_in, Spelt};
 ghost use Rattle.line_record.specs.Items.{TakesBack, MakesAnew};
 
 /// Whether a place is `length` bytes after another.

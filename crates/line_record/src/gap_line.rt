@@ -17,30 +17,28 @@ pub struct GapLine {
 }
 
 impl Model for GapLine {
-    ghost use Rattle.std.specs.Prelude.{false, IsUtf8, IsCharBoundary};
+    ghost use Rattle.std.specs.Prelude.{◌++◌, false, reverse, IsUtf8, IsCharBoundary};
     ghost use Rattle.line_buffer.specs.Line.{Line};
-    ghost use Rattle.line_record.specs.Gap.{text_around_gap};
 
     ghost Value = { Line };
 
     ghost view = { λ g. record {
-      text = text_around_gap g.before.items g.after.items;
+      text = g.before.items ++ reverse g.after.items;
       place = g.pos;
       growth = false;
       limit = 0;
     } };
 
-    ghost invariant = { λ g. IsUtf8 (text_around_gap g.before.items g.after.items)
-        × IsCharBoundary (text_around_gap g.before.items g.after.items) g.pos };
+    ghost invariant = { λ g. IsUtf8 (g.before.items ++ reverse g.after.items)
+        × IsCharBoundary (g.before.items ++ reverse g.after.items) g.pos };
 }
 
 impl GapLine {
-    ghost use Rattle.std.specs.Prelude.{◌≡◌, IfOk, OnOk, OnErr};
-    ghost use Rattle.line_record.specs.Gap.{without_limits, with_text_of};
+    ghost use Rattle.std.specs.Prelude.{◌≡◌, false, IfOk, OnOk, OnErr};
 
     /// The text and cursor of a line, with the gap after the text.
     pub fn new(alloc: Global, line: &LineBuffer) -> Result<Self, OutOfMemory>
-        ensures { IfOk result (λ g. g ≡ without_limits line.now) }
+        ensures { IfOk result (λ g. g ≡ record line.now { growth = false; limit = 0 }) }
     {
         let text = line.as_str();
         let mut before = Vec::with_capacity(alloc, text.len())?;
@@ -54,7 +52,7 @@ impl GapLine {
 
     /// Replaces a line's text and cursor by these.
     pub fn write(self, alloc: Global, line: &mut LineBuffer) -> Result<(), OutOfMemory>
-        ensures line { OnOk result (line.new ≡ with_text_of line.old self) }
+        ensures line { OnOk result (line.new ≡ record line.old { text = self.text; place = self.place }) }
         ensures kept { OnErr result (line.new ≡ line.old) }
     {
         let mut before = self.before;
@@ -92,15 +90,14 @@ impl EditedLine for GapLine {
 }
 
 ghost use Rattle.std.specs.Prelude.{◌≡◌, ◌-◌, ◌≤◌, ◌++◌, length, take, drop, reverse, OnOk, OnErr};
-ghost use Rattle.line_record.specs.Gap.{text_around_gap};
 
 /// Moves the gap between two lists to a place. The second list is stored in reverse.
 fn move_gap(before: &mut Vec<u8>, after: &mut Vec<u8>, to: usize) -> Result<(), AllocError>
-    requires { to ≤ length (text_around_gap before.old.items after.old.items) }
-    ensures before { OnOk result (before.new.items ≡ take to (text_around_gap before.old.items
-        after.old.items)) }
-    ensures after { OnOk result (reverse after.new.items ≡ drop to (text_around_gap before.old.items
-        after.old.items)) }
+    requires { to ≤ length (before.old.items ++ reverse after.old.items) }
+    ensures before { OnOk result (before.new.items ≡ take to (before.old.items
+        ++ reverse after.old.items)) }
+    ensures after { OnOk result (reverse after.new.items ≡ drop to (before.old.items
+        ++ reverse after.old.items)) }
     ensures before_kept { OnErr result (before.new.items ≡ before.old.items) }
     ensures after_kept { OnErr result (after.new.items ≡ after.old.items) }
 {

@@ -20,7 +20,7 @@ impl Model for TextLog {
 
     ghost Value = { List Change };
 
-    ghost use Rattle.line_record.specs.Logged.{edits_in, IsLog};
+    ghost use Rattle.line_record.specs.Log.{edits_in, IsLog};
 
     ghost view = { λ l. edits_in (string_bytes l.text) l.entries.items };
 
@@ -31,8 +31,7 @@ impl TextLog {
     ghost use Rattle.std.specs.Prelude.{◌≡◌, ◌<◌, ◌≤◌, ◌++◌, [], ◌∷◌, length, take, slice_range, slice_index_or, IfOk, OnOk, OnErr, is_some, unwrap_or, option_copied};
     ghost use Rattle.line_record.specs.Change.{Change, AllStandIn, AllFitIn};
     ghost use Rattle.line_record.specs.Held.{text_inserted_by};
-    ghost use Rattle.line_record.specs.Logged.{edit_from, change_with_text, join_at};
-    ghost use Rattle.line_record.specs.LogSteps.{event_of};
+    ghost use Rattle.line_record.specs.Log.{edit_from, change_with_text, join_at, event_of};
     ghost use Rattle.line_record.specs.Items.{TakesBack, MakesAnew};
 
     pub fn new(alloc: Global) -> Self
@@ -202,10 +201,9 @@ impl TextLog {
     }
 }
 
-ghost use Rattle.std.specs.Prelude.{◌≡◌, ◌+◌, ◌<◌, ◌≤◌, length, string_bytes, OnOk, OnErr, IsCharBoundary};
+ghost use Rattle.std.specs.Prelude.{◌≡◌, ◌+◌, ◌<◌, ◌≤◌, length, slice_get, unwrap_or, option_map, string_bytes, OnOk, OnErr, IsCharBoundary};
 ghost use Rattle.std.specs.String.{string_len, string_capacity};
 ghost use Rattle.std.specs.List.{insert_slice};
-ghost use Rattle.line_record.specs.Logged.{place_of_span};
 
 /// Inserts a text at a place. An empty text moves no bytes.
 fn put_in(text: &mut String, at: usize, added: &str) -> Result<(), OutOfMemory>
@@ -226,7 +224,7 @@ fn put_in(text: &mut String, at: usize, added: &str) -> Result<(), OutOfMemory>
 
 /// Where the entry of an index begins; the end of all entries if there is none.
 fn place(entries: &[LoggedChange], n: usize, end: usize) -> usize
-    ensures { result ≡ place_of_span (λ x. x.start) entries.now n end }
+    ensures { result ≡ unwrap_or (option_map (λ x. x.start) (slice_get entries.now n)) end }
 {
     match entries.get(n) {
         Some(entry) => entry.start,

@@ -30,8 +30,7 @@ impl<'a> Report<'a> {
     ghost use Rattle.std.specs.Prelude.{◌≡◌, Some, true, not, is_some};
     ghost use Rattle.line_record.specs.Held.{change_of};
     ghost use Rattle.line_record.specs.Change.{place_of, old_text_of, new_text_of};
-    ghost use Rattle.line_record.specs.Logged.{edit_from, change_told};
-    ghost use Rattle.line_record.specs.LogSteps.{event_of};
+    ghost use Rattle.line_record.specs.Log.{edit_from, change_told, event_of};
 
     /// Whether nothing is inserted and nothing deleted.
     pub fn is_empty(self) -> bool

@@ -41,7 +41,7 @@ impl Model for Steps {
 
     ghost Value = { List Item };
 
-    ghost use Rattle.line_record.specs.LogSteps.{items_in, AreSteps};
+    ghost use Rattle.line_record.specs.Log.{items_in, AreSteps};
 
     ghost view = { λ s. items_in s.log s.steps.items };
 
@@ -52,9 +52,9 @@ impl Steps {
     ghost use Rattle.std.specs.Prelude.{◌≡◌, ◌+◌, ◌<◌, ◌≤◌, ◌++◌, true, [], ◌∷◌, length, take, drop, reverse, slice_get, slice_index_or, IfOk, OnOk, OnErr, Some, is_some, option_map, option_copied};
     ghost use Rattle.line_record.specs.Change.{AllStandIn, AllFitIn};
     ghost use Rattle.line_record.specs.Held.{change_of};
-    ghost use Rattle.line_record.specs.Items.{changes_of, is_step_item, changes_of_all, group_of, join_of_items, items_with_change_if, TakesBack, MakesAnew};
+    ghost use Rattle.line_record.specs.Items.{changes_of, is_step_item, changes_of_all, group_of, join_of_items, items_with_event, TakesBack, MakesAnew};
     ghost use Rattle.line_record.specs.Items.Item.{Open, Lone};
-    ghost use Rattle.line_record.specs.LogSteps.{JoinedIn, event_of, is_open, item_inserted};
+    ghost use Rattle.line_record.specs.Log.{JoinedIn, event_of, is_open, item_inserted};
 
     pub fn new(alloc: Global) -> Self
         ensures { result ≡ [] }
@@ -112,8 +112,8 @@ impl Steps {
     /// can be joined.
     pub fn note(&mut self, n: usize, report: Report<'_>) -> Result<(), OutOfMemory>
         requires { n ≤ length self.old }
-        ensures ok { OnOk result (reverse self.new ≡ items_with_change_if (event_of report.entry)
-            (change_of (event_of report.entry)) (reverse (take n self.old))) }
+        ensures ok { OnOk result (reverse self.new ≡ items_with_event (event_of report.entry)
+            (reverse (take n self.old))) }
         ensures kept { OnErr result (self.new ≡ self.old) }
         ensures some { OnErr result (is_some (change_of (event_of report.entry)) ≡ true) }
     {
@@ -266,12 +266,11 @@ impl Steps {
     }
 }
 
-ghost use Rattle.std.specs.Prelude.{◌≡◌};
-ghost use Rattle.line_record.specs.Logged.{place_of_span};
+ghost use Rattle.std.specs.Prelude.{◌≡◌, slice_get, unwrap_or, option_map};
 
 /// Where the step of an index begins; the end of all steps if there is none.
 fn place(steps: &[Step], n: usize, end: usize) -> usize
-    ensures { result ≡ place_of_span (λ s. s.first) steps.now n end }
+    ensures { result ≡ unwrap_or (option_map (λ s. s.first) (slice_get steps.now n)) end }
 {
     match steps.get(n) {
         Some(step) => step.first,

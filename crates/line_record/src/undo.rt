@@ -10,8 +10,10 @@ use std::alloc::Global;
 const FEW: usize = 8;
 
 impl Changeset {
-    ghost use Rattle.std.specs.Prelude.{◌≡◌, ◌<◌, max, length, drop, slice_get, option_map, IfOk, OnOk, OnErr};
-    ghost use Rattle.line_record.specs.Held.{line_back, has_step, ahead_back, line_ahead, has_step_ahead, record_ahead};
+    ghost use Rattle.std.specs.Prelude.{◌≡◌, ◌<◌, false, max, length, take, drop, slice_get, option_map, IfOk, OnOk, OnErr};
+    ghost use Rattle.std.specs.List.{list_any};
+    ghost use Rattle.std.specs.Option.{option_map_or};
+    ghost use Rattle.line_record.specs.Held.{line_back, is_step, has_step, ahead_back, line_ahead, record_ahead};
     ghost use Rattle.line_record.specs.Items.{no_items, undo_some, nearest_changes, is_step_item, CutUndo, AnewInPart, ItemsStand, DoneStand, UndoneFit, record_on, ahead_on, TakesBack, UndoesItems, RedoesItem, last_changes};
 
     /// Undoes the last `n` items: steps and open marks. 0 acts as 1. Returns whether a step was
@@ -134,7 +136,8 @@ impl Changeset {
     /// changes are redone, and the record is empty.
     pub fn redo(&mut self, alloc: Global, line: &mut LineBuffer) -> Result<bool, OutOfMemory>
         requires { ItemsStand self.old line.old.text }
-        ensures answer { IfOk result (λ b. b ≡ has_step_ahead (ahead_on self.old line.old.text)) }
+        ensures answer { IfOk result (λ b. b ≡ option_map_or (λ u. is_step u.held)
+            (slice_get (ahead_on self.old line.old.text) 0) false) }
         ensures line { OnOk result (line.new ≡ line_ahead (ahead_on self.old line.old.text)
             line.old) }
         ensures held { OnOk result (record_on self.new line.new.text ≡ record_ahead

@@ -5,7 +5,7 @@ use Rattle.std.proofs.lemmas.Bool.{and_from, lt-ltb}
 use Rattle.std.proofs.lemmas.Bool.Decides.{nat_tests}
 use Rattle.std.proofs.lemmas.List.Folds.{list_all-append}
 use Rattle.line_buffer.specs.declared.layout.Position.{Position}
-use Rattle.line_buffer.specs.Tabs.{tab_width}
+use Rattle.line_buffer.specs.Width.{tab_width}
 use Rattle.line_screen.specs.Display.{Placed, cluster_placed_at, right, starts_before}
 use Rattle.line_screen.specs.Drawing.{DrawnItem, next_row, leave, after_one, lay_one, blanks, lay_run}
 use Rattle.line_screen.specs.Drawing.DrawnItem.{NewRow, Letter, Cluster, Tab}

@@ -5,7 +5,7 @@ use Rattle.std.proofs.lemmas.Bool.{and_from}
 use Rattle.std.proofs.lemmas.Bool.Decides.{nat_tests}
 use Rattle.std.proofs.lemmas.List.Folds.{list_all-append}
 use Rattle.line_buffer.specs.declared.layout.Position.{Position}
-use Rattle.line_buffer.specs.Tabs.{tab_width}
+use Rattle.line_buffer.specs.Width.{tab_width}
 use Rattle.line_screen.specs.Display.{Placed, cluster_placed_at, right}
 use Rattle.line_screen.specs.Drawing.{DrawnItem, next_row, fit, leave, after_one, place_after, lay_one, blanks, lay_run}
 use Rattle.line_screen.specs.Drawing.DrawnItem.{NewRow, Letter, Cluster, Tab}

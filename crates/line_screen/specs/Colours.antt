@@ -5,7 +5,7 @@ use Rattle.std.specs.List.{list_all, flat_map}
 use Rattle.std.specs.Option.{option_map_or}
 use Rattle.unicode_segmentation.specs.Grapheme.{graphemes}
 use Rattle.line_buffer.specs.declared.layout.Position.{Position}
-use Rattle.line_buffer.specs.Tabs.{tab_width}
+use Rattle.line_buffer.specs.Width.{tab_width}
 use Rattle.line_screen.specs.Display.{is_printable, is_parameter}
 use Rattle.line_config.specs.declared.device.DeviceFailed.{DeviceFailed}
 use Rattle.line_help.specs.declared.helpers.style.Mark.{Mark}

@@ -2,8 +2,7 @@ use Rattle.std.proofs.Common.{◌≡◌, ◌+◌, ◌<◌, ◌≤◌, lit<, Some
 use Rattle.std.proofs.lemmas.Str.{IsCharBoundary-from_rest}
 use Rattle.std.proofs.lemmas.Str.Pattern.{find_char}
 use Rattle.line_buffer.specs.Columns.{place_at_column}
-use Rattle.line_buffer.specs.Tabs.{tab_end}
-use Rattle.line_buffer.specs.Width.{width_of}
+use Rattle.line_buffer.specs.Width.{tab_end, width_of}
 use Rattle.line_buffer.proofs.TabColumns.{past, begins, goes_on, part_is, inside, at_tab, boundary_in_part, place_before_tab, place_after_tab, place_plain}
 use Rattle.line_buffer.proofs.columns.boundary_among_tabs.Goals as goal
 

@@ -1,9 +1,8 @@
 use Rattle.std.proofs.Common.{◌≤◌, ◌+◌, ◌≡◌, sym, ap, ◌∙◌, subst, take, drop, length, chars, IsUtf8, IsCharBoundary, slice_range}
 use Rattle.std.specs.List.{list_all}
 use Rattle.std.proofs.lemmas.Str.{IsCharBoundary-start}
-use Rattle.line_buffer.specs.Parting.{is_flag_letter}
+use Rattle.line_buffer.specs.Width.{is_flag_letter, columns_of}
 use Rattle.line_buffer.proofs.PartingLemmas.{first}
-use Rattle.line_buffer.specs.Width.{columns_of}
 use Rattle.line_buffer.specs.declared.layout.GraphemeClusterMode.{GraphemeClusterMode}
 use Rattle.line_buffer.proofs.ColumnLemmas.{front_of, parts_text_init, parts_text_turn, parts_text_before, parts_text_smaller, parts_text_boundary, parts_text_balance, alike}
 use Rattle.line_buffer.proofs.columns.last_part.Goals as goal

@@ -1,7 +1,6 @@
 use Rattle.std.proofs.Common.{◌≡◌, ◌+◌, lit<, Some, None, sym, ap, ap₂, ◌∙◌, arith}
 use Rattle.std.proofs.lemmas.Str.Pattern.{find_char}
-use Rattle.line_buffer.specs.Tabs.{tab_end, column_after}
-use Rattle.line_buffer.specs.Width.{width_of}
+use Rattle.line_buffer.specs.Width.{tab_end, column_after, width_of}
 use Rattle.line_buffer.proofs.TabColumns.{past, begins, goes_on, part_is, rest_goes_on, column_turn, column_plain}
 use Rattle.line_buffer.proofs.tabs.column_after.Goals as goal
 

@@ -1,5 +1,5 @@
 use Rattle.std.proofs.Common.{◌≡◌, ◌-◌, length, drop, Some}
-use Rattle.line_buffer.specs.Tabs.{column_after}
+use Rattle.line_buffer.specs.Width.{column_after}
 use Rattle.line_buffer.proofs.TabColumns.{WalksTabs}
 use Rattle.line_buffer.proofs.tabs.column_after.Given as goal
 

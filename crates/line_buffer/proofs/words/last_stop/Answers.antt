@@ -8,8 +8,8 @@ use Rattle.line_buffer.specs.declared.types.Word.TheVariants.{Emacs}
 use Rattle.line_buffer.specs.declared.types.At as AtType
 use Rattle.line_buffer.specs.declared.types.Word as WordType
 use Rattle.line_buffer.specs.Clusters.{clusters}
-use Rattle.line_buffer.specs.Words.{last_stop, later_last}
-use Rattle.line_buffer.proofs.StopLemmas.{later_last-read}
+use Rattle.line_buffer.specs.Words.{last_stop}
+use Rattle.line_buffer.proofs.StopLemmas.{later_last-read, later_last}
 use Rattle.line_buffer.proofs.words.last_stop.Goals as goal
 
 no_end : (at : AtType.At) (word : WordType.Word) (text : List ℕ) → false ≡ sameb At.the_type at AfterEnd → false ≡ sameb Word.the_type word Emacs → last_stop at word text ≡ later_last (clusters text)

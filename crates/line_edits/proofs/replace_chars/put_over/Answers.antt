@@ -1,5 +1,5 @@
 use Rattle.std.proofs.Common.{refl, ◌∙◌, encode_utf8}
-use Rattle.line_buffer.specs.Replay.{replacement}
+use Rattle.line_buffer.specs.Event.{replacement}
 use Rattle.line_record.specs.Items.{record_on}
 use Rattle.line_edits.proofs.StepLemmas.{unchanged_rewrites}
 use Rattle.line_edits.proofs.WrittenLemmas.{recorded_one}

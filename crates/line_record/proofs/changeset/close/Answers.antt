@@ -1,5 +1,5 @@
 use Rattle.std.proofs.Common.{◌∙◌, sym, ap, subst, Option, ℕ, reverse}
-use Rattle.line_record.specs.LogSteps.{IsRecord, oldest_mark}
+use Rattle.line_record.specs.Log.{IsRecord, oldest_mark}
 use Rattle.line_record.proofs.DoneLemmas.{closed_marks, closed_unmarked, no_marks, mark_below}
 use Rattle.line_record.proofs.changeset.close.Goals as goal
 

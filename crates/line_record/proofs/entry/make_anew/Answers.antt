@@ -1,7 +1,7 @@
 use Rattle.std.proofs.Common.{◌∙◌}
 use Rattle.line_record.specs.declared.entry.LoggedChange.{LoggedChange}
 use Rattle.line_record.specs.declared.entry.Kind.TheVariants.{Insertion}
-use Rattle.line_record.specs.Logged.{edit_in}
+use Rattle.line_record.specs.Log.{edit_in}
 use Rattle.line_record.proofs.LogLemmas.{ahead_entry}
 use Rattle.line_record.proofs.entry.make_anew.Goals as goal
 

@@ -1,7 +1,7 @@
 use Rattle.std.proofs.Common.{◌≡◌, take, drop}
 use Rattle.line_record.specs.Change.{AllFitIn}
 use Rattle.line_record.specs.Items.{lines_ahead}
-use Rattle.line_record.specs.Logged.{edits_in}
+use Rattle.line_record.specs.Log.{edits_in}
 use Rattle.line_record.proofs.entry.make_anew.Given as goal
 
 abbrev pub invariant-loop-change : goal.invariant-loop-change

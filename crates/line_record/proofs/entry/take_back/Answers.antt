@@ -1,5 +1,5 @@
 use Rattle.std.proofs.Common.{◌∙◌}
-use Rattle.line_record.specs.Logged.{edit_in, Spelt}
+use Rattle.line_record.specs.Log.{edit_in, Spelt}
 use Rattle.line_record.proofs.StepLemmas.{back_turn}
 use Rattle.line_record.proofs.LogLemmas.{all_before, all_last}
 use Rattle.line_record.proofs.entry.take_back.Goals as goal

@@ -1,6 +1,6 @@
 use Rattle.std.proofs.Common.{◌≡◌, take, drop, length, All}
 use Rattle.line_record.specs.Items.{lines_back}
-use Rattle.line_record.specs.Logged.{edits_in, Spelt}
+use Rattle.line_record.specs.Log.{edits_in, Spelt}
 use Rattle.line_record.proofs.entry.take_back.Given as goal
 
 abbrev pub invariant-loop-newest : goal.invariant-loop-newest

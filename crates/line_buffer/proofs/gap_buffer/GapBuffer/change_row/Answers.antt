@@ -3,7 +3,7 @@ use Rattle.std.proofs.lemmas.List.Edits.{length-between}
 use Rattle.line_buffer.specs.declared.types.Direction.TheVariants.{Forward}
 use Rattle.line_buffer.specs.Event.ChangeEvent.{Delete}
 use Rattle.line_buffer.specs.Indent.{row_event}
-use Rattle.line_buffer.specs.Replay.{deletion, insertion, line_after_event}
+use Rattle.line_buffer.specs.Event.{deletion, line_after_event, InsertStr}
 use Rattle.line_buffer.proofs.CutLemmas.{drop_replaced}
 use Rattle.line_buffer.proofs.gap_buffer.GapBuffer.change_row.Goals as goal
 
@@ -41,7 +41,7 @@ returns-clause-edits g c =
     record {
       told = search rules;
       replays = search rules;
-      line = ap (λ v. v.0) {y = (line_after_event (insertion gap c.args.margin.now) c.args.self.now.0, gap + length c.args.margin.now)} c.in_ok-insert.ensures.value
+      line = ap (λ v. v.0) {y = (line_after_event (InsertStr gap c.args.margin.now) c.args.self.now.0, gap + length c.args.margin.now)} c.in_ok-insert.ensures.value
           ∙ sym (ap (λ d. line_after_event (row_event c.args.margin.now d gap (slice_range c.args.self.now.0.text gap c.args.end)) c.args.self.now.0) c.if-dedent.false);
       refused = tt;
       kept = tt;

@@ -1,6 +1,6 @@
 use Rattle.std.proofs.Common.{◌≡◌, ◌+◌, ◌++◌, length, string_bytes, ap, ◌∙◌, subst, arith, rules}
 use Rattle.std.specs.List.{insert_slice}
-use Rattle.line_buffer.specs.Replay.{insertion, line_after_event}
+use Rattle.line_buffer.specs.Event.{line_after_event, InsertStr}
 use Rattle.line_buffer.proofs.GapLemmas.{insert_at_seam, gapped, gap_inserted, place_moved, place_kept}
 use Rattle.line_buffer.proofs.ReplayLemmas.{swaps_insertion}
 use Rattle.line_buffer.proofs.gap_buffer.GapBuffer.insert.Goals as goal
@@ -27,7 +27,7 @@ returns-then-at-self-clause-value g c =
     subst
     (λ v. c.gap-at.result ≡ v.1
     → gapped (string_bytes c.push_str.new.self ++ c.self.inside.after.now) (c.self.inside.pos + length text) c.self.inside.can_growth c.self.inside.limit (length (string_bytes c.push_str.new.self))
-    ≡ (line_after_event (insertion v.1 text) v.0, v.1 + length text))
+    ≡ (line_after_event (InsertStr v.1 text) v.0, v.1 + length text))
     c.self.view_is
     (λ at. gap_inserted before c.self.inside.after.now text _ c.self.inside.pos _ c.self.inside.limit c.self.inside.can_growth done (place_moved (length before) c.self.inside.pos text (omega arith)))
     c.gap-at.ensures.value
@@ -40,7 +40,7 @@ returns-else-at-self-clause-value g c =
     subst
     (λ v. c.gap-at.result ≡ v.1
     → gapped (string_bytes c.push_str.new.self ++ c.self.inside.after.now) c.self.inside.pos c.self.inside.can_growth c.self.inside.limit (length (string_bytes c.push_str.new.self))
-    ≡ (line_after_event (insertion v.1 text) v.0, v.1 + length text))
+    ≡ (line_after_event (InsertStr v.1 text) v.0, v.1 + length text))
     c.self.view_is
     (λ at. gap_inserted before c.self.inside.after.now text _ c.self.inside.pos _ c.self.inside.limit c.self.inside.can_growth done (place_kept (length before) c.self.inside.pos text (omega arith)))
     c.gap-at.ensures.value

@@ -1,7 +1,7 @@
 use Rattle.std.proofs.Common.{◌≡◌, ◌-◌, ◌≤◌, ◌++◌, [], length, drop, string_bytes, ap, ◌∙◌, subst, arith}
 use Rattle.std.specs.List.{replace_range}
 use Rattle.line_buffer.specs.declared.types.Direction.TheVariants.{Forward}
-use Rattle.line_buffer.specs.Replay.{deletion, line_after_event}
+use Rattle.line_buffer.specs.Event.{deletion, line_after_event}
 use Rattle.line_buffer.proofs.GapLemmas.{remove_at_seam, swaps_deletion, gapped, gap_removed}
 use Rattle.line_buffer.proofs.gap_buffer.GapBuffer.remove.Goals as goal
 

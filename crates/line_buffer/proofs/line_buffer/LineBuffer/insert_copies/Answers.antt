@@ -1,13 +1,13 @@
 use Rattle.std.proofs.Common.{refl, []}
 use Rattle.std.specs.List.{repeat}
-use Rattle.line_buffer.specs.Replay.{insertion}
+use Rattle.line_buffer.specs.Event.{InsertStr}
 use Rattle.line_buffer.proofs.InsertionLemmas.{told_where_room}
 use Rattle.line_buffer.proofs.LeftLemmas.{stopped_for_memory}
 use Rattle.line_buffer.proofs.line_buffer.LineBuffer.insert_copies.Goals as goal
 
 pub returns-in_default : goal.returns-in_default
 returns-in_default g c =
-    let added = repeat c.args.n c.args.text.now in let told = insertion c.args.self.now.place added in
+    let added = repeat c.args.n c.args.text.now in let told = InsertStr c.args.self.now.place added in
     record {
       answer = tt;
       told = tt;

@@ -2,7 +2,7 @@ use Rattle.std.proofs.lemmas.List.Edits.{length-between}
 use Rattle.std.specs.List.{replace_range}
 use Rattle.std.proofs.Common.{length, sym, ap, subst, ◌∙◌, refl, arith, IsCharBoundary, slice_range}
 use Rattle.line_buffer.specs.Line.{with_replacement}
-use Rattle.line_buffer.specs.Replay.{replacement}
+use Rattle.line_buffer.specs.Event.{replacement}
 use Rattle.line_buffer.proofs.CutLemmas.{before_replaced}
 use Rattle.line_buffer.proofs.LeftLemmas.{edits_refused, stopped_first, stopped_for_memory, stopped_after_one, carried_replacement}
 use Rattle.line_buffer.proofs.ReplayLemmas.{refused_as}

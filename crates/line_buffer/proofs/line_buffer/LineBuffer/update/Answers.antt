@@ -2,7 +2,7 @@ use Rattle.std.proofs.Common.{◌≡◌, refl, sym, ap, subst, ◌∙◌, inr, I
 use Rattle.std.specs.List.{insert_slice}
 use Rattle.std.proofs.lemmas.List.{append-nil}
 use Rattle.std.proofs.lemmas.Str.{IsCharBoundary-start}
-use Rattle.line_buffer.specs.Replay.{insertion}
+use Rattle.line_buffer.specs.Event.{InsertStr}
 use Rattle.line_buffer.proofs.LeftLemmas.{edits_refused, stopped_first, stopped_after_one, carried_deletion_of_all}
 use Rattle.line_buffer.proofs.ReplayLemmas.{refused_as}
 use Rattle.line_buffer.proofs.line_buffer.LineBuffer.update.Goals as goal
@@ -27,4 +27,4 @@ pub returns-in_err-insert_str : goal.returns-in_err-insert_str
 returns-in_err-insert_str g c =
     edits_refused _ _ c.from_residual-in_err-insert_str.ensures.1 (stopped_after_one _ c.in_ok-delete_all.ensures.told c.in_ok-delete_all.ensures.replays
     (c.in_ok-delete_all.ensures.line ∙ sym (carried_deletion_of_all c.args.self.now c.pos-place.ensures.boundary.0))
-    (stopped_first _ _ _ _ _ _ _ _ _ refl tt (refused_as g.C.DeleteListener.refuses (ap (insertion 0) c.kept-kept.ensures.value) c.in_err-insert_str.ensures.edits.refused) c.in_err-insert_str.ensures.edits.kept))
+    (stopped_first _ _ _ _ _ _ _ _ _ refl tt (refused_as g.C.DeleteListener.refuses (ap (InsertStr 0) c.kept-kept.ensures.value) c.in_err-insert_str.ensures.edits.refused) c.in_err-insert_str.ensures.edits.kept))

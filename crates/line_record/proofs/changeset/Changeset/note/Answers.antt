@@ -1,6 +1,6 @@
 use Rattle.std.proofs.Common.{◌∙◌, ap}
 use Rattle.line_record.specs.Items.{items_after_event}
-use Rattle.line_record.specs.LogSteps.{event_of}
+use Rattle.line_record.specs.Log.{event_of}
 use Rattle.line_record.proofs.DoneLemmas.{all_done}
 use Rattle.line_record.proofs.NotedLemmas.{reported}
 use Rattle.line_record.proofs.changeset.Changeset.note.Goals as goal

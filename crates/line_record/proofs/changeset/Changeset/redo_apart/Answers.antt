@@ -1,7 +1,6 @@
 use Rattle.std.proofs.Common.{ap, ◌∙◌}
-use Rattle.line_record.specs.Gap.{with_text_of}
 use Rattle.line_record.specs.Items.{lines_ahead, nearest_changes}
-use Rattle.line_record.proofs.GapLemmas.{ahead_apart}
+use Rattle.line_record.proofs.GapLemmas.{ahead_apart, with_text_of}
 use Rattle.line_record.proofs.changeset.Changeset.redo_apart.Goals as goal
 
 pub returns : goal.returns

@@ -1,6 +1,6 @@
 use Rattle.std.proofs.Common.{take, sym, ap, subst, ◌∙◌, List}
 use Rattle.line_record.specs.Items.{Item}
-use Rattle.line_record.specs.LogSteps.{IsRecord, record_of}
+use Rattle.line_record.specs.Log.{IsRecord, record_of}
 use Rattle.line_record.proofs.StoredLemmas.{truncated_held, truncated_stand}
 use Rattle.line_record.proofs.DoneLemmas.{kept_first}
 use Rattle.line_record.proofs.changeset.Changeset.truncate.Goals as goal

@@ -1,7 +1,6 @@
 use Rattle.std.proofs.Common.{refl, ap, ◌∙◌}
-use Rattle.line_record.specs.Gap.{with_text_of}
 use Rattle.line_record.specs.Items.{lines_back, last_changes}
-use Rattle.line_record.proofs.GapLemmas.{back_apart, nothing_undone}
+use Rattle.line_record.proofs.GapLemmas.{back_apart, nothing_undone, with_text_of}
 use Rattle.line_record.proofs.changeset.Changeset.undo_apart.Goals as goal
 
 pub returns : goal.returns

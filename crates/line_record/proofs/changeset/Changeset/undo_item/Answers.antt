@@ -1,5 +1,5 @@
 use Rattle.std.proofs.Common.{◌≡◌, suc, subst, sym, arith}
-use Rattle.line_record.specs.LogSteps.{IsRecord}
+use Rattle.line_record.specs.Log.{IsRecord}
 use Rattle.line_record.proofs.DoneLemmas.{undone_marked}
 use Rattle.line_record.proofs.changeset.Changeset.undo_item.Goals as goal
 

@@ -1,9 +1,8 @@
 use Rattle.std.proofs.Common.{rules, sym, subst, ◌≡◌, ◌+◌, ◌∙◌, ap, ◌++◌, take, length, List, ℕ, IsUtf8, IsCharBoundary}
 use Rattle.line_buffer.specs.Line.{Line}
-use Rattle.line_record.specs.Change.{StandsAt}
-use Rattle.line_record.specs.Gap.{text_around_gap}
-use Rattle.line_record.proofs.GapLemmas.{Seam, seam_exchanged, seam_moved}
+use Rattle.line_record.proofs.GapLemmas.{Seam, seam_exchanged, seam_moved, text_around_gap}
 use Rattle.line_record.proofs.gap_line.GapLineEditedLine.exchange.Goals as goal
+use Rattle.line_buffer.specs.Event.{StandsAt}
 
 pub invariant_of-self-in_err-reserve : goal.invariant_of-self-in_err-reserve
 invariant_of-self-in_err-reserve c =

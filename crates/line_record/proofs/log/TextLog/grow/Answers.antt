@@ -2,7 +2,7 @@ use Rattle.std.proofs.Common.{◌≡◌, ◌+◌, ◌++◌, ◌∷◌, [], lengt
 use Rattle.std.specs.String.{string_len}
 use Rattle.std.proofs.lemmas.List.{length-take-le}
 use Rattle.std.proofs.lemmas.Str.{IsUtf8-string_bytes}
-use Rattle.line_record.specs.Logged.{edit_in, edits_in, change_with_text}
+use Rattle.line_record.specs.Log.{edit_in, edits_in, change_with_text}
 use Rattle.line_record.proofs.LogLemmas.{entry_seen, cuts_at, place_in_cut, log_grown, LogIs}
 use Rattle.line_record.proofs.log.TextLog.grow.Goals as goal
 

@@ -1,7 +1,7 @@
 use Rattle.std.proofs.Common.{List, ℕ, string_bytes, sym, ap, subst, ◌∙◌, get_or}
 use Rattle.line_record.specs.Change.{Change}
 use Rattle.line_record.specs.Held.{text_inserted_by}
-use Rattle.line_record.specs.Logged.{edit_in, Spelt}
+use Rattle.line_record.specs.Log.{edit_in, Spelt}
 use Rattle.line_record.proofs.LogLemmas.{entry_at, entries_inside, EntryAt}
 use Rattle.line_record.proofs.log.TextLog.inserted.Goals as goal
 

@@ -1,5 +1,5 @@
 use Rattle.std.proofs.Common.{string_bytes, sym, ap, is_some, unwrap_or}
-use Rattle.line_record.specs.LogSteps.{event_of}
+use Rattle.line_record.specs.Log.{event_of}
 use Rattle.line_record.proofs.LogLemmas.{entry_at, entries_inside, read, join_none, join_made}
 use Rattle.line_record.proofs.log.TextLog.join.Goals as goal
 

@@ -2,7 +2,7 @@ use Rattle.std.proofs.Common.{ℕ, List, string_bytes, sym, subst, All, slice_ra
 use Rattle.line_record.specs.declared.entry.LoggedChange.{LoggedChange}
 use Rattle.line_record.specs.Change.{Change, AllFitIn}
 use Rattle.line_record.specs.Items.{MakesAnew}
-use Rattle.line_record.specs.Logged.{Spelt}
+use Rattle.line_record.specs.Log.{Spelt}
 use Rattle.line_record.proofs.LogLemmas.{range_spelt, range_seen}
 use Rattle.line_record.proofs.log.TextLog.make_anew.Goals as goal
 

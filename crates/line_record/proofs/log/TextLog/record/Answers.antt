@@ -3,7 +3,7 @@ use Rattle.std.specs.String.{string_len}
 use Rattle.std.proofs.lemmas.List.{length-append, length-take-le}
 use Rattle.std.proofs.lemmas.Str.{IsUtf8-string_bytes}
 use Rattle.line_record.specs.declared.entry.LoggedChange.{LoggedChange}
-use Rattle.line_record.specs.Logged.{edit_from, edits_in}
+use Rattle.line_record.specs.Log.{edit_from, edits_in}
 use Rattle.line_record.proofs.LogLemmas.{log_put, place_between, LogIs}
 use Rattle.line_record.proofs.SpanLemmas.{place_is}
 use Rattle.line_record.proofs.log.TextLog.record.Goals as goal

@@ -1,8 +1,7 @@
 use Rattle.std.proofs.Common.{take, ap, ◌∙◌, sym, ◌≡◌, ◌++◌, ◌∷◌, [], false, Some, ℕ, List, option_map}
 use Rattle.line_record.specs.Items.Item.{Lone}
 use Rattle.line_record.specs.Change.{place_of, old_text_of, new_text_of}
-use Rattle.line_record.specs.Logged.{edit_from, change_told}
-use Rattle.line_record.specs.LogSteps.{event_of, items_in}
+use Rattle.line_record.specs.Log.{edit_from, change_told, event_of, items_in}
 use Rattle.line_record.specs.declared.steps.Step.{Step}
 use Rattle.line_record.proofs.StepsLemmas.{lone_pushed, StepsAre}
 use Rattle.line_record.proofs.SpanLemmas.{place_is}

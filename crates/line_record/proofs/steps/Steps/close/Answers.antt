@@ -1,6 +1,6 @@
 use Rattle.std.proofs.Common.{◌≡◌, ◌-◌, sym, ap, take, drop, reverse, ◌∙◌, is_some, slice_get}
 use Rattle.line_record.specs.Items.{changes_of_all, group_of}
-use Rattle.line_record.specs.LogSteps.{AreSteps, items_in}
+use Rattle.line_record.specs.Log.{AreSteps, items_in}
 use Rattle.line_record.proofs.StepsLemmas.{step_at, closed_from, group_none, group_some, group_gone, group_pushed_on, first_inside, last_inside, last_next, less, set_kept}
 use Rattle.line_record.proofs.steps.Steps.close.Goals as goal
 

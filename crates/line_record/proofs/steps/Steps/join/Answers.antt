@@ -1,7 +1,7 @@
 use Rattle.std.proofs.Common.{sym, ap, subst, ◌∙◌, refl, is_some, Option, List}
 use Rattle.line_record.specs.Change.{Change}
 use Rattle.line_record.specs.Items.{Item}
-use Rattle.line_record.specs.LogSteps.{JoinedIn, items_in, event_of}
+use Rattle.line_record.specs.Log.{JoinedIn, items_in, event_of}
 use Rattle.line_record.proofs.StepsLemmas.{step_at, joins_none, left_alone, joined_on, JoinedOn, lone_inside}
 use Rattle.line_record.proofs.steps.Steps.join.Goals as goal
 

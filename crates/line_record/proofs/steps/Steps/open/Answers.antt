@@ -1,6 +1,6 @@
 use Rattle.std.proofs.Common.{take, ap, ◌∙◌, ◌++◌, ◌∷◌, [], false}
 use Rattle.line_record.specs.Items.Item.{Open}
-use Rattle.line_record.specs.LogSteps.{items_in}
+use Rattle.line_record.specs.Log.{items_in}
 use Rattle.line_record.specs.declared.steps.Step.{Step}
 use Rattle.line_record.proofs.StepsLemmas.{mark_pushed, StepsAre}
 use Rattle.line_record.proofs.SpanLemmas.{place_is}

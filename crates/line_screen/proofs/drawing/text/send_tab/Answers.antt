@@ -1,6 +1,6 @@
 -- Blanks, and the end of a full row.
 use Rattle.std.proofs.Common.{ℕ, ◌+◌, ◌==◌, ◌∙◌, ap, subst}
-use Rattle.line_buffer.specs.Tabs.{tab_width}
+use Rattle.line_buffer.specs.Width.{tab_width}
 use Rattle.line_screen.specs.Drawing.{blanks, break_if, left_col, SendsTo}
 use Rattle.line_config.specs.Sending.{Takes, TakesSome}
 use Rattle.line_screen.proofs.Sendings.{sends_to_then, sends_to_cut}
