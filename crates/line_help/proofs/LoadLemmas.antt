@@ -12,7 +12,8 @@ use Rattle.line_config.specs.declared.device.Last.{Last}
 use Rattle.line_config.specs.declared.errors.ReadlineError.{ReadlineError}
 use Rattle.line_config.specs.declared.errors.ReadlineError.TheVariants.{HistoryText, Memory}
 use Rattle.line_help.specs.History.{Filed, history_with_line, history_with_lines, takes_all, ignores_line}
-use Rattle.line_help.specs.HistoryText.{GoodUpTo, LosesRow, after_first, behind_row, behind_rows, follows, text_rows, entries_of, entry_of, good_rows, has_bad_row, header, load_answer, load_leaves, history_left_at, row_fault, rows_answer, texts_of, LoadsSome, rest_after_load}
+use Rattle.line_help.specs.HistoryText.{LosesRow, behind_row, behind_rows, follows, text_rows, entries_of, entry_of, good_rows, has_bad_row, header, load_answer, load_leaves, history_left_at, rows_answer, texts_of, LoadsSome, rest_after_load}
+use Rattle.line_help.proofs.RowLemmas.{GoodUpTo}
 
 pub not_utf8 : (bytes : List ℕ) → ¬ (IsUtf8 bytes) → is_utf8 bytes ≡ false
 not_utf8 bytes never = false_from_ne_true (is_utf8 bytes) (λ e. never (IsUtf8-from_is_utf8 bytes e))
@@ -79,12 +80,16 @@ pub good_text : (row : List ℕ) (result : Result Bool ReadlineError) → is_utf
 good_text row (Ok b) utf8 = utf8
 good_text row (Err why) utf8 = tt
 
-pub good_fault : (row : List ℕ) (result : Result Bool ReadlineError) → is_utf8 row ≡ true → 0 < length row → IfErr result (λ e. e ≡ Memory) → IfErr result (λ e. (e ≡ row_fault HistoryText row) × (0 < length row))
+-- why a row isn't taken: it isn't UTF-8, or else memory ran out
+abbrev pub row_fault : List ℕ → ReadlineError
+row_fault row = if is_utf8 row then Memory else HistoryText
+
+pub good_fault : (row : List ℕ) (result : Result Bool ReadlineError) → is_utf8 row ≡ true → 0 < length row → IfErr result (λ e. e ≡ Memory) → IfErr result (λ e. (e ≡ row_fault row) × (0 < length row))
 good_fault row (Ok b) utf8 some e = tt
 good_fault row (Err why) utf8 some e = (rw utf8 e, some)
 
 -- a row for which memory runs out is UTF-8
-pub memory_row : (row : List ℕ) → row_fault HistoryText row ≡ Memory → is_utf8 row ≡ true
+pub memory_row : (row : List ℕ) → row_fault row ≡ Memory → is_utf8 row ≡ true
 memory_row row e = good_if_memory (is_utf8 row) e
 
 pub left_bad : (h : Filed) (escapes : Bool) (row : List ℕ) (rows : List (List ℕ)) → is_utf8 row ≡ false
@@ -101,8 +106,12 @@ header_is_utf8 = refl
 pub header_row : (row : List ℕ) → bytes_eq row header ≡ true → is_utf8 row ≡ true
 header_row row e = rw ((bytes_eq-Decides row header).0 e) header_is_utf8
 
+-- the history after the first row
+abbrev after_first : Filed → List ℕ → Filed
+after_first h row = history_with_lines h (texts_of (row ∷ []))
+
 texts_step : (h : Filed) (row : List ℕ) (rows : List (List ℕ)) (escapes : Bool) → bytes_eq row header ≡ escapes
-    → history_with_lines h (if escapes then entries_of true rows else entries_of false (row ∷ rows)) ≡ history_with_lines (if escapes then h else history_with_lines h (entries_of false (row ∷ []))) (entries_of escapes rows)
+    → history_with_lines h (if escapes then entries_of true rows else entries_of false (row ∷ rows)) ≡ history_with_lines (history_with_lines h (if escapes then entries_of true [] else entries_of false (row ∷ []))) (entries_of escapes rows)
 texts_step h row rows true e = refl
 texts_step h row rows false e = left_step h false row rows
 
@@ -111,7 +120,7 @@ pub loaded_left : (h : Filed) (row : List ℕ) (rows : List (List ℕ)) → is_u
 loaded_left h row rows e = ap (λ rs. history_with_lines h (texts_of rs)) (good_more row rows e) ∙ texts_step h row (good_rows rows) (bytes_eq row header) refl
 
 takes_behind : (h : Filed) (row : List ℕ) (rows : List (List ℕ)) (escapes : Bool)
-    → (escapes && takes_all h (if escapes then entries_of true rows else entries_of false (row ∷ rows))) ≡ (escapes && takes_all (if escapes then h else history_with_lines h (entries_of false (row ∷ []))) (entries_of escapes rows))
+    → (escapes && takes_all h (if escapes then entries_of true rows else entries_of false (row ∷ rows))) ≡ (escapes && takes_all (history_with_lines h (if escapes then entries_of true [] else entries_of false (row ∷ []))) (entries_of escapes rows))
 takes_behind h row rows true = refl
 takes_behind h row rows false = refl
 
@@ -260,12 +269,12 @@ bad_if_followed true f = cc
 bad_if_followed false f = refl
 
 pub bad_row_ends : (escapes whole : Bool) (last : Last) (text here onward row : List ℕ) (before now : Filed) (result : Result Bool ReadlineError)
-    → text_rows last here ≡ row ∷ text_rows last onward → onward ≡ behind_row here → result ≡ Err (row_fault HistoryText row) → IsTrue (follows result)
+    → text_rows last here ≡ row ∷ text_rows last onward → onward ≡ behind_row here → result ≡ Err (row_fault row) → IsTrue (follows result)
     → Underway escapes whole last text here before now → EndsLoad escapes last text onward before now result
 bad_row_ends escapes whole last text here onward row before now result r is e f so =
     let bad : is_utf8 row ≡ false = bad_if_followed (is_utf8 row) (rw e at f) in
     let rows = text_rows last onward in
-    let why : row_fault HistoryText row ≡ HistoryText = rw bad refl in
+    let why : row_fault row ≡ HistoryText = rw bad refl in
     record {
       answer = e ∙ ap (λ w. Err w) why ∙ sym (answer_bad last row rows _ bad) ∙ (rw r at so.answer);
       history = sym (left_bad now escapes row rows bad) ∙ (rw r at so.history);

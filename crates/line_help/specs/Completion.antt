@@ -5,6 +5,7 @@ use Rattle.line_buffer.specs.Event.{ChangeEvent}
 use Rattle.line_buffer.specs.Line.{Line, with_replacement}
 use Rattle.line_buffer.specs.Replay.{Replays, replacement}
 use Rattle.std.specs.List.{list_any, common_prefix_len, starts_with}
+use Rattle.std.specs.Option.{option_map_or}
 use Rattle.std.specs.Str.{chars}
 use Rattle.line_buffer.specs.Insertions.{last_cut}
 use Rattle.std.specs.Char.{IsScalar, is_whitespace}
@@ -54,13 +55,7 @@ pub record Updates {L A E : Type 0} (takes refuses : L → ChangeEvent → L →
 
 -- whether a character is the escape
 abbrev pub is_escape : Option ℕ → ℕ → Bool
-is_escape None c = false
-is_escape (Some esc) c = c == esc
-
--- whether the nearest character is the escape, if characters are read from the end
-abbrev pub is_escaped : Option ℕ → List ℕ → Bool
-is_escaped esc [] = false
-is_escaped esc (c ∷ cs) = is_escape esc c
+is_escape esc c = option_map_or (λ e. c == e) esc false
 
 -- the text before the word, both read from the end: the word begins after the nearest break
 -- character without an escape before it
@@ -138,13 +133,7 @@ words_reply offers words text =
       takes = nat_lt 0 (length offered);
     }
 
-abbrev pub word_reply : List (List ℕ) → List ℕ → Reply Completion
-word_reply words text = words_reply text_offered words text
-
 -- words, and what ends one that is the only candidate
 pub record WholeWords : Type 0 where
   pub words : List (List ℕ)
   pub end : List ℕ
-
-abbrev pub whole_word_reply : WholeWords → List ℕ → Reply Completion
-whole_word_reply whole text = words_reply (word_offered whole.end) whole.words text

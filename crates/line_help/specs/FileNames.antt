@@ -69,39 +69,32 @@ offered_name quote folder named =
     let shown : List ℕ = text_with_escapes path (Some 92) (is_special quote) quote in
     record { display = named.name; replacement = shown; alone = shown }
 
-abbrev pub name_begins : List ℕ → Named → Bool
-name_begins name named = starts_with nat_eq named.name name
-
 -- each listed name that begins with the typed one, in the order of the list
 abbrev pub offered_names : Quote → List ℕ → List ℕ → List Named → List Offered
 offered_names quote folder name all =
-    map (offered_name quote folder) (filter (name_begins name) all)
-
-abbrev pub completion_in_list_order : Typed → List Named → Completion
-completion_in_list_order typed all = record {
-  start = typed.start;
-  candidates = offered_names typed.quote (folder_of typed.path) (name_of typed.path) all;
-}
+    map (offered_name quote folder) (filter (λ named. starts_with nat_eq named.name name) all)
 
 -- by what is displayed; items that are displayed alike keep their order
 abbrev pub is_displayed_before : Offered → Offered → Bool
 is_displayed_before x y = is_lt (slice_cmp nat_cmp x.display y.display)
 
-abbrev pub completion_in_order : Completion → Completion
-completion_in_order found =
-    record found { candidates = list_in_order_by is_displayed_before found.candidates }
-
 -- the candidates for a text, from a list of what folders contain: none if the folder can't be
 -- listed. Memory is taken for the path without its escapes, by the list, and for the candidates
 abbrev pub unsorted_completion : (List ℕ → Reply (List Named)) → List ℕ → Reply Completion
 unsorted_completion list text =
-    let listed : Reply (List Named) = list (folder_of (typed_path text).path) in
-    record {
-      answer = option_map (completion_in_list_order (typed_path text)) listed.answer;
+    let typed : Typed = typed_path text in
+    let folder : List ℕ = folder_of typed.path in
+    let listed : Reply (List Named) = list folder in record {
+      answer = option_map (λ all. record {
+        start = typed.start;
+        candidates = offered_names typed.quote folder (name_of typed.path) all;
+      }) listed.answer;
       takes = escapes_at (unclosed_quote text) || (listed.takes || is_some listed.answer);
     }
 
 abbrev pub path_completion : (List ℕ → Reply (List Named)) → List ℕ → Reply Completion
 path_completion list text =
-    let found : Reply Completion = unsorted_completion list text in
-    record found { answer = option_map completion_in_order found.answer }
+    let in_order : Completion → Completion =
+    λ found. record found { candidates = list_in_order_by is_displayed_before found.candidates } in
+    let reply : Reply Completion = unsorted_completion list text in
+    record reply { answer = option_map in_order reply.answer }

@@ -55,10 +55,6 @@ abbrev pub entry_of : Bool → List ℕ → List ℕ
 entry_of false row = row
 entry_of true row = unwrap_or (unescaped_row row) row
 
-abbrev pub begins_with_newline : List ℕ → Bool
-begins_with_newline [] = false
-begins_with_newline (b ∷ bs) = b == 10
-
 -- a byte before the rows of the following text. The last row needn't end in a newline, but a
 -- failure of the source drops such a row
 abbrev pub onto : List (List ℕ) → Last → ℕ → List (List ℕ)
@@ -71,7 +67,7 @@ onto [] Failed b = []
 abbrev pub text_rows : Last → List ℕ → List (List ℕ)
 text_rows last [] = []
 text_rows last (b ∷ bs) = if b == 10 then [] ∷ text_rows last bs
-    else if b == 13 && begins_with_newline bs then text_rows last bs
+    else if b == 13 && option_map_or (λ c. c == 10) (slice_get bs 0) false then text_rows last bs
     else onto (text_rows last bs) last b
 
 -- the text after the first row of a text: after its newline, or empty
@@ -89,20 +85,11 @@ abbrev pub good_rows : List (List ℕ) → List (List ℕ)
 good_rows [] = []
 good_rows (row ∷ rows) = if is_utf8 row then row ∷ good_rows rows else []
 
--- why a row isn't taken: it isn't UTF-8, which is this error, or else memory ran out
-abbrev pub row_fault : ReadlineError → List ℕ → ReadlineError
-row_fault broken row = if is_utf8 row then Memory else broken
-
 -- the entries of rows: empty rows give none
 abbrev pub entries_of : Bool → List (List ℕ) → List (List ℕ)
 entries_of escapes [] = []
 entries_of escapes ([] ∷ rows) = entries_of escapes rows
 entries_of escapes ((b ∷ bs) ∷ rows) = entry_of escapes (b ∷ bs) ∷ entries_of escapes rows
-
--- the history after the first row
-abbrev pub after_first : Filed → List ℕ → Filed
-after_first filed row =
-    if bytes_eq row header then filed else history_with_lines filed (entries_of false (row ∷ []))
 
 -- the texts that loading these rows adds, in order
 abbrev pub texts_of : List (List ℕ) → List (List ℕ)
@@ -138,10 +125,6 @@ pub record ReadsGood (text coming : List ℕ) : Type 0 where
   pub read : List ℕ
   pub split : text ≡ read ++ coming
   pub good : has_bad_row (text_rows Failed read) ≡ false
-
--- good rows read after this are good rows read from the text's start
-abbrev pub GoodUpTo : List ℕ → List ℕ → Type 0
-GoodUpTo text coming = (later : List ℕ) → ReadsGood coming later → ReadsGood text later
 
 -- whether a result says that the source failed
 abbrev pub says_reader : {A : Type 0} → Result A ReadlineError → Bool
@@ -230,7 +213,7 @@ pub record ReadsRow (old new : Feed) (bytes : List ℕ) (met : Bool)
       → (old.last ≡ Failed) × (new.coming ≡ []) × (text_rows old.last old.coming ≡ [])
   pub lost : IsTrue new.told → LosesRow old.coming new.coming
   pub good : IsTrue new.told → result ≡ Ok true → is_utf8 bytes ≡ true
-      → GoodUpTo old.coming new.coming
+      → (later : List ℕ) → ReadsGood new.coming later → ReadsGood old.coming later
   pub memory : IsTrue new.told → result ≡ Err Memory → ReadsGood old.coming new.coming
   pub ended : EndIsMet met new
   pub fault : IfErr result (λ e. (e ≡ Memory) ⊎ (e ≡ Reader))
@@ -298,4 +281,5 @@ pub record AddsRow (row : List ℕ) (took : Bool) (wanted before after : Filed)
   pub added : OnOk result (after ≡ wanted)
   pub text : OnOk result (is_utf8 row ≡ true)
   pub kept : OnErr result (after ≡ before)
-  pub fault : IfErr result (λ e. (e ≡ row_fault HistoryText row) × (0 < length row))
+  pub fault : IfErr result
+      (λ e. (e ≡ (if is_utf8 row then Memory else HistoryText)) × (0 < length row))

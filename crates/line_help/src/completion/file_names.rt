@@ -1,9 +1,10 @@
 //! Completion of file names, from lists of what folders contain.
-ghost use Rattle.std.specs.Prelude.{◌≡◌, ◌++◌, ℕ, List, length, take, IsTrue, IfOk, IfErr, IsCharBoundary, string_bytes, vec_items, Some};
+ghost use Rattle.std.specs.Prelude.{◌≡◌, ◌++◌, ℕ, List, nat_eq, length, take, IsTrue, IfOk, IfErr, IsCharBoundary, string_bytes, vec_items, Some};
 ghost use Rattle.std.specs.Cow.{cow_str_bytes};
 ghost use Rattle.line_config.specs.declared.errors.HookFault.TheVariants.{Memory};
 ghost use Rattle.line_help.specs.Completion.{Offered, completion_by};
-ghost use Rattle.line_help.specs.FileNames.{Named, path_word, path_after_quote, is_special, typed_path, name_of, folder_of, offered_name, offered_names, name_begins, unsorted_completion, path_completion, is_displayed_before};
+ghost use Rattle.line_help.specs.FileNames.{Named, path_word, path_after_quote, is_special, typed_path, name_of, folder_of, offered_name, offered_names, unsorted_completion, path_completion, is_displayed_before};
+ghost use Rattle.std.specs.List.{starts_with};
 ghost use Rattle.std.specs.List.Sorted.{IsSortedBy};
 ghost use Rattle.line_help.specs.Quotes.{text_with_escapes, escapes_in, escapes_at, unclosed_quote};
 ghost use Rattle.line_keys.specs.Replies.{Reply, Replies, gives, itself};
@@ -39,7 +40,7 @@ impl Model for Listed {
 
 impl Listed {
     fn begins_with(&self, name: &str) -> bool
-        ensures { result ≡ name_begins name.now self.now }
+        ensures { result ≡ starts_with nat_eq self.now.name name.now }
     {
         self.name.as_str().starts_with(name)
     }
