@@ -6,8 +6,7 @@ use Rattle.line_buffer.specs.Line.{Line}
 use Rattle.line_buffer.specs.Range.{delete}
 use Rattle.line_record.specs.Items.{Items}
 use Rattle.line_edits.specs.Edits.{char_steps, delete_steps, exchange_steps, back_steps}
-use Rattle.line_edits.specs.WriteSteps.{CutAlong, effect_of_steps, in_turn}
-use Rattle.line_edits.specs.Written.{Written, Writes, line_and_record}
+use Rattle.line_edits.specs.WriteSteps.{CutAlong, effect_of_steps, in_turn, Written, Writes, line_and_record}
 use Rattle.line_edits.proofs.StepLemmas.{stops_before, stops_behind, written_is}
 
 -- the clusters stay if that fails

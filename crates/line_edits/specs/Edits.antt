@@ -14,8 +14,7 @@ use Rattle.line_buffer.specs.declared.types.Movement.{Movement}
 use Rattle.line_buffer.specs.declared.types.WordAction.{WordAction}
 use Rattle.line_record.specs.Held.{line_back, has_step, ahead_back}
 use Rattle.line_record.specs.Ring.{Ring, ring_all}
-use Rattle.line_edits.specs.WriteSteps.{WriteSteps, Tells, Leaves, effect_of_steps, single_step, no_steps, steps_of_edit, in_turn, with_answer, steps_in_group, CutAlong}
-use Rattle.line_edits.specs.Written.{Written, Writes, line_and_record_in, group_opened}
+use Rattle.line_edits.specs.WriteSteps.{WriteSteps, Tells, Leaves, effect_of_steps, single_step, no_steps, steps_of_edit, in_turn, with_answer, steps_in_group, CutAlong, Written, Writes, line_and_record_in, group_opened}
 use Rattle.line_edits.specs.declared.recorded_line.RecordedLine.{RecordedLine}
 use Rattle.line_record.specs.Items.{Items, CutUndo, no_items, last_changes, ahead_on}
 

@@ -1,5 +1,5 @@
 -- Loading: one row after the other.
-use Rattle.std.proofs.Common.{◌≡◌, ℕ, ◌<◌, Bool, true, false, List, [], ◌∷◌, ◌++◌, length, refl, sym, ◌∙◌, ap, ap₂, arith, append_assoc, subst, suc}
+use Rattle.std.proofs.Common.{◌≡◌, ◌≢◌, ℕ, ◌<◌, Bool, true, false, List, [], ◌∷◌, ◌++◌, length, refl, sym, ◌∙◌, ap, ap₂, arith, append_assoc, subst, suc}
 use Rattle.std.specs.Prelude.{Result, if◌then◌else◌, ◌&&◌, not, IsTrue, IsUtf8, IfErr, Ok, Err, IsOk, bytes_eq}
 use Rattle.std.proofs.Math.Bool.{and-true, and_assoc}
 use Rattle.std.proofs.lemmas.Bool.{false_from_ne_true}
@@ -12,7 +12,7 @@ use Rattle.line_config.specs.declared.device.Last.{Last}
 use Rattle.line_config.specs.declared.errors.ReadlineError.{ReadlineError}
 use Rattle.line_config.specs.declared.errors.ReadlineError.TheVariants.{HistoryText, Memory}
 use Rattle.line_help.specs.History.{Filed, history_with_line, history_with_lines, takes_all, ignores_line}
-use Rattle.line_help.specs.HistoryText.{LosesRow, behind_row, behind_rows, follows, text_rows, entries_of, entry_of, good_rows, has_bad_row, header, load_answer, load_leaves, history_left_at, rows_answer, texts_of, LoadsSome, rest_after_load}
+use Rattle.line_help.specs.HistoryText.{LosesRow, behind_row, behind_rows, text_rows, entries_of, entry_of, good_rows, has_bad_row, header, load_answer, load_leaves, history_left_at, rows_answer, texts_of, LoadsSome, rest_after_load}
 use Rattle.line_help.proofs.RowLemmas.{GoodUpTo}
 
 pub not_utf8 : (bytes : List ℕ) → ¬ (IsUtf8 bytes) → is_utf8 bytes ≡ false
@@ -264,15 +264,15 @@ pub record EndsLoad (escapes : Bool) (last : Last) (text coming : List ℕ) (bef
   pub history : now ≡ history_with_lines before (entries_of escapes (good_rows (text_rows last text)))
   pub left : coming ≡ rest_after_load last text
 
-bad_if_followed : (good : Bool) → IsTrue (follows (Err (if good then Memory else HistoryText))) → good ≡ false
-bad_if_followed true f = cc
-bad_if_followed false f = refl
+bad_if_followed : (good : Bool) (result : Result Bool ReadlineError) → result ≡ Err (if good then Memory else HistoryText) → result ≢ Err Memory → good ≡ false
+bad_if_followed true result e f = absurd (f e)
+bad_if_followed false result e f = refl
 
 pub bad_row_ends : (escapes whole : Bool) (last : Last) (text here onward row : List ℕ) (before now : Filed) (result : Result Bool ReadlineError)
-    → text_rows last here ≡ row ∷ text_rows last onward → onward ≡ behind_row here → result ≡ Err (row_fault row) → IsTrue (follows result)
+    → text_rows last here ≡ row ∷ text_rows last onward → onward ≡ behind_row here → result ≡ Err (row_fault row) → result ≢ Err Memory
     → Underway escapes whole last text here before now → EndsLoad escapes last text onward before now result
 bad_row_ends escapes whole last text here onward row before now result r is e f so =
-    let bad : is_utf8 row ≡ false = bad_if_followed (is_utf8 row) (rw e at f) in
+    let bad : is_utf8 row ≡ false = bad_if_followed (is_utf8 row) result e f in
     let rows = text_rows last onward in
     let why : row_fault row ≡ HistoryText = rw bad refl in
     record {

@@ -1,6 +1,7 @@
 -- Names of files and folders for a partly typed path.
 use Rattle.std.specs.Prelude.{ℕ, ◌+◌, ◌-◌, ◌==◌, ◌||◌, Bool, not, List, [], ◌∷◌, ◌++◌, length, take, drop, map, filter, nat_eq, Option, Some, None, is_some, option_map, if◌then◌else◌}
 use Rattle.std.specs.List.{starts_with, suffix_len}
+use Rattle.std.specs.Option.{option_map_or}
 use Rattle.std.specs.Ordering.{is_lt, nat_cmp}
 use Rattle.std.specs.Cmp.Lexicographic.{slice_cmp}
 use Rattle.line_help.specs.Completion.{Offered, Completion, word_start, break_characters, double_quote_characters, is_among}
@@ -29,28 +30,22 @@ pub record Typed : Type 0 where
   pub path : List ℕ
   pub quote : Quote
 
-abbrev pub path_word : ℕ → List ℕ → Quote → Typed
-path_word start path quote = record { start = start; path = path; quote = quote }
-
 -- the characters before which a name needs an escape
 abbrev pub is_special : Quote → ℕ → Bool
 is_special Double c = is_among double_quote_characters c
 is_special quote c = is_among break_characters c
 
 -- after an open quote the path is the rest; otherwise it is the last word
-abbrev pub path_after_quote : ℕ → Quote → List ℕ → Typed
-path_after_quote start Double text =
-    path_word start (text_without_escapes (drop start text) (Some 92)) Double
-path_after_quote start quote text = path_word start (drop start text) quote
-
-abbrev pub path_by_quote : Option (ℕ × Quote) → List ℕ → Typed
-path_by_quote None text =
-    let start : ℕ = word_start (Some 92) (is_among break_characters) text in
-    path_word start (text_without_escapes (drop start text) (Some 92)) Unquoted
-path_by_quote (Some within) text = path_after_quote (within.0 + 1) within.1 text
-
 abbrev pub typed_path : List ℕ → Typed
-typed_path text = path_by_quote (unclosed_quote text) text
+typed_path text =
+    let quoted : Option (ℕ × Quote) = unclosed_quote text in
+    let word : ℕ = word_start (Some 92) (is_among break_characters) text in
+    let start : ℕ = option_map_or (λ it. it.0 + 1) quoted word in
+    let path : List ℕ = drop start text in record {
+      start = start;
+      path = if escapes_at quoted then text_without_escapes path (Some 92) else path;
+      quote = option_map_or (λ it. it.1) quoted Unquoted;
+    }
 
 -- a path is a folder, up to the last slash, and a name
 abbrev pub folder_len : List ℕ → ℕ

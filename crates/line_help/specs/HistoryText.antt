@@ -1,5 +1,6 @@
--- The text of a history: what is saved of a list of entries, and which entries a text gives.
-use Rattle.std.specs.Prelude.{◌≡◌, ℕ, zero, suc, ◌==◌, ◌&&◌, Bool, true, false, if◌then◌else◌, List, [], ◌∷◌, ◌++◌, flat_map, bytes_eq, codes, Option, Some, None, option_map, unwrap_or, Result, Ok, Err, IsTrue, ⊤, IfOk, IfErr, OnOk, OnErr, ◌⊎◌, ◌<◌, ◌≤◌, length, take, slice_get}
+-- Texts of rows: what is saved of a history, and which entries or words a text gives.
+use Rattle.std.specs.Prelude.{◌≡◌, ◌≢◌, map, String, string_bytes, ℕ, zero, suc, ◌==◌, ◌&&◌, Bool, true, false, if◌then◌else◌, List, [], ◌∷◌, ◌++◌, flat_map, bytes_eq, codes, Option, Some, None, option_map, unwrap_or, Result, Ok, Err, IsTrue, ⊤, IfOk, IfErr, OnOk, OnErr, ◌⊎◌, ◌<◌, ◌≤◌, length, take, slice_get}
+use Rattle.std.specs.Global.{Global, Vec}
 use Rattle.std.specs.List.{list_any}
 use Rattle.std.specs.Option.{option_map_or}
 use Rattle.std.specs.Result.{result_map_both}
@@ -8,7 +9,7 @@ use Rattle.line_config.specs.Feed.{Feed, GivesByte, GivesBytes, device_failed}
 use Rattle.line_config.specs.declared.device.Last.{Last}
 use Rattle.line_config.specs.declared.device.Last.TheVariants.{End, Failed}
 use Rattle.line_config.specs.declared.errors.ReadlineError.{ReadlineError}
-use Rattle.line_config.specs.declared.errors.ReadlineError.TheVariants.{Reader, HistoryText, Memory}
+use Rattle.line_config.specs.declared.errors.ReadlineError.TheVariants.{Reader, HistoryText, Memory, NotUtf8}
 use Rattle.line_help.specs.History.{Filed, newest, history_with_lines, takes_all, all_saved}
 use Rattle.line_config.specs.Sending.{Takes, TakesSome, Sends}
 
@@ -155,11 +156,6 @@ load_leaves last rows filed =
     let after : Filed = history_with_lines filed (texts_of (good_rows rows)) in
     if has_bad_row rows then after else history_left_at last after
 
--- whether such a result follows from the text alone: running out of memory doesn't
-abbrev pub follows : Result Bool ReadlineError → Bool
-follows (Err Memory) = false
-follows result = true
-
 -- a row without the carriage return at its end
 abbrev pub without_return : List ℕ → List ℕ
 without_return [] = []
@@ -244,9 +240,9 @@ pub record LoadsSome (texts : List (List ℕ) → List (List ℕ)) (last : Last)
 pub record LoadsAs (wanted : Result Bool ReadlineError) (filed : Filed)
     (texts : List (List ℕ) → List (List ℕ)) (old new : Feed) (before after : Filed)
     (result : Result Bool ReadlineError) : Type 0 where
-  pub answer : IsTrue new.told → IsTrue (follows result) → result ≡ wanted
-  pub history : IsTrue new.told → IsTrue (follows result) → after ≡ filed
-  pub left : IsTrue new.told → IsTrue (follows result)
+  pub answer : IsTrue new.told → result ≢ Err Memory → result ≡ wanted
+  pub history : IsTrue new.told → result ≢ Err Memory → after ≡ filed
+  pub left : IsTrue new.told → result ≢ Err Memory
       → new.coming ≡ rest_after_load old.last old.coming
   pub part : IsTrue new.told
       → OnErr result (LoadsSome texts old.last old.coming new.coming before after)
@@ -283,3 +279,23 @@ pub record AddsRow (row : List ℕ) (took : Bool) (wanted before after : Filed)
   pub kept : OnErr result (after ≡ before)
   pub fault : IfErr result
       (λ e. (e ≡ (if is_utf8 row then Memory else HistoryText)) × (0 < length row))
+
+-- the words of a text are its rows, split like a history's, but no empty ones; the text says what
+-- remains, unless memory ran out. All this holds if the source agrees with the assumption
+pub record LoadsWords (old new : Feed) (result : Result (Vec (String Global)) ReadlineError)
+    : Type 0 where
+  pub words : IsTrue new.told → IfOk result
+      (λ words. map string_bytes words.items ≡ entries_of false (text_rows old.last old.coming))
+  pub end : IsTrue new.told → IfOk result (λ words. old.last ≡ End)
+  pub broken : IsTrue new.told → result ≡ Err NotUtf8
+      → has_bad_row (text_rows old.last old.coming) ≡ true
+  pub cut : IsTrue new.told → result ≡ Err Reader
+      → (old.last ≡ Failed) × (has_bad_row (text_rows old.last old.coming) ≡ false)
+  pub memory : IsTrue new.told → result ≡ Err Memory → ReadsGood old.coming new.coming
+  pub left : IsTrue new.told → result ≢ Err Memory
+      → new.coming ≡ rest_after_load old.last old.coming
+  pub refused : IfErr result (λ e. (e ≡ Memory) ⊎ ((e ≡ NotUtf8) ⊎ (e ≡ Reader)))
+  pub failure : new.failed ≡ says_reader result
+  pub told : IsTrue new.told → IsTrue old.told
+  pub last : new.last ≡ old.last
+  pub keeps : new.bound ≤ old.bound

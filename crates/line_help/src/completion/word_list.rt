@@ -2,8 +2,7 @@
 ghost use Rattle.std.specs.Prelude.{◌≡◌, ◌<◌, if◌then◌else◌, ◌++◌, ◌∷◌, [], length, true, false, map, string_bytes, IsTrue, IfErr, OnOk};
 ghost use Rattle.std.specs.Str.{is_utf8};
 ghost use Rattle.line_config.specs.declared.errors.ReadlineError.TheVariants.{Memory, NotUtf8};
-ghost use Rattle.line_help.specs.HistoryText.{entries_of};
-ghost use Rattle.line_help.specs.WordList.{LoadsWords};
+ghost use Rattle.line_help.specs.HistoryText.{entries_of, LoadsWords};
 
 use crate::history::rows::RowReader;
 use line_config::{ReadlineError, Source};
