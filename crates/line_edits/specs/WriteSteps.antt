@@ -31,8 +31,7 @@ group_opened w = record { line = w.line; held = Opened w.line.text ∷ w.held }
 abbrev pub group_closed : Written → Written
 group_closed w = record { line = w.line; held = record_after_close w.held }
 
--- a call that succeeds has made the edit, and returns this answer; the record fits the line's text
--- even if the call failed
+-- a call that succeeds has made the edit and returns this answer; the record always fits the text
 pub record Writes {A E : Type 0} (edit : Written → Written) (answer : A) (before after : Line)
     (old new : Items) (result : Result A E) : Type 0 where
   pub answers : IfOk result (λ a. a ≡ answer)
@@ -58,8 +57,7 @@ effect_of_step (Leaves line) w = record { line = line; held = w.held }
 effect_of_step Marks w = group_opened w
 effect_of_step Closes w = group_closed w
 
--- one of the events failed: line and record followed those before it together, and neither that one
--- nor those after it
+-- one of the events failed: line and record followed those before it, together, and no more
 pub record CutEvents (events : List ChangeEvent) (w v : Written) : Type 0 where
   pub done : List ChangeEvent
   pub refused : ChangeEvent
@@ -116,8 +114,7 @@ steps_in_group edit = record { steps = Marks ∷ (edit.steps ++ (Closes ∷ []))
 
 -- ---- calls
 
--- a call that succeeds has made all steps of the edit, and returns their answer; one that fails has
--- made the first of them
+-- a call that succeeds has made all steps and returns the answer; one that fails made the first
 pub record Rewrites {A E : Type 0} (edit : WriteSteps A) (before after : Line) (old new : Items)
     (result : Result A E) : Type 0 where
   pub writes : Writes (effect_of_steps edit.steps) edit.answer before after old new result

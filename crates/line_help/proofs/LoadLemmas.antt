@@ -9,10 +9,11 @@ use Rattle.std.proofs.lemmas.Str.{IsUtf8-from_is_utf8, is_utf8-from_IsUtf8, IsUt
 use Rattle.std.proofs.lemmas.Slice.Eq.{bytes_eq-Decides}
 use lib.Utf8.{encode}
 use Rattle.line_config.specs.declared.device.Last.{Last}
+use Rattle.line_config.specs.declared.device.Last.TheVariants.{End, Failed}
 use Rattle.line_config.specs.declared.errors.ReadlineError.{ReadlineError}
 use Rattle.line_config.specs.declared.errors.ReadlineError.TheVariants.{HistoryText, Memory}
-use Rattle.line_help.specs.History.{Filed, history_with_line, history_with_lines, takes_all, ignores_line}
-use Rattle.line_help.specs.HistoryText.{LosesRow, behind_row, behind_rows, text_rows, entries_of, entry_of, good_rows, has_bad_row, header, load_answer, load_leaves, history_left_at, rows_answer, texts_of, LoadsSome, rest_after_load}
+use Rattle.line_help.specs.History.{Filed, all_saved, history_with_line, history_with_lines, takes_all, ignores_line}
+use Rattle.line_help.specs.HistoryText.{LosesRow, behind_row, behind_rows, text_rows, entries_of, entry_of, good_rows, has_bad_row, header, answer_at, load_answer, load_leaves, rows_answer, texts_of, LoadsSome, rest_after_load}
 use Rattle.line_help.proofs.RowLemmas.{GoodUpTo}
 
 pub not_utf8 : (bytes : List ℕ) → ¬ (IsUtf8 bytes) → is_utf8 bytes ≡ false
@@ -131,11 +132,26 @@ loaded_answer last h row rows e =
     ∙ ap (λ b. rows_answer last rows b)
     (ap (λ rs. bytes_eq row header && takes_all h (texts_of rs)) (good_more row rows e) ∙ takes_behind h row (good_rows rows) (bytes_eq row header))
 
+-- the history behind the last row
+abbrev history_left_at : Last → Filed → Filed
+history_left_at End filed = all_saved filed
+history_left_at Failed filed = filed
+
+-- a row that isn't UTF-8 comes before the failure of the source
+abbrev answer_with : Bool → Last → Bool → Result Bool ReadlineError
+answer_with bad last whole = if bad then Err HistoryText else answer_at last whole
+
+leaves_by : (bad : Bool) (last : Last) (whole : Bool) (h : Filed) → (if is_ok (answer_with bad last whole) then all_saved h else h) ≡ (if bad then h else history_left_at last h)
+leaves_by true last whole h = refl
+leaves_by false End whole h = refl
+leaves_by false Failed whole h = refl
+
 pub loaded_leaves : (last : Last) (h : Filed) (row : List ℕ) (rows : List (List ℕ)) → is_utf8 row ≡ true
     → load_leaves last (row ∷ rows) h ≡ (if has_bad_row rows then history_with_lines (after_first h row) (entries_of (bytes_eq row header) (good_rows rows))
     else history_left_at last (history_with_lines (after_first h row) (entries_of (bytes_eq row header) (good_rows rows))))
 loaded_leaves last h row rows e =
-    ap (λ b. if b then history_with_lines h (texts_of (good_rows (row ∷ rows))) else history_left_at last (history_with_lines h (texts_of (good_rows (row ∷ rows))))) (bad_more row rows e)
+    leaves_by (has_bad_row (row ∷ rows)) last _ (history_with_lines h (texts_of (good_rows (row ∷ rows))))
+    ∙ ap (λ b. if b then history_with_lines h (texts_of (good_rows (row ∷ rows))) else history_left_at last (history_with_lines h (texts_of (good_rows (row ∷ rows))))) (bad_more row rows e)
     ∙ ap (λ f. if has_bad_row rows then f else history_left_at last f) (loaded_left h row rows e)
 
 -- ---- what was loaded, and what is left

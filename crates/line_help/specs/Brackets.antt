@@ -79,8 +79,7 @@ match_place line pos bracket =
     else if is_closing bracket then option_map (λ n. length (take pos line) - 1 - n)
     (bytes_between bracket (partner bracket) 0 (reverse (take pos line))) else None
 
--- an opening bracket's match is its partner, after a text in which the brackets of their kind are
--- balanced; and nothing else is its match
+-- an opening bracket's match is exactly its partner behind a text balanced in their kind
 abbrev pub OpeningIsMatched : Type 0
 OpeningIsMatched = (line : List ℕ) (pos opening place : ℕ) → is_opening opening ≡ true
     → (match_place line pos opening ≡ Some place) ↔ ((between : List ℕ) × (after : List ℕ)

@@ -57,8 +57,7 @@ pub record Updates {L A E : Type 0} (takes refuses : L → ChangeEvent → L →
 abbrev pub is_escape : Option ℕ → ℕ → Bool
 is_escape esc c = option_map_or (λ e. c == e) esc false
 
--- the text before the word, both read from the end: the word begins after the nearest break
--- character without an escape before it
+-- the text before the last word, both read from the end: from the nearest unescaped break on
 abbrev pub before_word : Option ℕ → (ℕ → Bool) → List ℕ → List ℕ
 before_word esc breaks [] = []
 before_word esc breaks (c ∷ []) = if breaks c then c ∷ [] else []
@@ -111,8 +110,7 @@ EscapesComeBack = (text : List ℕ) (esc : ℕ) (breaks : ℕ → Bool) (quote :
 abbrev pub BeginsText : List ℕ → List ℕ → Type 0
 BeginsText front text = (rest : List ℕ) × (text ≡ front ++ rest)
 
--- the common prefix of texts is a text and a prefix of each, and each other text that is a prefix
--- of all is a prefix of it
+-- the common prefix is a text and a prefix of each; each other text that is so is a prefix of it
 abbrev pub CommonBeginningIsLongest : Type 0
 CommonBeginningIsLongest = (text : List ℕ) (others : List (List ℕ)) → IsUtf8 text →
     IsUtf8 (common_to_all text others)
@@ -123,8 +121,7 @@ CommonBeginningIsLongest = (text : List ℕ) (others : List (List ℕ)) → IsUt
 abbrev pub words_for : List ℕ → List (List ℕ) → List (List ℕ)
 words_for beginning words = filter (λ word. starts_with nat_eq word beginning) words
 
--- the completion of a text's last word, which whitespace precedes, by words, each as it is offered;
--- candidates take memory
+-- the completion of a text's last word by words, each as it is offered; candidates take memory
 abbrev pub words_reply : (List ℕ → Offered) → List (List ℕ) → List ℕ → Reply Completion
 words_reply offers words text =
     let start : ℕ = word_start None is_whitespace text in

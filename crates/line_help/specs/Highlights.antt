@@ -49,8 +49,7 @@ match_to_show line (Some bracket) =
     then option_map (λ place. (partner bracket.0, place)) (match_place line bracket.1 bracket.0)
     else None
 
--- the line with the match of this bracket in bold and blue, in memory that a match takes; every
--- other text as it is
+-- a line with its bracket's match in bold and blue, which takes memory; other texts as they are
 abbrev pub part_with_match : Option (ℕ × ℕ) → DisplayPart → List ℕ → Reply (List ℕ)
 part_with_match bracket (OfLine place) text = record {
   answer = Some (with_bold_byte text (match_to_show text bracket));

@@ -54,8 +54,7 @@ CanMake settings [] now = Unit {0}
 CanMake settings (step ∷ steps) now =
     CanStep step now × CanMake settings steps (after_step settings step now)
 
--- a saved text that isn't empty, loaded into a new history, gives the same as adding the saved
--- entries, and none is new
+-- loading a saved text that isn't empty gives the same as adding its entries, none of them new
 abbrev pub Reload : Type 0
 Reload =
     (settings : Settings) (filed : Filed) → text_to_save filed ≢ [] → CanComeBack filed.kept.entries

@@ -1,5 +1,5 @@
 -- Texts of rows: what is saved of a history, and which entries or words a text gives.
-use Rattle.std.specs.Prelude.{◌≡◌, ◌≢◌, map, String, string_bytes, ℕ, zero, suc, ◌==◌, ◌&&◌, Bool, true, false, if◌then◌else◌, List, [], ◌∷◌, ◌++◌, flat_map, bytes_eq, codes, Option, Some, None, option_map, unwrap_or, Result, Ok, Err, IsTrue, ⊤, IfOk, IfErr, OnOk, OnErr, ◌⊎◌, ◌<◌, ◌≤◌, length, take, slice_get}
+use Rattle.std.specs.Prelude.{◌≡◌, ◌≢◌, map, String, string_bytes, ℕ, zero, suc, ◌==◌, ◌&&◌, Bool, true, false, if◌then◌else◌, List, [], ◌∷◌, ◌++◌, flat_map, bytes_eq, codes, Option, Some, None, option_map, unwrap_or, Result, Ok, Err, is_ok, IsTrue, ⊤, IfOk, IfErr, OnOk, OnErr, ◌⊎◌, ◌<◌, ◌≤◌, length, take, slice_get}
 use Rattle.std.specs.Global.{Global, Vec}
 use Rattle.std.specs.List.{list_any}
 use Rattle.std.specs.Option.{option_map_or}
@@ -56,15 +56,13 @@ abbrev pub entry_of : Bool → List ℕ → List ℕ
 entry_of false row = row
 entry_of true row = unwrap_or (unescaped_row row) row
 
--- a byte before the rows of the following text. The last row needn't end in a newline, but a
--- failure of the source drops such a row
+-- a byte before the rows of the following text; a failure drops a last row without a newline
 abbrev pub onto : List (List ℕ) → Last → ℕ → List (List ℕ)
 onto (row ∷ rows) last b = (b ∷ row) ∷ rows
 onto [] End b = (b ∷ []) ∷ []
 onto [] Failed b = []
 
--- the rows of a text that this follows: they end at newlines, and a carriage return right before a
--- newline isn't part of its row
+-- the rows of a text that this follows; a carriage return right before a newline is in no row
 abbrev pub text_rows : Last → List ℕ → List (List ℕ)
 text_rows last [] = []
 text_rows last (b ∷ bs) = if b == 10 then [] ∷ text_rows last bs
@@ -147,14 +145,10 @@ load_answer last rows filed =
     rows_answer last rows (headed && takes_all filed (texts_of (good_rows rows)))
 
 -- the history after it: with all rows before an error, and with no new entry if there is none
-abbrev pub history_left_at : Last → Filed → Filed
-history_left_at End filed = all_saved filed
-history_left_at Failed filed = filed
-
 abbrev pub load_leaves : Last → List (List ℕ) → Filed → Filed
 load_leaves last rows filed =
     let after : Filed = history_with_lines filed (texts_of (good_rows rows)) in
-    if has_bad_row rows then after else history_left_at last after
+    if is_ok (load_answer last rows filed) then all_saved after else after
 
 -- a row without the carriage return at its end
 abbrev pub without_return : List ℕ → List ℕ

@@ -65,8 +65,7 @@ abbrev pub match_place : List ℕ → ℕ → Option ℕ
 match_place text pos =
     option_map (λ found. found.1) (match_to_show text (bracket_to_match text pos))
 
--- the text before it is plain; what follows it has no span. The mark's state is 0 at the start,
--- and 1 after the plain span
+-- by the mark's state: 0, a plain span before the match, and it; 1, the match; else nothing
 abbrev pub paints_match : Part → List ℕ → Mark → List Span
 paints_match (Line pos) text from =
     let match_span : List Span = record { len = 1; style = match_style } ∷ [] in

@@ -42,8 +42,7 @@ verdict_from unclosed (byte ∷ text) = if is_opening byte then verdict_from (by
 verdict_from [] [] = Valid None
 verdict_from (opening ∷ others) [] = Incomplete
 
--- no bracket stands between these places of a text: whatever is open, the verdict on the text from
--- the one place is that on the text from the other
+-- no bracket is between these places: whatever is open, the verdicts from both on are the same
 abbrev pub HasNoBracket : List ℕ → ℕ → ℕ → Type 0
 HasNoBracket text from upto = (unclosed : List ℕ)
     → verdict_from unclosed (drop from text) ≡ verdict_from unclosed (drop upto text)
