@@ -41,14 +41,12 @@ pub record Writes {A E : Type 0} (edit : Written → Written) (answer : A) (befo
 
 -- ---- steps
 
+-- line and record follow the events together, one after another, and at last the line is this; its
+-- cursor was moved, so it is this; a mark is set; all marks are closed
 pub data WriteStep : Type 0 where
-  -- line and record follow the events together, one after another; at last the line is this
   Tells : (events : List ChangeEvent) (line : Line) → WriteStep
-  -- the line is this: its cursor was moved
   Leaves : (line : Line) → WriteStep
-  -- a mark is set
   Marks : WriteStep
-  -- all marks are closed
   Closes : WriteStep
 
 abbrev pub effect_of_step : WriteStep → Written → Written

@@ -9,10 +9,14 @@ use Rattle.std.proofs.lemmas.List.Sums.{suffix_len_is}
 use Rattle.std.proofs.lemmas.Str.{IsCharBoundary-after_ascii}
 use Rattle.line_help.specs.Completion.{Offered}
 use Rattle.line_help.specs.Quotes.{closes_quote, unclosed_quote}
-use Rattle.line_help.specs.FileNames.{Named, folder_len, offered_name, offered_names, is_displayed_before}
+use Rattle.line_help.specs.FileNames.{Named, offered_name, offered_names, is_displayed_before}
 use Rattle.line_help.specs.declared.completion.quotes.Quote.{Quote}
 use Rattle.line_help.specs.declared.completion.quotes.Quote.TheVariants.{Double, Single, None as Unquoted}
 use Rattle.line_help.proofs.QuoteLemmas.{StandsIn, unclosed_stands}
+
+-- the length of the folder of a path
+abbrev pub folder_len : List ℕ → ℕ
+folder_len path = length path - suffix_len (λ b. not (b == 47)) path
 
 -- where the folder of a path ends
 pub slash_last : (path : List ℕ) (k : ℕ) → k < length path → get_or path k 0 ≡ 47 → ((i : ℕ) → k < i → i < length path → get_or path i 0 ≢ 47) → folder_len path ≡ k + 1

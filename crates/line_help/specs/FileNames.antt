@@ -1,6 +1,6 @@
 -- Names of files and folders for a partly typed path.
 use Rattle.std.specs.Prelude.{ℕ, ◌+◌, ◌-◌, ◌==◌, ◌||◌, Bool, not, List, [], ◌∷◌, ◌++◌, length, take, drop, map, filter, nat_eq, Option, Some, None, is_some, option_map, if◌then◌else◌}
-use Rattle.std.specs.List.{starts_with, suffix_len}
+use Rattle.std.specs.List.{after_last, starts_with, suffix_len}
 use Rattle.std.specs.Option.{option_map_or}
 use Rattle.std.specs.Ordering.{is_lt, nat_cmp}
 use Rattle.std.specs.Cmp.Lexicographic.{slice_cmp}
@@ -48,14 +48,8 @@ typed_path text =
     }
 
 -- a path is a folder, up to the last slash, and a name
-abbrev pub folder_len : List ℕ → ℕ
-folder_len path = length path - suffix_len (λ b. not (b == 47)) path
-
 abbrev pub folder_of : List ℕ → List ℕ
-folder_of path = take (folder_len path) path
-
-abbrev pub name_of : List ℕ → List ℕ
-name_of path = drop (folder_len path) path
+folder_of path = take (length path - suffix_len (λ b. not (b == 47)) path) path
 
 -- a name, with its folder and with escapes; a slash after a folder
 abbrev pub offered_name : Quote → List ℕ → Named → Offered
@@ -82,7 +76,7 @@ unsorted_completion list text =
     let listed : Reply (List Named) = list folder in record {
       answer = option_map (λ all. record {
         start = typed.start;
-        candidates = offered_names typed.quote folder (name_of typed.path) all;
+        candidates = offered_names typed.quote folder (after_last (λ b. b == 47) typed.path) all;
       }) listed.answer;
       takes = escapes_at (unclosed_quote text) || (listed.takes || is_some listed.answer);
     }

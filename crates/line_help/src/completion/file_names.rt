@@ -1,10 +1,10 @@
 //! Completion of file names, from lists of what folders contain.
-ghost use Rattle.std.specs.Prelude.{◌≡◌, ◌++◌, ℕ, List, nat_eq, drop, if◌then◌else◌, length, take, IsTrue, IfOk, IfErr, IsCharBoundary, string_bytes, vec_items, Some};
+ghost use Rattle.std.specs.Prelude.{◌≡◌, ◌==◌, ◌++◌, ℕ, List, nat_eq, drop, if◌then◌else◌, length, take, IsTrue, IfOk, IfErr, IsCharBoundary, string_bytes, vec_items, Some};
 ghost use Rattle.std.specs.Cow.{cow_str_bytes};
 ghost use Rattle.line_config.specs.declared.errors.HookFault.TheVariants.{Memory};
 ghost use Rattle.line_help.specs.Completion.{Offered, completion_by};
-ghost use Rattle.line_help.specs.FileNames.{Named, is_special, typed_path, name_of, folder_of, offered_name, offered_names, unsorted_completion, path_completion, is_displayed_before};
-ghost use Rattle.std.specs.List.{starts_with};
+ghost use Rattle.line_help.specs.FileNames.{Named, is_special, typed_path, folder_of, offered_name, offered_names, unsorted_completion, path_completion, is_displayed_before};
+ghost use Rattle.std.specs.List.{after_last, starts_with};
 ghost use Rattle.std.specs.List.Sorted.{IsSortedBy};
 ghost use Rattle.line_help.specs.Quotes.{text_with_escapes, text_without_escapes, escapes_at, unclosed_quote};
 ghost use Rattle.line_keys.specs.Replies.{Reply, Replies, gives, itself};
@@ -123,7 +123,7 @@ fn typed_path<'l>(alloc: Global, text: &'l str) -> Result<TypedPath<'l>, HookFau
 /// A path's folder, up to its last slash, and its name.
 fn split_path(path: &str) -> (&str, &str)
     ensures folder { result.0.now ≡ folder_of path.now }
-    ensures name { result.1.now ≡ name_of path.now }
+    ensures name { result.1.now ≡ after_last (λ b. b == 47) path.now }
 {
     match path.rfind('/') {
         Some(place) => path.split_at(place + 1),
