@@ -119,7 +119,7 @@ after_saving s now can r = by_case (now.history.unsaved == 0) refl where
 back_of_rest : (k : ℕ) (xs : List (List ℕ)) → CanComeBack xs → CanComeBack (drop k xs)
 back_of_rest zero xs can = can
 back_of_rest (suc k) [] can = tt
-back_of_rest (suc k) (x ∷ xs) can = back_of_rest k xs can.2
+back_of_rest (suc k) (x ∷ xs) can = back_of_rest k xs can.1
 
 rows_behind : (text : List ℕ) (rows more : List (List ℕ)) → text ≡ saved_text rows → text ++ rows_text more ≡ saved_text (rows ++ more)
 rows_behind text rows more is = ap (λ t. t ++ rows_text more) is ∙ ap (λ t. header ++ (10 ∷ t)) (sym (flat_map-append row_of rows more))

@@ -11,9 +11,9 @@ use lib.Utf8.{encode}
 use Rattle.line_config.specs.declared.device.Last.{Last}
 use Rattle.line_config.specs.declared.device.Last.TheVariants.{End, Failed}
 use Rattle.line_config.specs.declared.errors.ReadlineError.{ReadlineError}
-use Rattle.line_config.specs.declared.errors.ReadlineError.TheVariants.{HistoryText, Memory}
+use Rattle.line_config.specs.declared.errors.ReadlineError.TheVariants.{HistoryText, Memory, Reader}
 use Rattle.line_help.specs.History.{Filed, all_saved, history_with_line, history_with_lines, takes_all, ignores_line}
-use Rattle.line_help.specs.HistoryText.{LosesRow, behind_row, behind_rows, text_rows, entries_of, entry_of, good_rows, has_bad_row, header, answer_at, load_answer, load_leaves, rows_answer, texts_of, LoadsSome, rest_after_load}
+use Rattle.line_help.specs.HistoryText.{LosesRow, behind_row, behind_rows, text_rows, entries_of, entry_of, good_rows, has_bad_row, header, load_answer, load_leaves, rows_answer, texts_of, LoadsSome, rest_after_load}
 use Rattle.line_help.proofs.RowLemmas.{GoodUpTo}
 
 pub not_utf8 : (bytes : List ℕ) → ¬ (IsUtf8 bytes) → is_utf8 bytes ≡ false
@@ -61,7 +61,8 @@ pub left_more : (h : Filed) (escapes : Bool) (row : List ℕ) (rows : List (List
 left_more h escapes row rows e = ap (λ rs. history_with_lines h (entries_of escapes rs)) (good_more row rows e) ∙ left_step h escapes row (good_rows rows)
 
 outcome_more : (last : Last) (row : List ℕ) (rows : List (List ℕ)) (whole : Bool) → is_utf8 row ≡ true → rows_answer last (row ∷ rows) whole ≡ rows_answer last rows whole
-outcome_more last row rows whole e = rw e refl
+outcome_more End row rows whole e = rw e refl
+outcome_more Failed row rows whole e = rw e refl
 
 pub answer_more : (last : Last) (whole : Bool) (h : Filed) (escapes : Bool) (row : List ℕ) (rows : List (List ℕ)) → is_utf8 row ≡ true
     → rows_answer last (row ∷ rows) (whole && takes_all h (entries_of escapes (good_rows (row ∷ rows))))
@@ -98,7 +99,8 @@ pub left_bad : (h : Filed) (escapes : Bool) (row : List ℕ) (rows : List (List 
 left_bad h escapes row rows e = ap (λ rs. history_with_lines h (entries_of escapes rs)) (good_none row rows e)
 
 pub answer_bad : (last : Last) (row : List ℕ) (rows : List (List ℕ)) (whole : Bool) → is_utf8 row ≡ false → rows_answer last (row ∷ rows) whole ≡ Err HistoryText
-answer_bad last row rows whole e = rw e refl
+answer_bad End row rows whole e = rw e refl
+answer_bad Failed row rows whole e = rw e refl
 
 pub header_is_utf8 : is_utf8 header ≡ true
 unfolding is_utf8 chars encode
@@ -137,20 +139,27 @@ abbrev history_left_at : Last → Filed → Filed
 history_left_at End filed = all_saved filed
 history_left_at Failed filed = filed
 
--- a row that isn't UTF-8 comes before the failure of the source
-abbrev answer_with : Bool → Last → Bool → Result Bool ReadlineError
-answer_with bad last whole = if bad then Err HistoryText else answer_at last whole
+-- a row that isn't UTF-8, or a failure of the source, keeps what is new
+abbrev answer_with : Bool → Result Bool ReadlineError → Result Bool ReadlineError
+answer_with bad last = if bad then Err HistoryText else last
 
-leaves_by : (bad : Bool) (last : Last) (whole : Bool) (h : Filed) → (if is_ok (answer_with bad last whole) then all_saved h else h) ≡ (if bad then h else history_left_at last h)
-leaves_by true last whole h = refl
-leaves_by false End whole h = refl
-leaves_by false Failed whole h = refl
+saved_by : (bad whole : Bool) (h : Filed) → (if is_ok (answer_with bad (Ok whole)) then all_saved h else h) ≡ (if bad then h else all_saved h)
+saved_by true whole h = refl
+saved_by false whole h = refl
+
+kept_by : (bad : Bool) (h : Filed) → (if is_ok (answer_with bad (Err Reader)) then all_saved h else h) ≡ (if bad then h else h)
+kept_by true h = refl
+kept_by false h = refl
+
+leaves_by : (rows : List (List ℕ)) (last : Last) (whole : Bool) (h : Filed) → (if is_ok (rows_answer last rows whole) then all_saved h else h) ≡ (if has_bad_row rows then h else history_left_at last h)
+leaves_by rows End whole h = saved_by (has_bad_row rows) whole h
+leaves_by rows Failed whole h = kept_by (has_bad_row rows) h
 
 pub loaded_leaves : (last : Last) (h : Filed) (row : List ℕ) (rows : List (List ℕ)) → is_utf8 row ≡ true
     → load_leaves last (row ∷ rows) h ≡ (if has_bad_row rows then history_with_lines (after_first h row) (entries_of (bytes_eq row header) (good_rows rows))
     else history_left_at last (history_with_lines (after_first h row) (entries_of (bytes_eq row header) (good_rows rows))))
 loaded_leaves last h row rows e =
-    leaves_by (has_bad_row (row ∷ rows)) last _ (history_with_lines h (texts_of (good_rows (row ∷ rows))))
+    leaves_by (row ∷ rows) last _ (history_with_lines h (texts_of (good_rows (row ∷ rows))))
     ∙ ap (λ b. if b then history_with_lines h (texts_of (good_rows (row ∷ rows))) else history_left_at last (history_with_lines h (texts_of (good_rows (row ∷ rows))))) (bad_more row rows e)
     ∙ ap (λ f. if has_bad_row rows then f else history_left_at last f) (loaded_left h row rows e)
 

@@ -2,15 +2,14 @@
 use Rattle.std.specs.Prelude.{◌==◌, ℕ, if◌then◌else◌, List, [], ◌∷◌, ◌++◌, ◌≡◌, true, ◌≢◌}
 use Rattle.line_help.specs.History.{Settings, Filed, history_with_line, all_saved, history_with_lines, nothing_filed, newest}
 use Rattle.line_help.specs.HistoryText.{saved_text, text_to_append, without_return, text_rows, load_leaves, text_to_save}
-use Rattle.std.specs.List.{fold}
+use Rattle.std.specs.List.{fold, AllByRecursion}
 use Rattle.std.specs.Str.{is_utf8}
 use Rattle.line_config.specs.declared.device.Last.TheVariants.{End}
 
 -- each entry is UTF-8, as a text is, and none ends in a carriage return
 abbrev pub CanComeBack : List (List ℕ) → Type 0
-CanComeBack [] = Unit {0}
-CanComeBack (entry ∷ entries) =
-    (is_utf8 entry ≡ true) × (without_return entry ≡ entry) × CanComeBack entries
+CanComeBack entries =
+    AllByRecursion (λ entry. (is_utf8 entry ≡ true) × (without_return entry ≡ entry)) entries
 
 -- a new history, after a text was loaded into it
 abbrev pub history_from_text : Settings → List ℕ → Filed

@@ -1,5 +1,5 @@
 -- Texts of rows: what is saved of a history, and which entries or words a text gives.
-use Rattle.std.specs.Prelude.{◌≡◌, ◌≢◌, map, String, string_bytes, ℕ, zero, suc, ◌==◌, ◌&&◌, Bool, true, false, if◌then◌else◌, List, [], ◌∷◌, ◌++◌, flat_map, bytes_eq, codes, Option, Some, None, option_map, unwrap_or, Result, Ok, Err, is_ok, IsTrue, ⊤, IfOk, IfErr, OnOk, OnErr, ◌⊎◌, ◌<◌, ◌≤◌, length, take, slice_get}
+use Rattle.std.specs.Prelude.{◌≡◌, ◌≢◌, map, String, string_bytes, ℕ, zero, suc, ◌==◌, ◌&&◌, Bool, true, false, if◌then◌else◌, List, [], ◌∷◌, ◌++◌, flat_map, bytes_eq, codes, not, Option, Some, None, option_map, unwrap_or, Result, Ok, Err, is_ok, IsTrue, ⊤, IfOk, IfErr, OnOk, OnErr, ◌⊎◌, ◌<◌, ◌≤◌, length, take, slice_get}
 use Rattle.std.specs.Global.{Global, Vec}
 use Rattle.std.specs.List.{list_any}
 use Rattle.std.specs.Option.{option_map_or}
@@ -116,8 +116,7 @@ EndIsMet met feed = IsTrue met → (feed.failed ≡ false)
 
 -- whether a row isn't UTF-8
 abbrev pub has_bad_row : List (List ℕ) → Bool
-has_bad_row [] = false
-has_bad_row (row ∷ rows) = if is_utf8 row then has_bad_row rows else true
+has_bad_row rows = list_any (λ row. not (is_utf8 row)) rows
 
 -- each whole row that was read from a text is UTF-8, and this remains
 pub record ReadsGood (text coming : List ℕ) : Type 0 where
@@ -131,12 +130,9 @@ says_reader (Err Reader) = true
 says_reader result = false
 
 -- the result of reading rows: a row that isn't UTF-8 comes before the failure of the source
-abbrev pub answer_at : Last → Bool → Result Bool ReadlineError
-answer_at End whole = Ok whole
-answer_at Failed whole = Err Reader
-
 abbrev pub rows_answer : Last → List (List ℕ) → Bool → Result Bool ReadlineError
-rows_answer last rows whole = if has_bad_row rows then Err HistoryText else answer_at last whole
+rows_answer End rows whole = if has_bad_row rows then Err HistoryText else Ok whole
+rows_answer Failed rows whole = if has_bad_row rows then Err HistoryText else Err Reader
 
 -- the answer of a load: whether the header was there and no row was ignored
 abbrev pub load_answer : Last → List (List ℕ) → Filed → Result Bool ReadlineError
