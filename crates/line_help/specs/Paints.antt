@@ -68,9 +68,9 @@ match_place text pos =
 -- by the mark's state: 0, a plain span before the match, and it; 1, the match; else nothing
 abbrev pub paints_match : Part → List ℕ → Mark → List Span
 paints_match (Line pos) text from =
-    let match_span : List Span = record { len = 1; style = match_style } ∷ [] in
-    if from.state == 0 then option_map_or (λ place. record { len = place; style = plain } ∷ match_span)
-    (match_place text pos) [] else if from.state == 1 then match_span else []
+    let found : List Span = record { len = 1; style = match_style } ∷ [] in
+    if from.state == 0 then option_map_or (λ place. record { len = place; style = plain } ∷ found)
+    (match_place text pos) [] else if from.state == 1 then found else []
 paints_match part text from = []
 
 -- ---- the standard highlighter
