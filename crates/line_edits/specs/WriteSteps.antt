@@ -120,6 +120,9 @@ pub record Rewrites {A E : Type 0} (edit : WriteSteps A) (before after : Line) (
       (CutAlong edit.steps (line_and_record before old) (line_and_record after new))
 
 -- the same of a line with its record
-abbrev pub Edits : {A E : Type 0} → WriteSteps A → RecordedLine → RecordedLine → Result A E → Type 0
-Edits edit before after result =
-    Rewrites edit before.line after.line before.changes after.changes result
+pub record Edits {A E : Type 0} (edit : WriteSteps A) (before after : RecordedLine)
+    (result : Result A E) : Type 0 where
+  pub writes : Writes (effect_of_steps edit.steps) edit.answer
+      before.line after.line before.changes after.changes result
+  pub left : OnErr result
+      (CutAlong edit.steps (line_and_record_in before) (line_and_record_in after))
