@@ -1,6 +1,6 @@
 -- Loading: one row after the other.
 use Rattle.std.proofs.Common.{◌≡◌, ◌≢◌, ℕ, ◌<◌, Bool, true, false, List, [], ◌∷◌, ◌++◌, length, refl, sym, ◌∙◌, ap, ap₂, arith, append_assoc, subst, suc}
-use Rattle.std.specs.Prelude.{Result, if◌then◌else◌, ◌&&◌, not, IsTrue, IsUtf8, IfErr, Ok, Err, IsOk, bytes_eq}
+use Rattle.std.specs.Prelude.{Result, if◌then◌else◌, ◌&&◌, ◌||◌, not, IsTrue, IsUtf8, IfErr, Ok, Err, IsOk, bytes_eq}
 use Rattle.std.proofs.Math.Bool.{and-true, and_assoc}
 use Rattle.std.proofs.lemmas.Bool.{false_from_ne_true}
 use Rattle.std.specs.Result.{is_ok, MatchResult, OnOk}
@@ -174,7 +174,7 @@ all_in_turn : (h : Filed) (xs ys : List (List ℕ)) → history_with_lines h (xs
 all_in_turn h [] ys = refl
 all_in_turn h (x ∷ xs) ys = all_in_turn (history_with_line h x) xs ys
 
-good_one : (good bad after : Bool) → (if good then bad else true) ≡ false → (bad ≡ false → after ≡ false) → (if good then after else true) ≡ false
+good_one : (good bad after : Bool) → (not good || bad) ≡ false → (bad ≡ false → after ≡ false) → (not good || after) ≡ false
 good_one true bad after g h = h g
 good_one false bad after g h = g
 
