@@ -1,5 +1,5 @@
 -- What columns matter to, and what a history holds.
-use Rattle.std.proofs.Common.{◌≡◌, ℕ, zero, suc, ◌≤◌, Bool, true, false, List, [], ◌∷◌, ◌++◌, length, map, Option, None, Result, Ok, Err, refl, sym, ap, ◌∙◌, subst, append_assoc, append-nil, arith, if◌then◌else◌}
+use Rattle.std.proofs.Common.{◌≡◌, ℕ, zero, suc, ◌≤◌, Bool, true, false, List, [], ◌∷◌, ◌++◌, length, min, map, Option, None, Result, Ok, Err, refl, sym, ap, ◌∙◌, subst, append_assoc, append-nil, arith, if◌then◌else◌}
 use Rattle.std.proofs.lemmas.List.{map-append}
 use Rattle.std.specs.List.{flat_map}
 use Rattle.line_buffer.specs.declared.layout.Layout.{Layout}
@@ -11,7 +11,7 @@ use Rattle.line_editor.specs.LineRun.{first_line_state, line_played}
 use Rattle.line_editor.specs.EditSteps.{one}
 use Rattle.line_editor.specs.Values.{EditStep, Setting, shown_marks}
 use Rattle.line_editor.specs.Values.EditStep.{Draws as DrawStep, Helped as HelpStep}
-use Rattle.line_help.specs.History.{Filed, nothing_filed, ignores_line, history_with_lines, newest, count_of_unsaved}
+use Rattle.line_help.specs.History.{Filed, nothing_filed, ignores_line, history_with_lines, newest, entries_after}
 use Rattle.line_help.proofs.NewestLemmas.{all_new, length-newest, newest_behind}
 use Rattle.line_screen.specs.ScreenCalls.{Screen, ruler_of}
 use Rattle.keyline.specs.Events.{Course, Begins, Takes, Helped, Draws, asks_events, end_events, events_first, course_after_line, line_course, lines_kept, own_events, session, step_events}
@@ -158,7 +158,8 @@ kept_from (line ∷ lines) filed few = by_test (ignores_line filed.kept.settings
     next : Bool → Filed
     next b = record {
       kept = record { entries = if b then entries else newest max (entries ++ line ∷ []); settings = filed.kept.settings };
-      unsaved = count_of_unsaved filed.kept.settings entries line filed.unsaved;
+      unsaved = if ignores_line filed.kept.settings entries line then filed.unsaved
+          else min (filed.unsaved + 1) (length (entries_after filed.kept.settings entries line));
     }
 
     by_test : (b : Bool)

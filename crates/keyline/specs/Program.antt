@@ -9,7 +9,7 @@ use Rattle.line_config.specs.Feed.{Feed, fresh_feed}
 use Rattle.line_config.specs.declared.config.Config.{Config}
 use Rattle.line_config.specs.declared.settings.CompletionType.TheVariants.{Circular, List as AsList}
 use Rattle.line_keys.specs.Replies.{gives, gives_at_once}
-use Rattle.line_help.specs.Completion.{nothing_offered, word_reply}
+use Rattle.line_help.specs.Completion.{nothing_offered, text_offered, words_reply}
 use Rattle.line_help.specs.Paints.{Prompted, prompt_marks, standard_marks}
 use Rattle.line_help.specs.Validation.{bracket_reply}
 use Rattle.line_help.specs.declared.helpers.bracket_validator.MatchingBracketValidator.{MatchingBracketValidator}
@@ -105,8 +105,9 @@ abbrev pub edit_helping : Option EditHelper → Helping
 edit_helping = helper_from_hooks (λ helper line pos entries place. gives_at_once None)
     (λ helper text. option_map_or (λ validator. bracket_reply text) helper.validator
     (gives_at_once (Valid None)))
-    (λ helper line pos entries place. option_map_or (λ words. word_reply words (take pos line))
-    helper.completer (gives_at_once nothing_offered))
+    (λ helper line pos entries place. option_map_or
+    (λ words. words_reply text_offered words (take pos line)) helper.completer
+    (gives_at_once nothing_offered))
     (λ helper line start elected. option_map_or (λ words. gives (tt {0})) helper.completer
     (gives (tt {0})))
     (λ helper. prompt_marks helper.highlighter.spans standard_marks)

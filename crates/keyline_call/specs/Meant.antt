@@ -3,8 +3,7 @@ use Rattle.std.specs.Prelude.{◌≡◌, ◌≢◌, ◌≤◌, ◌==◌, ℕ, fa
 use Rattle.std.specs.Str.{IsUtf8}
 use Rattle.line_config.specs.Feed.{Feed, fresh_feed}
 use Rattle.line_config.specs.declared.device.Last.TheVariants.{End}
-use Rattle.line_help.specs.HistoryText.{entries_of}
-use Rattle.line_help.specs.WordList.{rows_to_come}
+use Rattle.line_help.specs.HistoryText.{entries_of, text_rows}
 use Rattle.line_config.specs.declared.config.Config.{Config}
 use Rattle.line_config.specs.declared.settings.EditMode.{EditMode}
 use Rattle.line_config.specs.declared.settings.EditMode.TheVariants.{Emacs, Vi}
@@ -55,4 +54,4 @@ whole text = fresh_feed text End
 -- the words of its rows; none for an empty text
 abbrev pub words_in : List ℕ → Option (List (List ℕ))
 words_in [] = None
-words_in (byte ∷ bytes) = Some (entries_of false (rows_to_come (whole (byte ∷ bytes))))
+words_in (byte ∷ bytes) = Some (entries_of false (text_rows End (byte ∷ bytes)))

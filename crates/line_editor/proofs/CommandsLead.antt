@@ -16,8 +16,7 @@ use Rattle.line_buffer.specs.declared.types.WordAction.{WordAction}
 use Rattle.line_buffer.specs.declared.types.WordAction.TheVariants.{Capitalize, Lowercase, Uppercase}
 use Rattle.line_edits.specs.Edits.{yank_steps, pop_group, update_steps, update_group, overwrite_steps, replace_group, replace_group_if_any, indent_steps, transpose_words_group, word_group, after_undo, by}
 use Rattle.line_edits.proofs.StepLemmas.{overwrite_steps_to}
-use Rattle.line_edits.specs.WriteSteps.{WriteSteps, effect_of_steps, with_answer, no_steps}
-use Rattle.line_edits.specs.Written.{Written, group_opened, group_closed}
+use Rattle.line_edits.specs.WriteSteps.{WriteSteps, effect_of_steps, with_answer, no_steps, Written, group_opened, group_closed}
 use Rattle.line_help.specs.Hints.{Hinted}
 use Rattle.line_keys.specs.Replies.{Reply}
 use Rattle.line_help.specs.Search.{Hit, entry_at}

@@ -8,7 +8,7 @@ use Rattle.line_config.specs.declared.errors.ReadlineError.{ReadlineError}
 use Rattle.line_config.specs.declared.errors.ReadlineError.TheVariants.{Memory}
 use Rattle.line_config.specs.declared.errors.HookFault.{HookFault}
 use Rattle.line_config.specs.declared.errors.HookFault.TheVariants.{Memory as HookMemory}
-use Rattle.line_edits.specs.Written.{Written, Writes, group_opened, line_and_record, line_and_record_in}
+use Rattle.line_edits.specs.WriteSteps.{Written, Writes, group_opened, line_and_record, line_and_record_in}
 use Rattle.line_edits.proofs.WrittenLemmas.{recorded_one}
 use Rattle.line_help.specs.Completion.{Offered, Completion, Updates}
 use Rattle.line_help.specs.declared.completion as completions

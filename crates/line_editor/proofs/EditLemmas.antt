@@ -11,8 +11,7 @@ use Rattle.line_config.specs.declared.errors.ReadlineError.{ReadlineError}
 use Rattle.line_config.specs.declared.errors.ReadlineError.TheVariants.{Memory}
 use Rattle.line_edits.specs.Edits.{transpose_chars_group, transpose_words_group, char_steps, kill_steps, text_steps, pop_group, replace_group, replace_group_if_any, overwrite_steps, by}
 use Rattle.line_edits.proofs.StepLemmas.{overwrite_steps_to}
-use Rattle.line_edits.specs.WriteSteps.{WriteSteps, with_answer, no_steps, CutAlong, Edits as EditsRecorded}
-use Rattle.line_edits.specs.Written.{Written, line_and_record_in}
+use Rattle.line_edits.specs.WriteSteps.{WriteSteps, with_answer, no_steps, CutAlong, Edits as EditsRecorded, Written, line_and_record_in}
 use Rattle.line_edits.specs.declared.recorded_line.RecordedLine.{RecordedLine}
 use Rattle.line_record.specs.Items.{record_on}
 use Rattle.line_help.specs.declared.completion as completions

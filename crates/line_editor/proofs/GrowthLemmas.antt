@@ -16,7 +16,7 @@ use Rattle.line_record.specs.Held.{HeldItem, line_back, line_before_item}
 use Rattle.line_record.specs.Held.HeldItem.{Opened, Stepped}
 use Rattle.line_edits.specs.Edits.{by}
 use Rattle.line_edits.proofs.StepLemmas.{overwrite_steps_to}
-use Rattle.line_edits.specs.Written.{Written}
+use Rattle.line_edits.specs.WriteSteps.{Written}
 
 either_line : (g b : Bool) (l m : Line) → l.growth ≡ g → m.growth ≡ g → (if b then l else m).growth ≡ g
 either_line g true l m h k = h

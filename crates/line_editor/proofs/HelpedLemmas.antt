@@ -6,7 +6,7 @@ use Rattle.std.specs.List.{FoldsTo}
 use Rattle.line_buffer.specs.Line.{Line}
 use Rattle.line_config.specs.declared.errors.ReadlineError.{ReadlineError}
 use Rattle.line_config.specs.declared.errors.ReadlineError.TheVariants.{Helper, Memory}
-use Rattle.line_edits.specs.Written.{group_opened}
+use Rattle.line_edits.specs.WriteSteps.{group_opened}
 use Rattle.line_config.specs.declared.errors.HookFault.{HookFault}
 use Rattle.line_config.specs.declared.errors.HookFault.TheVariants.{Failed as HookFailed, Memory as HookMemory}
 use Rattle.line_keys.specs.Replies.{Reply, fails, IsFaultOf}

@@ -12,7 +12,6 @@ use Rattle.line_help.specs.declared.helpers.highlight as highlights
 use Rattle.line_help.specs.declared.helpers.validate as verdicts
 use Rattle.line_help.specs.declared.history as histories
 use Rattle.line_help.specs.declared.history.search.SearchDirection.{SearchDirection}
-use Rattle.line_edits.specs.Edits.{CutUndoItems}
 use Rattle.line_record.specs.Items.{record_on}
 use Rattle.line_editor.specs.Drawing.{refresh_effect_behind}
 use Rattle.line_editor.specs.Modal.{Modal, Meeting, next_of}
@@ -28,7 +27,7 @@ use Rattle.line_editor.specs.declared.renderer as renderers
 use Rattle.line_editor.specs.declared.state.State.{State}
 use Rattle.line_editor.proofs.DoesLemmas.{does_as, does_both, does_cut_by, does_refused, is_err, stays_same}
 use Rattle.line_editor.proofs.StopsLemmas.{stops_taking, stops_taking_back}
-use Rattle.line_editor.proofs.UndoLemmas.{undone_partly}
+use Rattle.line_editor.proofs.UndoLemmas.{CutUndoItems, undone_partly}
 
 again_next : (empty : Bool) (q : Modal) (s : Setting) (v : Value) → (looks_again empty q s v).next ≡ Unknown
 again_next true q s v = refl

@@ -11,14 +11,13 @@ use Rattle.line_buffer.specs.declared.types.Movement.{Movement}
 use Rattle.line_buffer.proofs.ReplayedLemmas.{update_replayed, insert_replayed, yank_replayed, indent_replayed}
 use Rattle.line_buffer.proofs.SpanLemmas as spans
 use Rattle.line_edits.specs.Edits.{by, char_steps, yank_steps, update_steps, kill_steps, indent_steps}
-use Rattle.line_edits.specs.Written.{Written, after_edit, group_opened, group_closed}
 use Rattle.line_record.specs.Change.{Change}
 use Rattle.line_record.specs.Held.{HeldItem, change_of, join_of, step_of, has_mark, closes, group_with_change, record_after_close, line_back}
 use Rattle.line_record.specs.Held.HeldItem.{Opened, Stepped}
 use Rattle.line_record.specs.RecordCourse.{record_after_events}
 use Rattle.line_record.proofs.GroupLaws.{unchanged}
 use Rattle.line_editor.specs.Leads.{Reaches}
-use Rattle.line_edits.specs.WriteSteps.{steps_of_edit}
+use Rattle.line_edits.specs.WriteSteps.{steps_of_edit, Written, after_edit, group_opened, group_closed}
 use Rattle.line_record.proofs.StepLemmas.{steps_with_change, steps_with_change_if}
 
 on_reaches : (o : Option Change) (c d : Change) (place : ℕ) (first text after earlier : List ℕ) (held : List HeldItem) → Reaches first held earlier

@@ -8,7 +8,7 @@ use Rattle.line_buffer.specs.Clusters.{place_forward}
 use Rattle.line_buffer.specs.Range.{range_of}
 use Rattle.line_buffer.specs.declared.types.Movement.TheVariants.{ForwardChar}
 use Rattle.line_edits.specs.Edits.{clusters_after, replace_group, by, delete_steps}
-use Rattle.line_edits.specs.Written.{Written, group_opened}
+use Rattle.line_edits.specs.WriteSteps.{Written, group_opened}
 use Rattle.line_help.specs.Search.{Hit}
 use Rattle.line_keys.specs.Refreshing.{Ask}
 use Rattle.line_keys.specs.Refreshing.Ask.{Line as LineAsked}

@@ -5,8 +5,7 @@ use Rattle.std.specs.List.{FoldsTo}
 use Rattle.line_buffer.specs.declared.layout.Layout.{Layout}
 use Rattle.line_config.specs.declared.errors.ReadlineError.{ReadlineError}
 use Rattle.line_config.specs.declared.errors.ReadlineError.TheVariants.{Display, Helper, Memory}
-use Rattle.line_edits.specs.WriteSteps.{WriteSteps, CutAlong}
-use Rattle.line_edits.specs.Written.{group_opened}
+use Rattle.line_edits.specs.WriteSteps.{WriteSteps, CutAlong, group_opened}
 use Rattle.line_keys.specs.Replies.{Reply, fails}
 use Rattle.line_editor.specs.RenderCalls.{Call, Canvas, Marks, Ruler, MadeIn, CutCall, CutCalls}
 use Rattle.line_editor.specs.RenderCalls.Call.{Help}

@@ -18,7 +18,6 @@ use Rattle.line_buffer.proofs.ReplayedLemmas.{replayed_all-one, replayed_inserti
 use Rattle.line_buffer.proofs.SpanLemmas.{IsLater, place_forward-later, deletion_replays}
 use Rattle.line_edits.specs.Edits.{clusters_after, by, text_steps, update_steps, delete_steps, exchange_steps, overwrite_steps, transpose_words_steps, update_group}
 use Rattle.line_edits.proofs.StepLemmas.{overwrite_steps_to}
-use Rattle.line_edits.specs.Written.{Written, group_opened}
 use Rattle.line_help.specs.Search.{Hit}
 use Rattle.line_help.specs.declared.history.search.SearchDirection.{SearchDirection}
 use Rattle.line_help.specs.declared.history.search.SearchDirection.TheVariants.{Forward, Reverse}
@@ -39,7 +38,7 @@ use Rattle.line_editor.proofs.MeetKeeps.{Fact, KeptByEdits, meeting_keeps}
 use Rattle.line_editor.proofs.ReachLemmas.{undo_reached, ended_reaches, edit_reaches, group_reaches, typing_reaches, yanking_reaches, updating_reaches, indenting_reaches, killing_reaches, transposing_reaches}
 use Rattle.line_editor.proofs.ReplaysLemmas.{transpose_words_replays, edit_word_replays}
 use Rattle.line_editor.proofs.UndoLemmas.{undo_reaches, unmade_reached}
-use Rattle.line_edits.specs.WriteSteps.{with_answer, steps_of_edit}
+use Rattle.line_edits.specs.WriteSteps.{with_answer, steps_of_edit, Written, group_opened}
 
 -- ---- edits of a line with its record
 

@@ -6,9 +6,9 @@ use Rattle.line_config.specs.declared.errors.ReadlineError.{ReadlineError}
 use Rattle.line_config.specs.declared.errors.ReadlineError.TheVariants.{Memory}
 use Rattle.line_record.specs.Held.{HeldItem, line_back, has_step}
 use Rattle.line_record.specs.Held.HeldItem.{Opened, Stepped}
-use Rattle.line_record.specs.Items.{Item, items_with_texts, record_on}
+use Rattle.line_record.specs.Items.{Item, Items, CutUndo, items_with_texts, last_changes, no_items, record_on}
 use Rattle.line_record.specs.Items.Item.{Open, Lone, Group}
-use Rattle.line_edits.specs.Edits.{after_undo, CutUndoItems}
+use Rattle.line_edits.specs.Edits.{after_undo}
 use Rattle.line_editor.specs.Leads.{Reaches}
 use Rattle.line_help.specs.declared.completion as completions
 use Rattle.line_help.specs.declared.helpers.hint as hints
@@ -71,6 +71,10 @@ items_rest (suc n) (Open ∷ items) l h = items_rest n items l h
 items_rest (suc n) (Lone change ∷ items) l h = cc
 items_rest (suc n) (Group oldest newer ∷ items) l h = cc
 
+-- the newest of the changes were undone, but not the first of them; and the record is empty
+abbrev pub CutUndoItems : ℕ → Line → Line → Items → Items → Type 0
+CutUndoItems n before after old new = CutUndo (last_changes (max n 1) old.done) before after × (new ≡ no_items)
+
 module _ {Out H Hi K T : Type 0} {renderer : renderers.Renderer.Ghosts Out} {completer : completions.Completer.Ghosts H K} {candidate : completions.Candidate.Ghosts K}
     {hinter : hints.Hinter.Ghosts H T} {hint : hints.Hint.Ghosts T} {highlighter : highlights.Highlighter.Ghosts H} {validator : verdicts.Validator.Ghosts H} {history : histories.History.Ghosts Hi} where
   -- if memory ran out nothing is drawn
@@ -87,8 +91,8 @@ module _ {Out H Hi K T : Type 0} {renderer : renderers.Renderer.Ghosts Out} {com
     items = s.recorded.changes.done;
     stand = s.recorded.stand.0;
     held = refl;
-    line = part.line;
-    beside = left ∙ ap (λ k. record (value_of s) { line = t.recorded.line; held = record_on k t.recorded.line.text }) part.forgotten;
+    line = part.0;
+    beside = left ∙ ap (λ k. record (value_of s) { line = t.recorded.line; held = record_on k t.recorded.line.text }) part.1;
   }
 
   pub undo_refused : {A : Type 0} (n : ℕ) (s t : State Out H Hi K T renderer completer candidate hinter hint highlighter validator history) (result : Result A ReadlineError)

@@ -7,8 +7,7 @@ use Rattle.line_buffer.specs.declared.types.Anchor.{Anchor}
 use Rattle.line_config.specs.declared.errors.ReadlineError.{ReadlineError}
 use Rattle.line_config.specs.declared.errors.ReadlineError.TheVariants.{Memory}
 use Rattle.line_edits.specs.Edits.{yank_steps, by}
-use Rattle.line_edits.specs.WriteSteps.{WriteSteps, with_answer, Edits as EditsRecorded}
-use Rattle.line_edits.specs.Written.{Written, line_and_record, line_and_record_in}
+use Rattle.line_edits.specs.WriteSteps.{WriteSteps, with_answer, Edits as EditsRecorded, Written, line_and_record, line_and_record_in}
 use Rattle.line_edits.specs.declared.recorded_line.RecordedLine.{RecordedLine}
 use Rattle.line_record.specs.Items.{record_on}
 use Rattle.line_help.specs.declared.completion as completions

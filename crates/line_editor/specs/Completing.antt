@@ -5,7 +5,7 @@ use Rattle.line_buffer.specs.Line.{Line, with_replacement}
 use Rattle.line_buffer.specs.Event.{replacement}
 use Rattle.line_config.specs.declared.errors.HookFault.{HookFault}
 use Rattle.line_config.specs.declared.errors.HookFault.TheVariants.{Memory}
-use Rattle.line_edits.specs.Written.{Written, after_edit, group_opened, group_closed}
+use Rattle.line_edits.specs.WriteSteps.{Written, after_edit, group_opened, group_closed}
 use Rattle.line_help.specs.Completion.{longest_common_prefix, Offered, Completion, nothing_offered}
 use Rattle.line_keys.specs.Replies.{Reply, IsFaultOf}
 use Rattle.line_editor.specs.Drawing.{beep_effect, refresh_effect, effect_if}

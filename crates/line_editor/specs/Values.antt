@@ -6,8 +6,7 @@ use Rattle.line_buffer.specs.declared.layout.GraphemeClusterMode.{GraphemeCluste
 use Rattle.line_buffer.specs.declared.layout.TabStops.{TabStops}
 use Rattle.line_config.specs.declared.config.Config.{Config}
 use Rattle.line_edits.specs.Edits.{by}
-use Rattle.line_edits.specs.WriteSteps.{WriteSteps, with_answer}
-use Rattle.line_edits.specs.Written.{Written, group_opened, group_closed}
+use Rattle.line_edits.specs.WriteSteps.{WriteSteps, with_answer, Written, group_opened, group_closed}
 use Rattle.line_help.specs.Completion.{Completion}
 use Rattle.line_help.specs.Hints.{Hinted, Answers}
 use Rattle.line_help.specs.declared.helpers.style.Mark.{Mark}

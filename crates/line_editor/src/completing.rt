@@ -1,6 +1,6 @@
 //! Completion of the word before the cursor.
 ghost use Rattle.std.specs.Prelude.{◌≡◌, ◌≤◌, false, true, is_some, map, IfErr, IfOk, IfSome, OnOk, OnErr, IsCharBoundary, IsTrue, option_copied};
-ghost use Rattle.line_edits.specs.Written.{Writes, line_and_record, line_and_record_in};
+ghost use Rattle.line_edits.specs.WriteSteps.{Writes, line_and_record, line_and_record_in};
 ghost use Rattle.line_help.specs.Completion.{completion_by};
 ghost use Rattle.line_keys.specs.Replies.{Replies, fails, itself};
 ghost use Rattle.line_record.specs.Items.{ItemsStand};

@@ -1,14 +1,18 @@
 -- Clusters replaced by characters, if a step fails.
-use Rattle.std.specs.Prelude.{Ok}
+use Rattle.std.specs.Prelude.{Ok, ⊤}
 use Rattle.std.proofs.Common.{◌≡◌, ℕ, subst}
 use Rattle.line_buffer.specs.Insertions.{insert}
-use Rattle.line_buffer.specs.Line.{Line}
+use Rattle.line_buffer.specs.Clusters.{place_backward}
+use Rattle.line_buffer.specs.Line.{Line, with_cursor_at}
 use Rattle.line_buffer.specs.Range.{delete}
 use Rattle.line_record.specs.Items.{Items}
-use Rattle.line_edits.specs.Edits.{char_steps, delete_steps, exchange_steps, back_steps}
-use Rattle.line_edits.specs.WriteSteps.{CutAlong, effect_of_steps, in_turn}
-use Rattle.line_edits.specs.Written.{Written, Writes, line_and_record}
+use Rattle.line_edits.specs.Edits.{char_steps, delete_steps, exchange_steps}
+use Rattle.line_edits.specs.WriteSteps.{CutAlong, Leaves, WriteSteps, effect_of_steps, in_turn, single_step, Written, Writes, line_and_record}
 use Rattle.line_edits.proofs.StepLemmas.{stops_before, stops_behind, written_is}
+
+-- the cursor goes one cluster back
+abbrev back_steps : Line → WriteSteps ⊤
+back_steps l = single_step (Leaves (with_cursor_at (place_backward 1 l) l)) tt
 
 -- the clusters stay if that fails
 pub deletion_stopped : (c n count : ℕ) (l : Line) (w v : Written) → CutAlong (delete_steps n l).steps w v → CutAlong (exchange_steps c n count l).steps w v

@@ -16,8 +16,7 @@ use Rattle.line_record.specs.Ring.{Ring, ring_step, ring_all, ring_refuses}
 use Rattle.line_record.specs.RecordCourse.{record_after_events}
 use Rattle.line_record.specs.Together.{joined_takes, joined_refuses}
 use Rattle.line_edits.specs.Edits.{TookOrNot, ring_without_kill}
-use Rattle.line_edits.specs.WriteSteps.{CutEvents}
-use Rattle.line_edits.specs.Written.{line_and_record}
+use Rattle.line_edits.specs.WriteSteps.{CutEvents, line_and_record}
 use Rattle.line_edits.proofs.StepLemmas.{among}
 
 abbrev hears : Ring → ChangeEvent → Ring → Type 0

@@ -8,8 +8,7 @@ use Rattle.line_buffer.specs.Range.{range_of, goes_by_clusters, kill_events}
 use Rattle.line_buffer.proofs.KeptLemmas.{none_done, kill_cut, insert_few, yank_few}
 use Rattle.line_record.specs.RecordCourse.{record_after_events}
 use Rattle.line_edits.specs.Edits.{RefusedChangesLeaveAll, RefusedGroupsStayOpen}
-use Rattle.line_edits.specs.WriteSteps.{WriteStep, Closes, CutEvents, CutAlong, effect_of_step}
-use Rattle.line_edits.specs.Written.{Written, after_edit, group_opened}
+use Rattle.line_edits.specs.WriteSteps.{WriteStep, Closes, CutEvents, CutAlong, effect_of_step, Written, after_edit, group_opened}
 
 -- line and record after events
 abbrev after_events : List ChangeEvent → Written → Written

@@ -14,10 +14,9 @@ use Rattle.line_buffer.specs.declared.types.Movement.{Movement}
 use Rattle.line_buffer.specs.declared.types.WordAction.{WordAction}
 use Rattle.line_record.specs.Held.{line_back, has_step, ahead_back}
 use Rattle.line_record.specs.Ring.{Ring, ring_all}
-use Rattle.line_edits.specs.WriteSteps.{WriteSteps, Tells, Leaves, effect_of_steps, single_step, no_steps, steps_of_edit, in_turn, with_answer, steps_in_group, CutAlong}
-use Rattle.line_edits.specs.Written.{Written, Writes, line_and_record_in, group_opened}
+use Rattle.line_edits.specs.WriteSteps.{WriteSteps, Tells, Leaves, effect_of_steps, single_step, no_steps, steps_of_edit, in_turn, with_answer, steps_in_group, CutAlong, Written, Writes, line_and_record_in, group_opened}
 use Rattle.line_edits.specs.declared.recorded_line.RecordedLine.{RecordedLine}
-use Rattle.line_record.specs.Items.{Items, CutUndo, no_items, last_changes, ahead_on}
+use Rattle.line_record.specs.Items.{CutUndo, no_items, last_changes, ahead_on}
 
 -- the effect of an edit of the line on line and record
 abbrev pub by : {A : Type 0} → (Line → WriteSteps A) → Written → Written
@@ -43,8 +42,7 @@ update_steps text place l = steps_of_edit (update text place l)
 abbrev pub update_group : List ℕ → ℕ → Line → WriteSteps ⊤
 update_group text place l = steps_in_group (update_steps text place l)
 
--- ---- a yanked text replaced
-
+-- a yanked text replaced
 abbrev pub pop_group : ℕ → List ℕ → Line → WriteSteps ⊤
 pop_group size text l = steps_in_group (with_answer tt (steps_of_edit (yank_pop size text l)))
 
@@ -72,15 +70,13 @@ delete_steps n l = with_answer tt (steps_of_edit (delete n l))
 abbrev pub clusters_after : ℕ → Line → ℕ
 clusters_after n l = length (take n (graphemes true (text_after l)))
 
-abbrev pub back_steps : Line → WriteSteps ⊤
-back_steps l = single_step (Leaves (with_cursor_at (place_backward 1 l) l)) tt
-
 -- n clusters replaced by a character each, the cursor on the last one
 abbrev pub exchange_steps : ℕ → ℕ → ℕ → Line → WriteSteps ⊤
 exchange_steps c n count l =
-    let bare = (delete n l).line in
-    in_turn (delete_steps n l)
-    (in_turn (char_steps c count bare) (back_steps (insert c count bare).line))
+    let bare : Line = (delete n l).line in
+    let typed : Line = (insert c count bare).line in
+    in_turn (delete_steps n l) (in_turn (char_steps c count bare)
+    (single_step (Leaves (with_cursor_at (place_backward 1 typed) typed)) tt))
 
 abbrev pub replace_group : ℕ → ℕ → Line → WriteSteps ⊤
 replace_group c n l = steps_in_group (exchange_steps c n (clusters_after n l) l)
@@ -128,19 +124,17 @@ indent_steps movement amount dedent l =
 abbrev pub after_undo : ℕ → Written → Written
 after_undo n w = record { line = line_back (max n 1) w.held w.line; held = drop (max n 1) w.held }
 
--- the newest of the changes were undone; at least one, the first, was not; and the record is empty
-pub record CutUndoItems (n : ℕ) (before after : Line) (old new : Items) : Type 0 where
-  pub line : CutUndo (last_changes (max n 1) old.done) before after
-  pub forgotten : new ≡ no_items
-
--- n items are undone, 0 acting as 1, and can be redone; the answer is whether a step was among them
+-- n items are undone, 0 acting as 1, and can be redone; the answer is if a step was among them.
+-- If it fails, the newest changes of these were undone, not the first, and the record is empty
 pub record Undoes {E : Type 0} (n : ℕ) (before after : RecordedLine) (result : Result Bool E)
     : Type 0 where
   pub writes : Writes (after_undo n) (has_step (max n 1) (line_and_record_in before).held)
       before.line after.line before.changes after.changes result
   pub ahead : OnOk result (ahead_on after.changes after.line.text ≡ ahead_back (max n 1)
       (line_and_record_in before).held before.line.text (ahead_on before.changes before.line.text))
-  pub left : OnErr result (CutUndoItems n before.line after.line before.changes after.changes)
+  pub left : OnErr result
+      (CutUndo (last_changes (max n 1) before.changes.done) before.line after.line
+      × (after.changes ≡ no_items))
 
 -- ---- what a failed edit leaves
 

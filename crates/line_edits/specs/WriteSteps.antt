@@ -1,21 +1,53 @@
--- Edits by their steps, in order: the effect of an edit on a line and its record, and their state
--- if a step fails.
-use Rattle.std.specs.Prelude.{◌≡◌, ◌⊎◌, List, [], ◌∷◌, ◌++◌, Result, OnErr}
+-- A line with the record of its texts, and edits of both by their steps, also if a step fails.
+use Rattle.std.specs.Prelude.{◌≡◌, ◌⊎◌, List, [], ◌∷◌, ◌++◌, Result, IfOk, OnOk, OnErr}
 use Rattle.line_buffer.specs.Edit.{Edit}
 use Rattle.line_buffer.specs.Event.{ChangeEvent, TellsOfChange, line_after_events}
 use Rattle.line_buffer.specs.Line.{Line}
-use Rattle.line_record.specs.Items.{Items}
+use Rattle.line_record.specs.Items.{Items, ItemsStand, record_on}
 use Rattle.line_edits.specs.Written.{Written, Writes, line_and_record, line_and_record_in, after_edit, group_opened, group_closed}
+use Rattle.line_buffer.specs.Replay.{TellsOfChange, line_after_events}
+use Rattle.line_record.specs.Held.{HeldItem, Opened, record_after_close}
+use Rattle.line_record.specs.RecordCourse.{record_after_events}
 use Rattle.line_edits.specs.declared.recorded_line.RecordedLine.{RecordedLine}
 
+pub record Written : Type 0 where
+  pub line : Line
+  pub held : List HeldItem
+
+abbrev pub line_and_record : Line → Items → Written
+line_and_record line changes = record { line = line; held = record_on changes line.text }
+
+abbrev pub line_and_record_in : RecordedLine → Written
+line_and_record_in r = line_and_record r.line r.changes
+
+-- an edit by its events, and the line that it leaves
+abbrev pub after_edit : List ChangeEvent → Line → Written → Written
+after_edit events line w =
+    record { line = line; held = record_after_events events w.line.text w.held }
+
+-- a mark set, and all marks closed
+abbrev pub group_opened : Written → Written
+group_opened w = record { line = w.line; held = Opened w.line.text ∷ w.held }
+
+abbrev pub group_closed : Written → Written
+group_closed w = record { line = w.line; held = record_after_close w.held }
+
+-- a call that succeeds has made the edit and returns this answer; the record always fits the text
+pub record Writes {A E : Type 0} (edit : Written → Written) (answer : A) (before after : Line)
+    (old new : Items) (result : Result A E) : Type 0 where
+  pub answers : IfOk result (λ a. a ≡ answer)
+  pub line : OnOk result (after ≡ (edit (line_and_record before old)).line)
+  pub held : OnOk result (record_on new after.text ≡ (edit (line_and_record before old)).held)
+  pub stand : ItemsStand new after.text
+
+-- ---- steps
+
+-- line and record follow the events together, one after another, and at last the line is this; its
+-- cursor was moved, so it is this; a mark is set; all marks are closed
 pub data WriteStep : Type 0 where
-  -- line and record follow the events together, one after another; at last the line is this
   Tells : (events : List ChangeEvent) (line : Line) → WriteStep
-  -- the line is this: its cursor was moved
   Leaves : (line : Line) → WriteStep
-  -- a mark is set
   Marks : WriteStep
-  -- all marks are closed
   Closes : WriteStep
 
 abbrev pub effect_of_step : WriteStep → Written → Written
@@ -24,8 +56,7 @@ effect_of_step (Leaves line) w = record { line = line; held = w.held }
 effect_of_step Marks w = group_opened w
 effect_of_step Closes w = group_closed w
 
--- one of the events failed: line and record followed those before it together, and neither that one
--- nor those after it
+-- one of the events failed: line and record followed those before it, together, and no more
 pub record CutEvents (events : List ChangeEvent) (w v : Written) : Type 0 where
   pub done : List ChangeEvent
   pub refused : ChangeEvent
@@ -82,8 +113,7 @@ steps_in_group edit = record { steps = Marks ∷ (edit.steps ++ (Closes ∷ []))
 
 -- ---- calls
 
--- a call that succeeds has made all steps of the edit, and returns their answer; one that fails has
--- made the first of them
+-- a call that succeeds has made all steps and returns the answer; one that fails made the first
 pub record Rewrites {A E : Type 0} (edit : WriteSteps A) (before after : Line) (old new : Items)
     (result : Result A E) : Type 0 where
   pub writes : Writes (effect_of_steps edit.steps) edit.answer before after old new result

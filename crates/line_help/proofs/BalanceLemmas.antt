@@ -1,12 +1,17 @@
 -- Verdicts on brackets, and the texts in which they are balanced.
-use Rattle.std.proofs.Common.{◌≡◌, ◌≢◌, ◌⊎◌, inl, inr, ℕ, Bool, true, false, List, [], ◌∷◌, ◌++◌, map, refl, sym, ap, ◌∙◌, append_assoc, Some, None}
+use Rattle.std.proofs.Common.{◌≡◌, ◌≢◌, ◌⊎◌, inl, inr, ℕ, Bool, true, false, List, [], ◌∷◌, ◌++◌, map, drop, refl, sym, ap, ◌∙◌, append_assoc, Some, None}
 use Rattle.std.specs.Prelude.{◌==◌, ◌||◌, ◌&&◌}
 use Rattle.std.proofs.lemmas.Bool.{and_parts, eq-eqb, eqb-true}
+use Rattle.std.specs.List.{list_any}
 use Rattle.std.proofs.lemmas.List.{append-nil}
-use Rattle.line_help.specs.Brackets.{all_kinds, are_kind, is_opening, is_closing, partner, Balanced, empty, other, pair}
-use Rattle.line_help.specs.Validation.{verdict_from, mismatch, closes_innermost, without_innermost, bracket_verdict, ValidIsBalanced, IncompleteIsBegun, InvalidIsLost}
+use Rattle.line_help.specs.Brackets.{all_kinds, is_opening, is_closing, partner, Balanced, empty, other, pair}
+use Rattle.line_help.specs.Validation.{verdict_from, mismatch, closes_innermost, bracket_verdict, ValidIsBalanced, IncompleteIsBegun, InvalidIsLost}
 use Rattle.line_help.specs.declared.helpers.validate.ValidationResult.{ValidationResult}
 use Rattle.line_help.specs.declared.helpers.validate.ValidationResult.TheVariants.{Incomplete, Invalid, Valid}
+
+-- whether two bytes are brackets of one kind
+abbrev pub are_kind : List (ℕ × ℕ) → ℕ → ℕ → Bool
+are_kind kinds opening closing = list_any (λ kind. (opening == kind.0) && (closing == kind.1)) kinds
 
 -- what is known of the two brackets of a kind
 pub record Kind (opening closing : ℕ) : Type 0 where
@@ -71,7 +76,7 @@ pub opens_step : (unclosed : List ℕ) (b : ℕ) (text : List ℕ) → is_openin
 opens_step unclosed b text h = rw h refl
 
 pub closes_step : (unclosed : List ℕ) (b : ℕ) (text : List ℕ) → is_opening b ≡ false → is_closing b ≡ true → closes_innermost b unclosed ≡ true
-    → verdict_from unclosed (b ∷ text) ≡ verdict_from (without_innermost unclosed) text
+    → verdict_from unclosed (b ∷ text) ≡ verdict_from (drop 1 unclosed) text
 closes_step unclosed b text h i j = rw (h, i, j) refl
 
 pub fails_step : (unclosed : List ℕ) (b : ℕ) (text : List ℕ) → is_opening b ≡ false → is_closing b ≡ true → closes_innermost b unclosed ≡ false → verdict_from unclosed (b ∷ text) ≡ mismatch b unclosed
@@ -84,11 +89,11 @@ passes_step unclosed b text h i = rw (h, i) refl
 pub record Reading (P : List ℕ → List ℕ → Type 0) : Type 0 where
   pub at_end : (unclosed : List ℕ) → P unclosed []
   pub at_opening : (unclosed : List ℕ) (b : ℕ) (text : List ℕ) → is_opening b ≡ true → P (b ∷ unclosed) text → P unclosed (b ∷ text)
-  pub at_closing : (unclosed : List ℕ) (b : ℕ) (text : List ℕ) → is_opening b ≡ false → is_closing b ≡ true → closes_innermost b unclosed ≡ true → P (without_innermost unclosed) text → P unclosed (b ∷ text)
+  pub at_closing : (unclosed : List ℕ) (b : ℕ) (text : List ℕ) → is_opening b ≡ false → is_closing b ≡ true → closes_innermost b unclosed ≡ true → P (drop 1 unclosed) text → P unclosed (b ∷ text)
   pub at_failure : (unclosed : List ℕ) (b : ℕ) (text : List ℕ) → is_opening b ≡ false → is_closing b ≡ true → closes_innermost b unclosed ≡ false → P unclosed (b ∷ text)
   pub at_other : (unclosed : List ℕ) (b : ℕ) (text : List ℕ) → is_opening b ≡ false → is_closing b ≡ false → P unclosed text → P unclosed (b ∷ text)
 
-one_byte : (P : List ℕ → List ℕ → Type 0) → Reading P → (unclosed : List ℕ) (b : ℕ) (text : List ℕ) → P (b ∷ unclosed) text → P (without_innermost unclosed) text → P unclosed text
+one_byte : (P : List ℕ → List ℕ → Type 0) → Reading P → (unclosed : List ℕ) (b : ℕ) (text : List ℕ) → P (b ∷ unclosed) text → P (drop 1 unclosed) text → P unclosed text
     → (p q r : Bool) → is_opening b ≡ p → is_closing b ≡ q → closes_innermost b unclosed ≡ r → P unclosed (b ∷ text)
 one_byte P reading unclosed b text deeper higher level true q r h i j = reading.at_opening unclosed b text h deeper
 one_byte P reading unclosed b text deeper higher level false true true h i j = reading.at_closing unclosed b text h i j higher
@@ -98,13 +103,13 @@ one_byte P reading unclosed b text deeper higher level false false r h i j = rea
 pub read : (P : List ℕ → List ℕ → Type 0) → Reading P → (unclosed text : List ℕ) → P unclosed text
 read P reading unclosed [] = reading.at_end unclosed
 read P reading unclosed (b ∷ text) =
-    one_byte P reading unclosed b text (read P reading (b ∷ unclosed) text) (read P reading (without_innermost unclosed) text) (read P reading unclosed text) _ _ _ refl refl refl
+    one_byte P reading unclosed b text (read P reading (b ∷ unclosed) text) (read P reading (drop 1 unclosed) text) (read P reading unclosed text) _ _ _ refl refl refl
 
 abbrev pub AllOpening : List ℕ → Type 0
 AllOpening [] = Unit {0}
 AllOpening (opening ∷ others) = (is_opening opening ≡ true) × AllOpening others
 
-all_but_innermost : (unclosed : List ℕ) → AllOpening unclosed → AllOpening (without_innermost unclosed)
+all_but_innermost : (unclosed : List ℕ) → AllOpening unclosed → AllOpening (drop 1 unclosed)
 all_but_innermost [] all = tt
 all_but_innermost (opening ∷ others) all = all.1
 
@@ -135,7 +140,7 @@ closes_at_opening unclosed b text h later valid all =
     let closed : Closed (b ∷ unclosed) text = later (sym (opens_step unclosed b text h) ∙ valid) (h, all) in
     rw closed.2 (closed_behind_pair unclosed b closed.0 closed.1 h closed.3 closed.4)
 
-closes_at_closing : (unclosed : List ℕ) (b : ℕ) (text : List ℕ) → is_opening b ≡ false → is_closing b ≡ true → closes_innermost b unclosed ≡ true → ValidCloses (without_innermost unclosed) text → ValidCloses unclosed (b ∷ text)
+closes_at_closing : (unclosed : List ℕ) (b : ℕ) (text : List ℕ) → is_opening b ≡ false → is_closing b ≡ true → closes_innermost b unclosed ≡ true → ValidCloses (drop 1 unclosed) text → ValidCloses unclosed (b ∷ text)
 closes_at_closing [] b text h i j later valid all = absurd cc
 closes_at_closing (opening ∷ others) b text h i j later valid all =
     let same : partner opening ≡ b = eqb-true (partner opening) b j in
@@ -197,7 +202,7 @@ data Step (unclosed : List ℕ) (b : ℕ) : Type 0 where
 
 step_by : (unclosed : List ℕ) (b : ℕ) (p q r : Bool) → is_opening b ≡ p → is_closing b ≡ q → closes_innermost b unclosed ≡ r → Step unclosed b
 step_by unclosed b true q r h i j = goes_on (b ∷ unclosed) (λ text. opens_step unclosed b text h) (λ all. (h, all))
-step_by unclosed b false true true h i j = goes_on (without_innermost unclosed) (λ text. closes_step unclosed b text h i j) (all_but_innermost unclosed)
+step_by unclosed b false true true h i j = goes_on (drop 1 unclosed) (λ text. closes_step unclosed b text h i j) (all_but_innermost unclosed)
 step_by unclosed b false true false h i j =
     let found = mismatch_invalid b unclosed in fails found.0 (λ text. fails_step unclosed b text h i j ∙ found.1)
 step_by unclosed b false false r h i j = goes_on unclosed (λ text. passes_step unclosed b text h i) (λ all. all)

@@ -1,11 +1,12 @@
 -- A history and its text stand together after each step.
 use Rattle.std.proofs.Common.{◌≡◌, ℕ, zero, suc, ◌+◌, ◌-◌, ◌≤◌, ◌<◌, ◌⊎◌, inl, inr, Bool, true, false, List, [], ◌∷◌, ◌++◌, length, drop, min, refl, sym, ◌∙◌, ap, subst, arith}
 use Rattle.std.specs.Prelude.{◌==◌}
+use Rattle.std.specs.List.{fold}
 use Rattle.std.proofs.Math.Nat.{min-eq_left, min-eq_right}
 use Rattle.std.proofs.lemmas.Bool.Decides.{Decides-eqb}
 use Rattle.std.proofs.lemmas.Grind.{flat_map-append}
 use Rattle.std.proofs.lemmas.List.{append-nil, append_assoc, length-append}
-use Rattle.line_help.specs.HistoryCourse.{WrittenHistory, HistoryStep, Adds, Saves, Appends, Loads, after_step, after_steps, CanStep, CanMake, CanComeBack, history_from_text, history_made_of, TextKeepsUp}
+use Rattle.line_help.specs.HistoryCourse.{WrittenHistory, HistoryStep, Adds, Saves, Appends, Loads, after_step, CanStep, CanMake, CanComeBack, history_from_text, history_made_of, TextKeepsUp}
 use Rattle.line_help.specs.History.{Settings, Filed, entries_after, all_saved, history_with_line, ignores_line, newest, nothing_filed}
 use Rattle.line_help.specs.HistoryText.{header, row_of, rows_text, saved_text}
 use Rattle.line_help.proofs.InTurnLemmas.{InTurn, added_all, added_in_parts, added_when, all_in_turn, all_small, filed_kept, gives_itself, overwritten, stays_in_turn, stays_small}
@@ -118,7 +119,7 @@ after_saving s now can r = by_case (now.history.unsaved == 0) refl where
 back_of_rest : (k : ℕ) (xs : List (List ℕ)) → CanComeBack xs → CanComeBack (drop k xs)
 back_of_rest zero xs can = can
 back_of_rest (suc k) [] can = tt
-back_of_rest (suc k) (x ∷ xs) can = back_of_rest k xs can.2
+back_of_rest (suc k) (x ∷ xs) can = back_of_rest k xs can.1
 
 rows_behind : (text : List ℕ) (rows more : List (List ℕ)) → text ≡ saved_text rows → text ++ rows_text more ≡ saved_text (rows ++ more)
 rows_behind text rows more is = ap (λ t. t ++ rows_text more) is ∙ ap (λ t. header ++ (10 ∷ t)) (sym (flat_map-append row_of rows more))
@@ -165,6 +166,10 @@ after_one s now (Adds line) can r = after_adding s now line r
 after_one s now Saves can r = after_saving s now can r
 after_one s now Appends can r = after_appending s now can r
 after_one s now Loads can r = after_loading s now r
+
+-- what steps make of a history and its text
+abbrev after_steps : Settings → List HistoryStep → WrittenHistory → WrittenHistory
+after_steps s steps now = fold (λ n step. after_step s step n) now steps
 
 after_all : (s : Settings) (steps : List HistoryStep) (now : WrittenHistory) → CanMake s steps now → Stands s now → Stands s (after_steps s steps now)
 after_all s [] now can r = r

@@ -1,7 +1,7 @@
 -- Paths cut at their last slash, and listed names one after the other.
 use Rattle.std.proofs.Common.{◌≡◌, ◌≢◌, ℕ, ◌+◌, ◌-◌, ◌<◌, ◌==◌, not, true, false, List, [], ◌∷◌, ◌++◌, length, get_or, drop, Some, refl, sym, ap, ◌∙◌, arith, add-one, drop-cons, append_assoc, ne_eqb}
-use Rattle.std.specs.Prelude.{IsUtf8, IsCharBoundary}
-use Rattle.std.specs.List.{suffix_len}
+use Rattle.std.specs.Prelude.{nat_eq, IsUtf8, IsCharBoundary}
+use Rattle.std.specs.List.{starts_with, suffix_len}
 use Rattle.std.specs.Cmp.{IsStrictWeakOrder}
 use Rattle.std.specs.Cmp.Lexicographic.{nat_list_cmp_total}
 use Rattle.std.proofs.lemmas.List.Sorted.{ranks_by}
@@ -9,10 +9,14 @@ use Rattle.std.proofs.lemmas.List.Sums.{suffix_len_is}
 use Rattle.std.proofs.lemmas.Str.{IsCharBoundary-after_ascii}
 use Rattle.line_help.specs.Completion.{Offered}
 use Rattle.line_help.specs.Quotes.{closes_quote, unclosed_quote}
-use Rattle.line_help.specs.FileNames.{Named, folder_len, name_begins, offered_name, offered_names, is_displayed_before}
+use Rattle.line_help.specs.FileNames.{Named, offered_name, offered_names, is_displayed_before}
 use Rattle.line_help.specs.declared.completion.quotes.Quote.{Quote}
 use Rattle.line_help.specs.declared.completion.quotes.Quote.TheVariants.{Double, Single, None as Unquoted}
 use Rattle.line_help.proofs.QuoteLemmas.{StandsIn, unclosed_stands}
+
+-- the length of the folder of a path
+abbrev pub folder_len : List ℕ → ℕ
+folder_len path = length path - suffix_len (λ b. not (b == 47)) path
 
 -- where the folder of a path ends
 pub slash_last : (path : List ℕ) (k : ℕ) → k < length path → get_or path k 0 ≡ 47 → ((i : ℕ) → k < i → i < length path → get_or path i 0 ≢ 47) → folder_len path ≡ k + 1
@@ -45,22 +49,22 @@ behind_quote text within u e =
 at_name : (all : List Named) (i : ℕ) (named : Named) → i < length all → named ≡ get_or all i named → drop i all ≡ named ∷ drop (i + 1) all
 at_name all i named inside is = rw (add-one, drop-cons all i named, ← is) refl
 
-pub name_taken : (quote : Quote) (folder name : List ℕ) (all : List Named) (i : ℕ) (named : Named) (done : List Offered) → i < length all → named ≡ get_or all i named → name_begins name named ≡ true
+pub name_taken : (quote : Quote) (folder name : List ℕ) (all : List Named) (i : ℕ) (named : Named) (done : List Offered) → i < length all → named ≡ get_or all i named → starts_with nat_eq named.name name ≡ true
     → done ++ offered_names quote folder name (drop i all) ≡ (done ++ (offered_name quote folder named ∷ [])) ++ offered_names quote folder name (drop (i + 1) all)
 name_taken quote folder name all i named done inside is begins =
     rw (at_name all i named inside is, begins) (sym (append_assoc done (offered_name quote folder named ∷ []) (offered_names quote folder name (drop (i + 1) all))))
 
-pub name_skipped : (quote : Quote) (folder name : List ℕ) (all : List Named) (i : ℕ) (named : Named) → i < length all → named ≡ get_or all i named → name_begins name named ≡ false
+pub name_skipped : (quote : Quote) (folder name : List ℕ) (all : List Named) (i : ℕ) (named : Named) → i < length all → named ≡ get_or all i named → starts_with nat_eq named.name name ≡ false
     → offered_names quote folder name (drop i all) ≡ offered_names quote folder name (drop (i + 1) all)
 name_skipped quote folder name all i named inside is begins = rw (at_name all i named inside is, begins) refl
 
-pub taken_turn : (quote : Quote) (folder name : List ℕ) (all : List Named) (i : ℕ) (named : Named) (done after : List Offered) (pair : Offered) → i < length all → named ≡ get_or all i named → name_begins name named ≡ true
+pub taken_turn : (quote : Quote) (folder name : List ℕ) (all : List Named) (i : ℕ) (named : Named) (done after : List Offered) (pair : Offered) → i < length all → named ≡ get_or all i named → starts_with nat_eq named.name name ≡ true
     → done ++ offered_names quote folder name (drop i all) ≡ offered_names quote folder name all → after ≡ done ++ (pair ∷ []) → pair ≡ offered_name quote folder named
     → after ++ offered_names quote folder name (drop (i + 1) all) ≡ offered_names quote folder name all
 taken_turn quote folder name all i named done after pair inside is begins whole e f =
     rw (e, f) (sym (name_taken quote folder name all i named done inside is begins) ∙ whole)
 
-pub skipped_turn : (quote : Quote) (folder name : List ℕ) (all : List Named) (i : ℕ) (named : Named) (done after : List Offered) → i < length all → named ≡ get_or all i named → name_begins name named ≡ false
+pub skipped_turn : (quote : Quote) (folder name : List ℕ) (all : List Named) (i : ℕ) (named : Named) (done after : List Offered) → i < length all → named ≡ get_or all i named → starts_with nat_eq named.name name ≡ false
     → done ++ offered_names quote folder name (drop i all) ≡ offered_names quote folder name all → after ≡ done
     → after ++ offered_names quote folder name (drop (i + 1) all) ≡ offered_names quote folder name all
 skipped_turn quote folder name all i named done after inside is begins whole e =

@@ -5,7 +5,7 @@ use Rattle.std.specs.Str.{IsUtf8}
 use Rattle.std.proofs.lemmas.Option.{slice_get_within, get_or_from_slice_get}
 use Rattle.std.proofs.lemmas.List.{drop_more, take-append-drop}
 use Rattle.std.proofs.lemmas.Str.{IsCharBoundary-after_ascii}
-use Rattle.line_help.specs.Highlights.{Styled, nothing, byte, style, bold_blue, plain_again, with_bold_byte}
+use Rattle.line_help.specs.Highlights.{Styled, nothing, byte, style, style_sequence, with_bold_byte}
 
 pub unstyled : (text : List ℕ) → Styled text text
 unstyled [] = nothing
@@ -15,11 +15,11 @@ behind_text : (first text shown : List ℕ) → Styled text shown → Styled (fi
 behind_text [] text shown styled = styled
 behind_text (b ∷ first) text shown styled = byte b (first ++ text) (first ++ shown) (behind_text first text shown styled)
 
-bold_byte : (first after : List ℕ) (b : ℕ) → Styled (first ++ (b ∷ after)) (first ++ (bold_blue ++ (b ∷ (plain_again ++ after))))
+bold_byte : (first after : List ℕ) (b : ℕ) → Styled (first ++ (b ∷ after)) (first ++ (style_sequence (codes "1;34") ++ (b ∷ (style_sequence (codes "0") ++ after))))
 bold_byte first after b =
-    behind_text first (b ∷ after) (bold_blue ++ (b ∷ (plain_again ++ after)))
-    (style (codes "1;34") (b ∷ after) (b ∷ (plain_again ++ after)) refl
-    (byte b after (plain_again ++ after) (style (codes "0") after after refl (unstyled after))))
+    behind_text first (b ∷ after) (style_sequence (codes "1;34") ++ (b ∷ (style_sequence (codes "0") ++ after)))
+    (style (codes "1;34") (b ∷ after) (b ∷ (style_sequence (codes "0") ++ after)) refl
+    (byte b after (style_sequence (codes "0") ++ after) (style (codes "0") after after refl (unstyled after))))
 
 bold_styled : (line : List ℕ) (b place : ℕ) → slice_get line place ≡ Some b → Styled line (with_bold_byte line (Some (b, place)))
 bold_styled line b place stands =

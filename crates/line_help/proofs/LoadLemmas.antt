@@ -1,6 +1,6 @@
 -- Loading: one row after the other.
-use Rattle.std.proofs.Common.{◌≡◌, ℕ, ◌<◌, Bool, true, false, List, [], ◌∷◌, ◌++◌, length, refl, sym, ◌∙◌, ap, ap₂, arith, append_assoc, subst, suc}
-use Rattle.std.specs.Prelude.{Result, if◌then◌else◌, ◌&&◌, not, IsTrue, IsUtf8, IfErr, Ok, Err, IsOk, bytes_eq}
+use Rattle.std.proofs.Common.{◌≡◌, ◌≢◌, ℕ, ◌<◌, Bool, true, false, List, [], ◌∷◌, ◌++◌, length, refl, sym, ◌∙◌, ap, ap₂, arith, append_assoc, subst, suc}
+use Rattle.std.specs.Prelude.{Result, if◌then◌else◌, ◌&&◌, ◌||◌, not, IsTrue, IsUtf8, IfErr, Ok, Err, IsOk, bytes_eq}
 use Rattle.std.proofs.Math.Bool.{and-true, and_assoc}
 use Rattle.std.proofs.lemmas.Bool.{false_from_ne_true}
 use Rattle.std.specs.Result.{is_ok, MatchResult, OnOk}
@@ -9,10 +9,12 @@ use Rattle.std.proofs.lemmas.Str.{IsUtf8-from_is_utf8, is_utf8-from_IsUtf8, IsUt
 use Rattle.std.proofs.lemmas.Slice.Eq.{bytes_eq-Decides}
 use lib.Utf8.{encode}
 use Rattle.line_config.specs.declared.device.Last.{Last}
+use Rattle.line_config.specs.declared.device.Last.TheVariants.{End, Failed}
 use Rattle.line_config.specs.declared.errors.ReadlineError.{ReadlineError}
-use Rattle.line_config.specs.declared.errors.ReadlineError.TheVariants.{HistoryText, Memory}
-use Rattle.line_help.specs.History.{Filed, history_with_line, history_with_lines, takes_all, ignores_line}
-use Rattle.line_help.specs.HistoryText.{GoodUpTo, LosesRow, after_first, behind_row, behind_rows, follows, text_rows, entries_of, entry_of, good_rows, has_bad_row, header, load_answer, load_leaves, history_left_at, row_fault, rows_answer, texts_of, LoadsSome, rest_after_load}
+use Rattle.line_config.specs.declared.errors.ReadlineError.TheVariants.{HistoryText, Memory, Reader}
+use Rattle.line_help.specs.History.{Filed, all_saved, history_with_line, history_with_lines, takes_all, ignores_line}
+use Rattle.line_help.specs.HistoryText.{LosesRow, behind_row, behind_rows, text_rows, entries_of, entry_of, good_rows, has_bad_row, header, load_answer, load_leaves, rows_answer, texts_of, LoadsSome, rest_after_load}
+use Rattle.line_help.proofs.RowLemmas.{GoodUpTo}
 
 pub not_utf8 : (bytes : List ℕ) → ¬ (IsUtf8 bytes) → is_utf8 bytes ≡ false
 not_utf8 bytes never = false_from_ne_true (is_utf8 bytes) (λ e. never (IsUtf8-from_is_utf8 bytes e))
@@ -59,7 +61,8 @@ pub left_more : (h : Filed) (escapes : Bool) (row : List ℕ) (rows : List (List
 left_more h escapes row rows e = ap (λ rs. history_with_lines h (entries_of escapes rs)) (good_more row rows e) ∙ left_step h escapes row (good_rows rows)
 
 outcome_more : (last : Last) (row : List ℕ) (rows : List (List ℕ)) (whole : Bool) → is_utf8 row ≡ true → rows_answer last (row ∷ rows) whole ≡ rows_answer last rows whole
-outcome_more last row rows whole e = rw e refl
+outcome_more End row rows whole e = rw e refl
+outcome_more Failed row rows whole e = rw e refl
 
 pub answer_more : (last : Last) (whole : Bool) (h : Filed) (escapes : Bool) (row : List ℕ) (rows : List (List ℕ)) → is_utf8 row ≡ true
     → rows_answer last (row ∷ rows) (whole && takes_all h (entries_of escapes (good_rows (row ∷ rows))))
@@ -79,12 +82,16 @@ pub good_text : (row : List ℕ) (result : Result Bool ReadlineError) → is_utf
 good_text row (Ok b) utf8 = utf8
 good_text row (Err why) utf8 = tt
 
-pub good_fault : (row : List ℕ) (result : Result Bool ReadlineError) → is_utf8 row ≡ true → 0 < length row → IfErr result (λ e. e ≡ Memory) → IfErr result (λ e. (e ≡ row_fault HistoryText row) × (0 < length row))
+-- why a row isn't taken: it isn't UTF-8, or else memory ran out
+abbrev pub row_fault : List ℕ → ReadlineError
+row_fault row = if is_utf8 row then Memory else HistoryText
+
+pub good_fault : (row : List ℕ) (result : Result Bool ReadlineError) → is_utf8 row ≡ true → 0 < length row → IfErr result (λ e. e ≡ Memory) → IfErr result (λ e. (e ≡ row_fault row) × (0 < length row))
 good_fault row (Ok b) utf8 some e = tt
 good_fault row (Err why) utf8 some e = (rw utf8 e, some)
 
 -- a row for which memory runs out is UTF-8
-pub memory_row : (row : List ℕ) → row_fault HistoryText row ≡ Memory → is_utf8 row ≡ true
+pub memory_row : (row : List ℕ) → row_fault row ≡ Memory → is_utf8 row ≡ true
 memory_row row e = good_if_memory (is_utf8 row) e
 
 pub left_bad : (h : Filed) (escapes : Bool) (row : List ℕ) (rows : List (List ℕ)) → is_utf8 row ≡ false
@@ -92,7 +99,8 @@ pub left_bad : (h : Filed) (escapes : Bool) (row : List ℕ) (rows : List (List 
 left_bad h escapes row rows e = ap (λ rs. history_with_lines h (entries_of escapes rs)) (good_none row rows e)
 
 pub answer_bad : (last : Last) (row : List ℕ) (rows : List (List ℕ)) (whole : Bool) → is_utf8 row ≡ false → rows_answer last (row ∷ rows) whole ≡ Err HistoryText
-answer_bad last row rows whole e = rw e refl
+answer_bad End row rows whole e = rw e refl
+answer_bad Failed row rows whole e = rw e refl
 
 pub header_is_utf8 : is_utf8 header ≡ true
 unfolding is_utf8 chars encode
@@ -101,8 +109,12 @@ header_is_utf8 = refl
 pub header_row : (row : List ℕ) → bytes_eq row header ≡ true → is_utf8 row ≡ true
 header_row row e = rw ((bytes_eq-Decides row header).0 e) header_is_utf8
 
+-- the history after the first row
+abbrev after_first : Filed → List ℕ → Filed
+after_first h row = history_with_lines h (texts_of (row ∷ []))
+
 texts_step : (h : Filed) (row : List ℕ) (rows : List (List ℕ)) (escapes : Bool) → bytes_eq row header ≡ escapes
-    → history_with_lines h (if escapes then entries_of true rows else entries_of false (row ∷ rows)) ≡ history_with_lines (if escapes then h else history_with_lines h (entries_of false (row ∷ []))) (entries_of escapes rows)
+    → history_with_lines h (if escapes then entries_of true rows else entries_of false (row ∷ rows)) ≡ history_with_lines (history_with_lines h (if escapes then entries_of true [] else entries_of false (row ∷ []))) (entries_of escapes rows)
 texts_step h row rows true e = refl
 texts_step h row rows false e = left_step h false row rows
 
@@ -111,7 +123,7 @@ pub loaded_left : (h : Filed) (row : List ℕ) (rows : List (List ℕ)) → is_u
 loaded_left h row rows e = ap (λ rs. history_with_lines h (texts_of rs)) (good_more row rows e) ∙ texts_step h row (good_rows rows) (bytes_eq row header) refl
 
 takes_behind : (h : Filed) (row : List ℕ) (rows : List (List ℕ)) (escapes : Bool)
-    → (escapes && takes_all h (if escapes then entries_of true rows else entries_of false (row ∷ rows))) ≡ (escapes && takes_all (if escapes then h else history_with_lines h (entries_of false (row ∷ []))) (entries_of escapes rows))
+    → (escapes && takes_all h (if escapes then entries_of true rows else entries_of false (row ∷ rows))) ≡ (escapes && takes_all (history_with_lines h (if escapes then entries_of true [] else entries_of false (row ∷ []))) (entries_of escapes rows))
 takes_behind h row rows true = refl
 takes_behind h row rows false = refl
 
@@ -122,11 +134,33 @@ loaded_answer last h row rows e =
     ∙ ap (λ b. rows_answer last rows b)
     (ap (λ rs. bytes_eq row header && takes_all h (texts_of rs)) (good_more row rows e) ∙ takes_behind h row (good_rows rows) (bytes_eq row header))
 
+-- the history behind the last row
+abbrev history_left_at : Last → Filed → Filed
+history_left_at End filed = all_saved filed
+history_left_at Failed filed = filed
+
+-- a row that isn't UTF-8, or a failure of the source, keeps what is new
+abbrev answer_with : Bool → Result Bool ReadlineError → Result Bool ReadlineError
+answer_with bad last = if bad then Err HistoryText else last
+
+saved_by : (bad whole : Bool) (h : Filed) → (if is_ok (answer_with bad (Ok whole)) then all_saved h else h) ≡ (if bad then h else all_saved h)
+saved_by true whole h = refl
+saved_by false whole h = refl
+
+kept_by : (bad : Bool) (h : Filed) → (if is_ok (answer_with bad (Err Reader)) then all_saved h else h) ≡ (if bad then h else h)
+kept_by true h = refl
+kept_by false h = refl
+
+leaves_by : (rows : List (List ℕ)) (last : Last) (whole : Bool) (h : Filed) → (if is_ok (rows_answer last rows whole) then all_saved h else h) ≡ (if has_bad_row rows then h else history_left_at last h)
+leaves_by rows End whole h = saved_by (has_bad_row rows) whole h
+leaves_by rows Failed whole h = kept_by (has_bad_row rows) h
+
 pub loaded_leaves : (last : Last) (h : Filed) (row : List ℕ) (rows : List (List ℕ)) → is_utf8 row ≡ true
     → load_leaves last (row ∷ rows) h ≡ (if has_bad_row rows then history_with_lines (after_first h row) (entries_of (bytes_eq row header) (good_rows rows))
     else history_left_at last (history_with_lines (after_first h row) (entries_of (bytes_eq row header) (good_rows rows))))
 loaded_leaves last h row rows e =
-    ap (λ b. if b then history_with_lines h (texts_of (good_rows (row ∷ rows))) else history_left_at last (history_with_lines h (texts_of (good_rows (row ∷ rows))))) (bad_more row rows e)
+    leaves_by (row ∷ rows) last _ (history_with_lines h (texts_of (good_rows (row ∷ rows))))
+    ∙ ap (λ b. if b then history_with_lines h (texts_of (good_rows (row ∷ rows))) else history_left_at last (history_with_lines h (texts_of (good_rows (row ∷ rows))))) (bad_more row rows e)
     ∙ ap (λ f. if has_bad_row rows then f else history_left_at last f) (loaded_left h row rows e)
 
 -- ---- what was loaded, and what is left
@@ -140,7 +174,7 @@ all_in_turn : (h : Filed) (xs ys : List (List ℕ)) → history_with_lines h (xs
 all_in_turn h [] ys = refl
 all_in_turn h (x ∷ xs) ys = all_in_turn (history_with_line h x) xs ys
 
-good_one : (good bad after : Bool) → (if good then bad else true) ≡ false → (bad ≡ false → after ≡ false) → (if good then after else true) ≡ false
+good_one : (good bad after : Bool) → (not good || bad) ≡ false → (bad ≡ false → after ≡ false) → (not good || after) ≡ false
 good_one true bad after g h = h g
 good_one false bad after g h = g
 
@@ -255,17 +289,17 @@ pub record EndsLoad (escapes : Bool) (last : Last) (text coming : List ℕ) (bef
   pub history : now ≡ history_with_lines before (entries_of escapes (good_rows (text_rows last text)))
   pub left : coming ≡ rest_after_load last text
 
-bad_if_followed : (good : Bool) → IsTrue (follows (Err (if good then Memory else HistoryText))) → good ≡ false
-bad_if_followed true f = cc
-bad_if_followed false f = refl
+bad_if_followed : (good : Bool) (result : Result Bool ReadlineError) → result ≡ Err (if good then Memory else HistoryText) → result ≢ Err Memory → good ≡ false
+bad_if_followed true result e f = absurd (f e)
+bad_if_followed false result e f = refl
 
 pub bad_row_ends : (escapes whole : Bool) (last : Last) (text here onward row : List ℕ) (before now : Filed) (result : Result Bool ReadlineError)
-    → text_rows last here ≡ row ∷ text_rows last onward → onward ≡ behind_row here → result ≡ Err (row_fault HistoryText row) → IsTrue (follows result)
+    → text_rows last here ≡ row ∷ text_rows last onward → onward ≡ behind_row here → result ≡ Err (row_fault row) → result ≢ Err Memory
     → Underway escapes whole last text here before now → EndsLoad escapes last text onward before now result
 bad_row_ends escapes whole last text here onward row before now result r is e f so =
-    let bad : is_utf8 row ≡ false = bad_if_followed (is_utf8 row) (rw e at f) in
+    let bad : is_utf8 row ≡ false = bad_if_followed (is_utf8 row) result e f in
     let rows = text_rows last onward in
-    let why : row_fault HistoryText row ≡ HistoryText = rw bad refl in
+    let why : row_fault row ≡ HistoryText = rw bad refl in
     record {
       answer = e ∙ ap (λ w. Err w) why ∙ sym (answer_bad last row rows _ bad) ∙ (rw r at so.answer);
       history = sym (left_bad now escapes row rows bad) ∙ (rw r at so.history);

@@ -2,7 +2,12 @@
 use Rattle.std.proofs.Common.{◌≡◌, ℕ, suc, ◌+◌, ◌-◌, ◌<◌, Bool, true, false, List, [], ◌∷◌, length, drop, take, reverse, refl, ap, Option, Some, None, option_map, slice_index_or, arith}
 use Rattle.std.specs.Prelude.{if◌then◌else◌, ◌==◌, ◌&&◌}
 use Rattle.std.proofs.lemmas.List.{drop_more, take_more, reverse-append}
-use Rattle.line_help.specs.Brackets.{open_count_after, bytes_between}
+use Rattle.line_help.specs.Brackets.{bytes_between}
+
+-- how many brackets of one kind are open after a byte, if this many were before it
+abbrev open_count_after : ℕ → ℕ → ℕ → ℕ → ℕ
+open_count_after same mate byte unclosed =
+    if byte == mate then unclosed - 1 else if byte == same then unclosed + 1 else unclosed
 
 -- the place where so many bytes stand before it from a place on
 abbrev pub place_behind : ℕ → Option ℕ → Option ℕ

@@ -1,8 +1,8 @@
 -- Messages on brackets: at which bracket a text becomes invalid, and which open bracket is the innermost there.
-use Rattle.std.proofs.Common.{◌≡◌, ◌≢◌, ◌⊎◌, inl, inr, ℕ, true, false, List, [], ◌∷◌, ◌++◌, map, refl, sym, ap, ◌∙◌, append_assoc, Some, None}
+use Rattle.std.proofs.Common.{◌≡◌, ◌≢◌, ◌⊎◌, inl, inr, ℕ, true, false, List, [], ◌∷◌, ◌++◌, drop, map, refl, sym, ap, ◌∙◌, append_assoc, Some, None}
 use Rattle.std.proofs.lemmas.Bool.{eq-eqb, eqb-true}
 use Rattle.line_help.specs.Brackets.{all_kinds, is_opening, is_closing, partner, Balanced, empty, other, pair}
-use Rattle.line_help.specs.Validation.{verdict_from, mismatch, closes_innermost, without_innermost, message_of_unpaired, not_closed, NamesWhatFails, MessageNames}
+use Rattle.line_help.specs.Validation.{verdict_from, mismatch, closes_innermost, message_of_unpaired, not_closed, NamesWhatFails, MessageNames}
 use Rattle.line_help.specs.declared.helpers.validate.ValidationResult.TheVariants.{Invalid, Valid}
 use Rattle.line_help.proofs.BalanceLemmas.{kind_of_opening, opens_step, closes_step, fails_step, passes_step, read, AllOpening, Closed, closed_behind_other, closed_behind_pair, closings_valid, valid_balanced}
 
@@ -57,7 +57,7 @@ told_at_opening unclosed b before closing message h all (inr (inr (inr f))) =
     inr (inr (rw f.2 (open_behind_pair unclosed b f.0 f.1 closing message h f.3 f.4)))
 
 told_at_closing : (unclosed : List ℕ) (b : ℕ) (before : List ℕ) (closing : ℕ) (message : List ℕ) → is_opening b ≡ false → is_closing b ≡ true → closes_innermost b unclosed ≡ true
-    → Told (without_innermost unclosed) before closing message → Told unclosed (b ∷ before) closing message
+    → Told (drop 1 unclosed) before closing message → Told unclosed (b ∷ before) closing message
 told_at_closing [] b before closing message h i j f = absurd cc
 told_at_closing (opening ∷ others) b before closing message h i j (inl f) =
     inl (([], before, ap (λ c. c ∷ before) (sym (eqb-true (partner opening) b j)), empty, f.0), f.1)
@@ -88,7 +88,7 @@ fails_at_opening unclosed b text h later message e all =
     let f : Fails (b ∷ unclosed) text message = later message (sym (opens_step unclosed b text h) ∙ e) (h, all) in
     (b ∷ f.0, f.1, f.2, ap (λ t. b ∷ t) f.3, f.4, told_at_opening unclosed b f.0 f.1 message h all f.5)
 
-fails_at_closing : (unclosed : List ℕ) (b : ℕ) (text : List ℕ) → is_opening b ≡ false → is_closing b ≡ true → closes_innermost b unclosed ≡ true → InvalidFails (without_innermost unclosed) text → InvalidFails unclosed (b ∷ text)
+fails_at_closing : (unclosed : List ℕ) (b : ℕ) (text : List ℕ) → is_opening b ≡ false → is_closing b ≡ true → closes_innermost b unclosed ≡ true → InvalidFails (drop 1 unclosed) text → InvalidFails unclosed (b ∷ text)
 fails_at_closing [] b text h i j later message e all = absurd cc
 fails_at_closing (opening ∷ others) b text h i j later message e all =
     let f : Fails others text message = later message (sym (closes_step (opening ∷ others) b text h i j) ∙ e) all.1 in

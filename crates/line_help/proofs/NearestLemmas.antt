@@ -4,8 +4,8 @@ use Rattle.std.specs.Prelude.{◌==◌, ◌&&◌}
 use Rattle.std.proofs.Math.Bool.{or-false}
 use Rattle.std.proofs.lemmas.Bool.{and_parts, eq-eqb, eqb-true, ne_eqb, or_from, or_parts}
 use Rattle.std.proofs.lemmas.List.{reverse-append, reverse-reverse, length-reverse}
-use Rattle.line_help.specs.Brackets.{are_kind, partner, Balanced, empty, other, pair, bytes_between, match_place, OpeningIsMatched, ClosingIsMatched}
-use Rattle.line_help.proofs.BalanceLemmas.{Kind, kind_of_opening, kind_of_closing, brackets_differ}
+use Rattle.line_help.specs.Brackets.{partner, Balanced, empty, other, pair, bytes_between, match_place, OpeningIsMatched, ClosingIsMatched}
+use Rattle.line_help.proofs.BalanceLemmas.{Kind, are_kind, kind_of_opening, kind_of_closing, brackets_differ}
 use Rattle.line_help.proofs.FoundLemmas.{mapped}
 
 -- balanced in the brackets of one kind

@@ -4,10 +4,10 @@ use Rattle.std.specs.Prelude.{unwrap_or}
 use Rattle.std.proofs.lemmas.Option.{none-some}
 use Rattle.std.proofs.lemmas.Bool.{and_right, eqb-true}
 use Rattle.std.proofs.lemmas.List.{append-nil}
-use Rattle.line_help.specs.Quotes.{closes_quote, escapes_in, escapes_at, quote_after, open_behind, unclosed_quote, Within, nothing_within, byte_within, pair_within, Closed, nothing_closed, byte_closed, pair_closed, between_double, between_single, UpToBackslash, Unclosed, OpensAt, UnclosedQuoteIsOpen}
+use Rattle.line_help.specs.Quotes.{closes_quote, escapes_at, quote_after, open_behind, unclosed_quote, Within, nothing_within, byte_within, pair_within, Closed, nothing_closed, byte_closed, pair_closed, between_double, between_single, UpToBackslash, Unclosed, OpensAt, UnclosedQuoteIsOpen}
 use Rattle.line_help.specs.declared.completion.quotes.Quote.{Quote}
 use Rattle.line_help.specs.declared.completion.quotes.Quote.TheVariants.{Double, Single, None as Unquoted}
-use Rattle.line_help.proofs.QuoteLemmas.{byte_read}
+use Rattle.line_help.proofs.QuoteLemmas.{byte_read, escapes_in}
 
 -- ---- reading by parts
 

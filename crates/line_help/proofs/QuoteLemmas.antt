@@ -6,7 +6,7 @@ use Rattle.std.proofs.lemmas.Str.{chars-append, chars_past_char, chars-nil, IsUt
 use Rattle.std.specs.Char.{IsScalar}
 use Rattle.std.specs.Prelude.{encode_utf8, encode_utf8_all}
 use Rattle.std.specs.Str.{chars}
-use Rattle.line_help.specs.Quotes.{unescaped_chars, escaped_chars, closes_quote, escapes_in, escapes_at, quote_after, open_behind, unclosed_quote}
+use Rattle.line_help.specs.Quotes.{unescaped_chars, escaped_chars, closes_quote, escapes_at, quote_after, open_behind, unclosed_quote}
 use Rattle.line_help.specs.declared.completion.quotes.Quote.{Quote}
 use Rattle.line_help.specs.declared.completion.quotes.Quote.TheVariants.{Double, Single, None as Unquoted}
 
@@ -91,6 +91,10 @@ scanning false within place bs = open_behind within place bs
 scanning true within place [] = within
 scanning true within place (b ∷ bs) = open_behind within (place + 1) bs
 
+-- whether a backslash is an escape in a quote
+abbrev pub escapes_in : Quote → Bool
+escapes_in quote = escapes_at (Some (0, quote))
+
 no_close : (quote : Quote) → escapes_in quote ≡ true → closes_quote quote 92 ≡ false
 no_close Double is = refl
 no_close Single is = cc
@@ -98,7 +102,7 @@ no_close Unquoted is = refl
 
 no_quote : (place : ℕ) (within : Option (ℕ × Quote)) → escapes_at within ≡ true → quote_after place 92 within ≡ within
 no_quote place None is = refl
-no_quote place (Some within) is = rw (no_close within.1 is) refl
+no_quote place (Some (at, quote)) is = rw (no_close quote is) refl
 
 pub backslash_read : (within : Option (ℕ × Quote)) (place : ℕ) (bs : List ℕ) → escapes_at within ≡ true → scanning false within place (92 ∷ bs) ≡ scanning true within (place + 1) bs
 backslash_read within place [] is = no_quote place within is

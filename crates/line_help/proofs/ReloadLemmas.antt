@@ -98,8 +98,8 @@ rows_back [] can = refl
 rows_back (entry ∷ entries) can =
     ap (λ t. text_rows End t) (append_assoc (escaped_entry entry) (10 ∷ []) (rows_text entries))
     ∙ cut_row End (escaped_entry entry) (rows_text entries) (one_row entry)
-    ∙ ap (λ r. r ∷ text_rows End (rows_text entries)) (without_same (escaped_entry entry) (same_end entry ∙ no_return_at_end entry can.1))
-    ∙ ap (λ rs. escaped_entry entry ∷ rs) (rows_back entries can.2)
+    ∙ ap (λ r. r ∷ text_rows End (rows_text entries)) (without_same (escaped_entry entry) (same_end entry ∙ no_return_at_end entry can.0.1))
+    ∙ ap (λ rs. escaped_entry entry ∷ rs) (rows_back entries can.1)
 
 -- what is escaped is UTF-8 where the text is
 plain_text : (xs : List ℕ) → ((k : ℕ) → k < length xs → get_or xs k 0 ≢ 10) → ((k : ℕ) → k < length xs → get_or xs k 0 ≢ 92) → escaped_entry xs ≡ xs
@@ -149,11 +149,11 @@ escaped_utf8 text e =
 
 all_good : (entries : List (List ℕ)) → CanComeBack entries → good_rows (map escaped_entry entries) ≡ map escaped_entry entries
 all_good [] can = refl
-all_good (entry ∷ entries) can = rw (escaped_utf8 entry can.0) (ap (λ rs. escaped_entry entry ∷ rs) (all_good entries can.2))
+all_good (entry ∷ entries) can = rw (escaped_utf8 entry can.0.0) (ap (λ rs. escaped_entry entry ∷ rs) (all_good entries can.1))
 
 none_bad : (entries : List (List ℕ)) → CanComeBack entries → has_bad_row (map escaped_entry entries) ≡ false
 none_bad [] can = refl
-none_bad (entry ∷ entries) can = rw (escaped_utf8 entry can.0) (none_bad entries can.2)
+none_bad (entry ∷ entries) can = rw (escaped_utf8 entry can.0.0) (none_bad entries can.1)
 
 empty_ignored : (h : Filed) → history_with_line h [] ≡ h
 empty_ignored h =
@@ -185,7 +185,7 @@ text_is false text some = refl
 
 pub can_both : (xs ys : List (List ℕ)) → CanComeBack xs → CanComeBack ys → CanComeBack (xs ++ ys)
 can_both [] ys p q = q
-can_both (x ∷ xs) ys p q = (p.0, p.1, can_both xs ys p.2 q)
+can_both (x ∷ xs) ys p q = (p.0, can_both xs ys p.1 q)
 
 pub reload_holds : Reload
 reload_holds settings filed some can = ap (λ t. history_from_text settings t) (text_is (filed.unsaved == 0) (saved_text filed.kept.entries) some) ∙ saved_back settings filed.kept.entries can

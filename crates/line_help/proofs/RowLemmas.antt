@@ -1,7 +1,8 @@
 -- Rows of a text: a row up to its newline, the last row, a row that a failure cuts off.
 use Rattle.std.proofs.Common.{◌≡◌, ◌≢◌, ℕ, suc, ◌+◌, ◌-◌, ◌<◌, ◌≤◌, le_trans, inl, inr, IsTrue, Bool, true, false, List, [], ◌∷◌, ◌++◌, length, take, refl, sym, ap, ◌∙◌, append_assoc, get_or, Option, Some, None, arith}
-use Rattle.std.specs.Prelude.{if◌then◌else◌, ◌&&◌, ◌==◌, not, unwrap_or, Result, Ok, Err}
+use Rattle.std.specs.Prelude.{slice_get, if◌then◌else◌, ◌&&◌, ◌==◌, not, unwrap_or, Result, Ok, Err}
 use Rattle.std.specs.List.{list_any, position_or_len}
+use Rattle.std.specs.Option.{option_map_or}
 use Rattle.std.specs.Str.{is_utf8}
 use Rattle.std.proofs.lemmas.List.{append-nil, get_or-take, length-take-le, take_more}
 use Rattle.std.proofs.lemmas.List.Sums.{fails_before_first, passes_at_first, position_or_len_is, prefix_len-le-length}
@@ -14,7 +15,7 @@ use Rattle.line_config.specs.declared.device.Last.TheVariants.{End, Failed}
 use Rattle.line_config.specs.declared.errors.ReadlineError.{ReadlineError}
 use Rattle.line_config.specs.declared.errors.ReadlineError.TheVariants.{Memory, Reader}
 use Rattle.script.proofs.ScriptLaws.{ok_not_err}
-use Rattle.line_help.specs.HistoryText.{TakesPiece, text_rows, onto, without_return, begins_with_newline, behind_row, EndIsMet, GoodUpTo, LosesRow, ReadsByte, ReadsGood, ReadsRow}
+use Rattle.line_help.specs.HistoryText.{TakesPiece, text_rows, onto, without_return, behind_row, EndIsMet, LosesRow, ReadsByte, ReadsGood, ReadsRow}
 
 -- no newline stands among these bytes
 abbrev pub has_newline : List ℕ → Bool
@@ -119,11 +120,15 @@ cut_off [] none = refl
 cut_off (b ∷ xs) none =
     let h = (or_parts (b == 10) (has_newline xs) none).0 in
     let k = (or_parts (b == 10) (has_newline xs) none).1 in
-    cut_byte b (text_rows Failed xs) (b == 10) (b == 13 && begins_with_newline xs) (cut_off xs k) h
+    cut_byte b (text_rows Failed xs) (b == 10) (b == 13 && option_map_or (λ c. c == 10) (slice_get xs 0) false) (cut_off xs k) h
 
 nothing_behind : (xs ys : List ℕ) → [] ≡ xs ++ ys → ys ≡ []
 nothing_behind [] ys e = sym e
 nothing_behind (x ∷ xs) ys e = cc
+
+-- good rows read after this are good rows read from the text's start
+abbrev pub GoodUpTo : List ℕ → List ℕ → Type 0
+GoodUpTo text coming = (later : List ℕ) → ReadsGood coming later → ReadsGood text later
 
 -- a row that is UTF-8, up to its newline, before what reads on so; a part of a row; the last row
 pub row_reads : (xs coming : List ℕ) → has_newline xs ≡ false → is_utf8 (without_return xs) ≡ true → GoodUpTo (xs ++ (10 ∷ coming)) coming

@@ -1,12 +1,17 @@
 -- A text read from its end, for the word before a place.
 use Rattle.std.proofs.Common.{◌≡◌, ℕ, ◌<◌, ◌≤◌, Bool, true, false, List, [], ◌∷◌, ◌++◌, length, take, reverse, Option, refl, sym, ap, ◌∙◌, arith}
-use Rattle.std.specs.Prelude.{encode_utf8, encode_utf8_all, IsUtf8, IsCharBoundary}
+use Rattle.std.specs.Prelude.{slice_get, encode_utf8, encode_utf8_all, IsUtf8, IsCharBoundary}
+use Rattle.std.specs.Option.{option_map_or}
 use Rattle.std.specs.Str.{chars}
 use Rattle.std.specs.Char.{IsScalar}
 use Rattle.std.proofs.lemmas.Str.{chars-append, chars-nil, encodes-chars, IsUtf8-append, IsUtf8-encode, length-encode, len_utf8_bounds, IsCharBoundary-from_take}
 use Rattle.std.proofs.lemmas.List.{reverse-append, reverse-reverse, append-nil, length-append, length-take, take-take, take_at}
 use Rattle.line_help.proofs.QuoteLemmas.{chars_step}
-use Rattle.line_help.specs.Completion.{is_escape, is_escaped, before_word, word_start}
+use Rattle.line_help.specs.Completion.{is_escape, before_word, word_start}
+
+-- whether the nearest character is the escape, if characters are read from the end
+abbrev is_escaped : Option ℕ → List ℕ → Bool
+is_escaped esc cs = option_map_or (is_escape esc) (slice_get cs 0) false
 
 one_char : (c : ℕ) → IsScalar c → chars (encode_utf8 c) ≡ c ∷ []
 one_char c scalar = ap chars (sym (append-nil (encode_utf8 c))) ∙ chars_step c [] scalar ∙ ap (λ cs. c ∷ cs) chars-nil

@@ -7,7 +7,7 @@ use Rattle.std.proofs.lemmas.List.{take_more, map-append, append-nil}
 use Rattle.std.proofs.lemmas.List.Elements.{filter-append}
 use Rattle.line_help.specs.HistoryText.{entries_of}
 use Rattle.std.proofs.lemmas.Simd.{map-map}
-use Rattle.line_help.specs.Completion.{text_offered, word_start, words_for, word_reply}
+use Rattle.line_help.specs.Completion.{text_offered, word_start, words_for, words_reply}
 
 -- one word more
 words_more : {X : Type 0} (bytes : X → List ℕ) (beginning : List ℕ) (words : List X) (i : ℕ) (word : X) → i < length words → word ≡ get_or words i word
@@ -45,7 +45,7 @@ word_found bytes beginning (x ∷ xs) (suc i) word inside is begins =
 
 pub completed : {X : Type 0} (bytes : X → List ℕ) (words : List (List ℕ)) (text : List ℕ) (start : ℕ) (found : List X) → start ≡ word_start None is_whitespace text
     → map bytes found ≡ words_for (drop start text) words
-    → (word_reply words text).answer ≡ Some (record { start = start; candidates = map (λ w. text_offered (bytes w)) found })
+    → (words_reply text_offered words text).answer ≡ Some (record { start = start; candidates = map (λ w. text_offered (bytes w)) found })
 completed bytes words text start found at is =
     let both : map (λ w. text_offered (bytes w)) found ≡ map text_offered (words_for (drop (word_start None is_whitespace text) text) words) =
     sym (map-map text_offered bytes found) ∙ ap (map text_offered) (is ∙ ap (λ n. words_for (drop n text) words) at) in

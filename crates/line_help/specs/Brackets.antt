@@ -7,21 +7,11 @@ use Rattle.std.specs.Option.{option_or}
 abbrev pub all_kinds : List (ℕ × ℕ)
 all_kinds = (40, 41) ∷ ((91, 93) ∷ ((123, 125) ∷ []))
 
--- whether a byte opens, or closes, one of these kinds; whether two bytes are brackets of one kind
-abbrev pub opens_some : List (ℕ × ℕ) → ℕ → Bool
-opens_some kinds byte = list_any (λ kind. byte == kind.0) kinds
-
-abbrev pub closes_some : List (ℕ × ℕ) → ℕ → Bool
-closes_some kinds byte = list_any (λ kind. byte == kind.1) kinds
-
-abbrev pub are_kind : List (ℕ × ℕ) → ℕ → ℕ → Bool
-are_kind kinds opening closing = list_any (λ kind. (opening == kind.0) && (closing == kind.1)) kinds
-
 abbrev pub is_opening : ℕ → Bool
-is_opening byte = opens_some all_kinds byte
+is_opening byte = list_any (λ kind. byte == kind.0) all_kinds
 
 abbrev pub is_closing : ℕ → Bool
-is_closing byte = closes_some all_kinds byte
+is_closing byte = list_any (λ kind. byte == kind.1) all_kinds
 
 abbrev pub is_bracket : ℕ → Bool
 is_bracket byte = is_opening byte || is_closing byte
@@ -40,9 +30,11 @@ partner byte = partner_in all_kinds byte
 -- and the closing bracket of that kind
 pub data Balanced (kinds : List (ℕ × ℕ)) : List ℕ → Type 0 where
   empty : Balanced kinds []
-  other : (byte : ℕ) (text : List ℕ) → opens_some kinds byte ≡ false
-      → closes_some kinds byte ≡ false → Balanced kinds text → Balanced kinds (byte ∷ text)
-  pair : (opening closing : ℕ) (inner text : List ℕ) → are_kind kinds opening closing ≡ true
+  other : (byte : ℕ) (text : List ℕ) → list_any (λ kind. byte == kind.0) kinds ≡ false
+      → list_any (λ kind. byte == kind.1) kinds ≡ false
+      → Balanced kinds text → Balanced kinds (byte ∷ text)
+  pair : (opening closing : ℕ) (inner text : List ℕ)
+      → list_any (λ kind. (opening == kind.0) && (closing == kind.1)) kinds ≡ true
       → Balanced kinds inner → Balanced kinds text
       → Balanced kinds (opening ∷ (inner ++ (closing ∷ text)))
 
@@ -71,16 +63,13 @@ bracket_to_match line pos =
     else where_it_is (λ b. not (b.1 == (if is_closing b.0 then 0 else last)))
     (bracket_near line pos)
 
--- how many brackets of one kind are open after a byte, if this many were before it
-abbrev pub open_count_after : ℕ → ℕ → ℕ → ℕ → ℕ
-open_count_after same mate byte unclosed =
-    if byte == mate then unclosed - 1 else if byte == same then unclosed + 1 else unclosed
-
--- how many bytes are between the bracket `same`, right before these, and its match `mate`
+-- how many bytes are between the bracket `same`, right before these, and its match `mate`, if so
+-- many more brackets of their kind are open
 abbrev pub bytes_between : ℕ → ℕ → ℕ → List ℕ → Option ℕ
 bytes_between same mate unclosed [] = None
 bytes_between same mate unclosed (byte ∷ bytes) = if (byte == mate) && (unclosed == 0) then Some 0
-    else option_map suc (bytes_between same mate (open_count_after same mate byte unclosed) bytes)
+    else option_map suc (bytes_between same mate (if byte == mate then unclosed - 1
+    else if byte == same then unclosed + 1 else unclosed) bytes)
 
 -- the place of the match of a bracket at a place: after an opening one, before a closing one
 abbrev pub match_place : List ℕ → ℕ → ℕ → Option ℕ
@@ -90,12 +79,7 @@ match_place line pos bracket =
     else if is_closing bracket then option_map (λ n. length (take pos line) - 1 - n)
     (bytes_between bracket (partner bracket) 0 (reverse (take pos line))) else None
 
-abbrev pub match_of : List ℕ → ℕ → ℕ → Option (ℕ × ℕ)
-match_of line pos bracket =
-    option_map (λ place. (partner bracket, place)) (match_place line pos bracket)
-
--- an opening bracket's match is its partner, after a text in which the brackets of their kind are
--- balanced; and nothing else is its match
+-- an opening bracket's match is exactly its partner behind a text balanced in their kind
 abbrev pub OpeningIsMatched : Type 0
 OpeningIsMatched = (line : List ℕ) (pos opening place : ℕ) → is_opening opening ≡ true
     → (match_place line pos opening ≡ Some place) ↔ ((between : List ℕ) × (after : List ℕ)

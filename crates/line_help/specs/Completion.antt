@@ -4,6 +4,7 @@ use Rattle.std.specs.Global.{Vec}
 use Rattle.line_buffer.specs.Event.{ChangeEvent, Replays, replacement}
 use Rattle.line_buffer.specs.Line.{Line, with_replacement}
 use Rattle.std.specs.List.{list_any, common_prefix_len, starts_with}
+use Rattle.std.specs.Option.{option_map_or}
 use Rattle.std.specs.Str.{chars}
 use Rattle.std.specs.Char.{IsScalar, is_whitespace}
 use Rattle.line_help.specs.Quotes.{text_without_escapes, text_with_escapes}
@@ -53,16 +54,9 @@ pub record Updates {L A E : Type 0} (takes refuses : L → ChangeEvent → L →
 
 -- whether a character is the escape
 abbrev pub is_escape : Option ℕ → ℕ → Bool
-is_escape None c = false
-is_escape (Some esc) c = c == esc
+is_escape esc c = option_map_or (λ e. c == e) esc false
 
--- whether the nearest character is the escape, if characters are read from the end
-abbrev pub is_escaped : Option ℕ → List ℕ → Bool
-is_escaped esc [] = false
-is_escaped esc (c ∷ cs) = is_escape esc c
-
--- the text before the word, both read from the end: the word begins after the nearest break
--- character without an escape before it
+-- the text before the last word, both read from the end: from the nearest unescaped break on
 abbrev pub before_word : Option ℕ → (ℕ → Bool) → List ℕ → List ℕ
 before_word esc breaks [] = []
 before_word esc breaks (c ∷ []) = if breaks c then c ∷ [] else []
@@ -115,8 +109,7 @@ EscapesComeBack = (text : List ℕ) (esc : ℕ) (breaks : ℕ → Bool) (quote :
 abbrev pub BeginsText : List ℕ → List ℕ → Type 0
 BeginsText front text = (rest : List ℕ) × (text ≡ front ++ rest)
 
--- the common prefix of texts is a text and a prefix of each, and each other text that is a prefix
--- of all is a prefix of it
+-- the common prefix is a text and a prefix of each; each other text that is so is a prefix of it
 abbrev pub CommonBeginningIsLongest : Type 0
 CommonBeginningIsLongest = (text : List ℕ) (others : List (List ℕ)) → IsUtf8 text →
     IsUtf8 (common_to_all text others)
@@ -127,8 +120,7 @@ CommonBeginningIsLongest = (text : List ℕ) (others : List (List ℕ)) → IsUt
 abbrev pub words_for : List ℕ → List (List ℕ) → List (List ℕ)
 words_for beginning words = filter (λ word. starts_with nat_eq word beginning) words
 
--- the completion of a text's last word, which whitespace precedes, by words, each as it is offered;
--- candidates take memory
+-- the completion of a text's last word by words, each as it is offered; candidates take memory
 abbrev pub words_reply : (List ℕ → Offered) → List (List ℕ) → List ℕ → Reply Completion
 words_reply offers words text =
     let start : ℕ = word_start None is_whitespace text in
@@ -137,13 +129,7 @@ words_reply offers words text =
       takes = nat_lt 0 (length offered);
     }
 
-abbrev pub word_reply : List (List ℕ) → List ℕ → Reply Completion
-word_reply words text = words_reply text_offered words text
-
 -- words, and what ends one that is the only candidate
 pub record WholeWords : Type 0 where
   pub words : List (List ℕ)
   pub end : List ℕ
-
-abbrev pub whole_word_reply : WholeWords → List ℕ → Reply Completion
-whole_word_reply whole text = words_reply (word_offered whole.end) whole.words text

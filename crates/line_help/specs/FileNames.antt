@@ -1,6 +1,7 @@
 -- Names of files and folders for a partly typed path.
 use Rattle.std.specs.Prelude.{ℕ, ◌+◌, ◌-◌, ◌==◌, ◌||◌, Bool, not, List, [], ◌∷◌, ◌++◌, length, take, drop, map, filter, nat_eq, Option, Some, None, is_some, option_map, if◌then◌else◌}
-use Rattle.std.specs.List.{starts_with, suffix_len}
+use Rattle.std.specs.List.{after_last, starts_with, suffix_len}
+use Rattle.std.specs.Option.{option_map_or}
 use Rattle.std.specs.Ordering.{is_lt, nat_cmp}
 use Rattle.std.specs.Cmp.Lexicographic.{slice_cmp}
 use Rattle.line_help.specs.Completion.{Offered, Completion, word_start, break_characters, double_quote_characters, is_among}
@@ -29,38 +30,26 @@ pub record Typed : Type 0 where
   pub path : List ℕ
   pub quote : Quote
 
-abbrev pub path_word : ℕ → List ℕ → Quote → Typed
-path_word start path quote = record { start = start; path = path; quote = quote }
-
 -- the characters before which a name needs an escape
 abbrev pub is_special : Quote → ℕ → Bool
 is_special Double c = is_among double_quote_characters c
 is_special quote c = is_among break_characters c
 
 -- after an open quote the path is the rest; otherwise it is the last word
-abbrev pub path_after_quote : ℕ → Quote → List ℕ → Typed
-path_after_quote start Double text =
-    path_word start (text_without_escapes (drop start text) (Some 92)) Double
-path_after_quote start quote text = path_word start (drop start text) quote
-
-abbrev pub path_by_quote : Option (ℕ × Quote) → List ℕ → Typed
-path_by_quote None text =
-    let start : ℕ = word_start (Some 92) (is_among break_characters) text in
-    path_word start (text_without_escapes (drop start text) (Some 92)) Unquoted
-path_by_quote (Some within) text = path_after_quote (within.0 + 1) within.1 text
-
 abbrev pub typed_path : List ℕ → Typed
-typed_path text = path_by_quote (unclosed_quote text) text
+typed_path text =
+    let quoted : Option (ℕ × Quote) = unclosed_quote text in
+    let word : ℕ = word_start (Some 92) (is_among break_characters) text in
+    let start : ℕ = option_map_or (λ it. it.0 + 1) quoted word in
+    let path : List ℕ = drop start text in record {
+      start = start;
+      path = if escapes_at quoted then text_without_escapes path (Some 92) else path;
+      quote = option_map_or (λ it. it.1) quoted Unquoted;
+    }
 
 -- a path is a folder, up to the last slash, and a name
-abbrev pub folder_len : List ℕ → ℕ
-folder_len path = length path - suffix_len (λ b. not (b == 47)) path
-
 abbrev pub folder_of : List ℕ → List ℕ
-folder_of path = take (folder_len path) path
-
-abbrev pub name_of : List ℕ → List ℕ
-name_of path = drop (folder_len path) path
+folder_of path = take (length path - suffix_len (λ b. not (b == 47)) path) path
 
 -- a name, with its folder and with escapes; a slash after a folder
 abbrev pub offered_name : Quote → List ℕ → Named → Offered
@@ -69,39 +58,32 @@ offered_name quote folder named =
     let shown : List ℕ = text_with_escapes path (Some 92) (is_special quote) quote in
     record { display = named.name; replacement = shown; alone = shown }
 
-abbrev pub name_begins : List ℕ → Named → Bool
-name_begins name named = starts_with nat_eq named.name name
-
 -- each listed name that begins with the typed one, in the order of the list
 abbrev pub offered_names : Quote → List ℕ → List ℕ → List Named → List Offered
 offered_names quote folder name all =
-    map (offered_name quote folder) (filter (name_begins name) all)
-
-abbrev pub completion_in_list_order : Typed → List Named → Completion
-completion_in_list_order typed all = record {
-  start = typed.start;
-  candidates = offered_names typed.quote (folder_of typed.path) (name_of typed.path) all;
-}
+    map (offered_name quote folder) (filter (λ named. starts_with nat_eq named.name name) all)
 
 -- by what is displayed; items that are displayed alike keep their order
 abbrev pub is_displayed_before : Offered → Offered → Bool
 is_displayed_before x y = is_lt (slice_cmp nat_cmp x.display y.display)
 
-abbrev pub completion_in_order : Completion → Completion
-completion_in_order found =
-    record found { candidates = list_in_order_by is_displayed_before found.candidates }
-
 -- the candidates for a text, from a list of what folders contain: none if the folder can't be
 -- listed. Memory is taken for the path without its escapes, by the list, and for the candidates
 abbrev pub unsorted_completion : (List ℕ → Reply (List Named)) → List ℕ → Reply Completion
 unsorted_completion list text =
-    let listed : Reply (List Named) = list (folder_of (typed_path text).path) in
-    record {
-      answer = option_map (completion_in_list_order (typed_path text)) listed.answer;
+    let typed : Typed = typed_path text in
+    let folder : List ℕ = folder_of typed.path in
+    let listed : Reply (List Named) = list folder in record {
+      answer = option_map (λ all. record {
+        start = typed.start;
+        candidates = offered_names typed.quote folder (after_last (λ b. b == 47) typed.path) all;
+      }) listed.answer;
       takes = escapes_at (unclosed_quote text) || (listed.takes || is_some listed.answer);
     }
 
 abbrev pub path_completion : (List ℕ → Reply (List Named)) → List ℕ → Reply Completion
 path_completion list text =
-    let found : Reply Completion = unsorted_completion list text in
-    record found { answer = option_map completion_in_order found.answer }
+    let in_order : Completion → Completion =
+    λ found. record found { candidates = list_in_order_by is_displayed_before found.candidates } in
+    let reply : Reply Completion = unsorted_completion list text in
+    record reply { answer = option_map in_order reply.answer }

@@ -1,12 +1,12 @@
 -- Highlighted texts: texts with control sequences between their characters.
-use Rattle.std.specs.Prelude.{◌≡◌, ℕ, ◌+◌, ◌&&◌, nat_le, nat_lt, Bool, true, if◌then◌else◌, List, [], ◌∷◌, ◌++◌, length, take, drop, codes, Option, Some, None, is_some, Result, IfOk}
+use Rattle.std.specs.Prelude.{◌≡◌, ℕ, ◌+◌, ◌&&◌, nat_le, nat_lt, Bool, true, if◌then◌else◌, List, [], ◌∷◌, ◌++◌, length, take, drop, codes, Option, Some, None, is_some, option_map, Result, IfOk}
 use Rattle.std.specs.Int.{is_in_range}
 use Rattle.std.specs.List.{list_all}
 use Rattle.line_config.specs.declared.errors.HookFault.{HookFault}
 use Rattle.line_config.specs.declared.settings.CompletionType.{CompletionType}
 use Rattle.line_keys.specs.declared.command.CmdKind.{CmdKind}
 use Rattle.line_keys.specs.declared.command.CmdKind.TheVariants.{ForcedRefresh}
-use Rattle.line_help.specs.Brackets.{bracket_to_match, match_of}
+use Rattle.line_help.specs.Brackets.{bracket_to_match, match_place, partner}
 use Rattle.line_keys.specs.Replies.{Reply, Replies, gives_at_once}
 
 -- the control sequence that sets how the following text is drawn (SGR): ESC [, parameters, m
@@ -34,28 +34,22 @@ pub record Highlights {A : Type 0} (bytes : A → List ℕ) (text : List ℕ) (s
   pub reply : Replies shown bytes result
   pub styled : IfOk result (λ answer. Styled text (bytes answer))
 
--- bold and blue, and as before
-abbrev pub bold_blue : List ℕ
-bold_blue = style_sequence (codes "1;34")
-
-abbrev pub plain_again : List ℕ
-plain_again = style_sequence (codes "0")
-
--- the line with the byte at a place in bold and blue
+-- the line with the byte at a place in bold and blue, and plain after it
 abbrev pub with_bold_byte : List ℕ → Option (ℕ × ℕ) → List ℕ
 with_bold_byte line None = line
 with_bold_byte line (Some found) =
-    take found.1 line ++ (bold_blue ++ (found.0 ∷ (plain_again ++ drop (found.1 + 1) line)))
+    take found.1 line ++ (style_sequence (codes "1;34")
+    ++ (found.0 ∷ (style_sequence (codes "0") ++ drop (found.1 + 1) line)))
 
 -- the match to show of this bracket, if the line has two bytes or more and reaches its place
 abbrev pub match_to_show : List ℕ → Option (ℕ × ℕ) → Option (ℕ × ℕ)
 match_to_show line None = None
 match_to_show line (Some bracket) =
     if nat_le 2 (length line) && nat_lt bracket.1 (length line)
-    then match_of line bracket.1 bracket.0 else None
+    then option_map (λ place. (partner bracket.0, place)) (match_place line bracket.1 bracket.0)
+    else None
 
--- the line with the match of this bracket in bold and blue, in memory that a match takes; every
--- other text as it is
+-- a line with its bracket's match in bold and blue, which takes memory; other texts as they are
 abbrev pub part_with_match : Option (ℕ × ℕ) → DisplayPart → List ℕ → Reply (List ℕ)
 part_with_match bracket (OfLine place) text = record {
   answer = Some (with_bold_byte text (match_to_show text bracket));

@@ -1,5 +1,5 @@
 -- A history: its entries, oldest first, and which lines become entries.
-use Rattle.std.specs.Prelude.{◌≡◌, ℕ, ◌-◌, ◌+◌, ◌==◌, ◌&&◌, ◌||◌, not, min, Bool, true, false, if◌then◌else◌, List, [], ◌∷◌, ◌++◌, length, drop, chars, bytes_eq, Result, IfErr, OnOk, OnErr, String, string_bytes, slice_get}
+use Rattle.std.specs.Prelude.{◌≡◌, ℕ, ◌-◌, ◌+◌, ◌==◌, ◌&&◌, ◌||◌, not, min, Bool, true, false, if◌then◌else◌, List, [], ◌∷◌, ◌++◌, length, drop, chars, bytes_eq, Result, IfErr, OnOk, OnErr, slice_get}
 use Rattle.std.specs.Char.{is_whitespace}
 use Rattle.std.specs.Option.{option_map_or}
 use Rattle.line_config.specs.declared.config.Config.{Config}
@@ -7,8 +7,6 @@ use Rattle.line_config.specs.declared.errors.ReadlineError.{ReadlineError}
 use Rattle.line_config.specs.declared.errors.ReadlineError.TheVariants.{Memory}
 use Rattle.line_config.specs.declared.settings.HistoryDuplicates.{HistoryDuplicates}
 use Rattle.line_config.specs.declared.settings.HistoryDuplicates.TheVariants.{AlwaysAdd, IgnoreConsecutive}
-use Rattle.std.specs.Borrow.{Bor}
-use Rattle.std.specs.declared.alloc.Global.{Global}
 use Rattle.std.specs.VecDeque.Iter.{deque_iter_rest}
 use Rattle.line_help.specs.declared.history.history_iter.HistoryIter.{HistoryIter}
 
@@ -70,17 +68,14 @@ abbrev pub entries_with : Kept → List ℕ → Kept
 entries_with kept entry =
     record kept { entries = newest kept.settings.max_len (kept.entries ++ entry ∷ []) }
 
-abbrev pub count_of_unsaved : Settings → List (List ℕ) → List ℕ → ℕ → ℕ
-count_of_unsaved settings entries line unsaved =
-    if ignores_line settings entries line then unsaved
-    else min (unsaved + 1) (length (entries_after settings entries line))
-
 -- the effect of a line on a history that can be saved
 abbrev pub history_with_line : Filed → List ℕ → Filed
 history_with_line filed line =
-    let kept : Kept = filed.kept in record {
-      kept = record kept { entries = entries_after kept.settings kept.entries line };
-      unsaved = count_of_unsaved kept.settings kept.entries line filed.unsaved;
+    let kept : Kept = filed.kept in
+    let entries : List (List ℕ) = entries_after kept.settings kept.entries line in record {
+      kept = record kept { entries = entries };
+      unsaved = if ignores_line kept.settings kept.entries line then filed.unsaved
+          else min (filed.unsaved + 1) (length entries);
     }
 
 -- a call has this effect on a value, or memory ran out and the value stays
@@ -103,13 +98,12 @@ abbrev pub takes_all : Filed → List (List ℕ) → Bool
 takes_all filed [] = true
 takes_all filed (line ∷ lines) = takes filed line && takes_all (history_with_line filed line) lines
 
-abbrev pub entries_with_max_len : ℕ → Kept → Kept
-entries_with_max_len len kept =
-    record { entries = newest len kept.entries; settings = record kept.settings { max_len = len } }
-
 abbrev pub history_with_max_len : ℕ → Filed → Filed
 history_with_max_len len filed =
-    record { kept = entries_with_max_len len filed.kept; unsaved = min filed.unsaved len }
+    let settings : Settings = record filed.kept.settings { max_len = len } in record {
+      kept = record { entries = newest len filed.kept.entries; settings = settings };
+      unsaved = min filed.unsaved len;
+    }
 
 abbrev pub nothing_kept : Settings → Kept
 nothing_kept settings = record { entries = []; settings = settings }
@@ -124,6 +118,3 @@ all_saved filed = record filed { unsaved = 0 }
 -- the entries that are left, oldest first
 abbrev pub entries_left : HistoryIter → List (List ℕ)
 entries_left iter = deque_iter_rest iter.entries
-
-abbrev pub item_text : Bor (String Global) → List ℕ
-item_text item = string_bytes item.now

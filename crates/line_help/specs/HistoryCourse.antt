@@ -2,14 +2,14 @@
 use Rattle.std.specs.Prelude.{◌==◌, ℕ, if◌then◌else◌, List, [], ◌∷◌, ◌++◌, ◌≡◌, true, ◌≢◌}
 use Rattle.line_help.specs.History.{Settings, Filed, history_with_line, all_saved, history_with_lines, nothing_filed, newest}
 use Rattle.line_help.specs.HistoryText.{saved_text, text_to_append, without_return, text_rows, load_leaves, text_to_save}
+use Rattle.std.specs.List.{fold, AllByRecursion}
 use Rattle.std.specs.Str.{is_utf8}
 use Rattle.line_config.specs.declared.device.Last.TheVariants.{End}
 
 -- each entry is UTF-8, as a text is, and none ends in a carriage return
 abbrev pub CanComeBack : List (List ℕ) → Type 0
-CanComeBack [] = Unit {0}
-CanComeBack (entry ∷ entries) =
-    (is_utf8 entry ≡ true) × (without_return entry ≡ entry) × CanComeBack entries
+CanComeBack entries =
+    AllByRecursion (λ entry. (is_utf8 entry ≡ true) × (without_return entry ≡ entry)) entries
 
 -- a new history, after a text was loaded into it
 abbrev pub history_from_text : Settings → List ℕ → Filed
@@ -42,10 +42,6 @@ after_step settings Appends now =
     record { text = now.text ++ text_to_append now.history; history = all_saved now.history }
 after_step settings Loads now = record now { history = history_from_text settings now.text }
 
-abbrev pub after_steps : Settings → List HistoryStep → WrittenHistory → WrittenHistory
-after_steps settings [] now = now
-after_steps settings (step ∷ steps) now = after_steps settings steps (after_step settings step now)
-
 -- the written text can be loaded again
 abbrev pub CanStep : HistoryStep → WrittenHistory → Type 0
 CanStep Saves now = CanComeBack now.history.kept.entries
@@ -57,8 +53,7 @@ CanMake settings [] now = Unit {0}
 CanMake settings (step ∷ steps) now =
     CanStep step now × CanMake settings steps (after_step settings step now)
 
--- a saved text that isn't empty, loaded into a new history, gives the same as adding the saved
--- entries, and none is new
+-- loading a saved text that isn't empty gives the same as adding its entries, none of them new
 abbrev pub Reload : Type 0
 Reload =
     (settings : Settings) (filed : Filed) → text_to_save filed ≢ [] → CanComeBack filed.kept.entries
@@ -78,6 +73,6 @@ abbrev pub TextKeepsUp : Type 0
 TextKeepsUp = (settings : Settings) (lines : List (List ℕ)) (steps : List HistoryStep)
     → let made : Filed = history_made_of settings lines in
     let start : WrittenHistory = record { text = saved_text made.kept.entries; history = made } in
-    let now = after_steps settings steps start in
+    let now = fold (λ now step. after_step settings step now) start steps in
     CanComeBack made.kept.entries → CanMake settings steps start → now.history.unsaved ≡ 0
     → history_from_text settings now.text ≡ now.history

@@ -1,5 +1,6 @@
--- The text of a history: what is saved of a list of entries, and which entries a text gives.
-use Rattle.std.specs.Prelude.{◌≡◌, ℕ, zero, suc, ◌==◌, ◌&&◌, Bool, true, false, if◌then◌else◌, List, [], ◌∷◌, ◌++◌, flat_map, bytes_eq, codes, Option, Some, None, option_map, unwrap_or, Result, Ok, Err, IsTrue, ⊤, IfOk, IfErr, OnOk, OnErr, ◌⊎◌, ◌<◌, ◌≤◌, length, take, slice_get}
+-- Texts of rows: what is saved of a history, and which entries or words a text gives.
+use Rattle.std.specs.Prelude.{◌≡◌, ◌≢◌, map, String, string_bytes, ℕ, zero, suc, ◌==◌, ◌&&◌, Bool, true, false, if◌then◌else◌, List, [], ◌∷◌, ◌++◌, flat_map, bytes_eq, codes, not, Option, Some, None, option_map, unwrap_or, Result, Ok, Err, is_ok, IsTrue, ⊤, IfOk, IfErr, OnOk, OnErr, ◌⊎◌, ◌<◌, ◌≤◌, length, take, slice_get}
+use Rattle.std.specs.Global.{Global, Vec}
 use Rattle.std.specs.List.{list_any}
 use Rattle.std.specs.Option.{option_map_or}
 use Rattle.std.specs.Result.{result_map_both}
@@ -8,7 +9,7 @@ use Rattle.line_config.specs.Feed.{Feed, GivesByte, GivesBytes, device_failed}
 use Rattle.line_config.specs.declared.device.Last.{Last}
 use Rattle.line_config.specs.declared.device.Last.TheVariants.{End, Failed}
 use Rattle.line_config.specs.declared.errors.ReadlineError.{ReadlineError}
-use Rattle.line_config.specs.declared.errors.ReadlineError.TheVariants.{Reader, HistoryText, Memory}
+use Rattle.line_config.specs.declared.errors.ReadlineError.TheVariants.{Reader, HistoryText, Memory, NotUtf8}
 use Rattle.line_help.specs.History.{Filed, newest, history_with_lines, takes_all, all_saved}
 use Rattle.line_config.specs.Sending.{Takes, TakesSome, Sends}
 
@@ -55,23 +56,17 @@ abbrev pub entry_of : Bool → List ℕ → List ℕ
 entry_of false row = row
 entry_of true row = unwrap_or (unescaped_row row) row
 
-abbrev pub begins_with_newline : List ℕ → Bool
-begins_with_newline [] = false
-begins_with_newline (b ∷ bs) = b == 10
-
--- a byte before the rows of the following text. The last row needn't end in a newline, but a
--- failure of the source drops such a row
+-- a byte before the rows of the following text; a failure drops a last row without a newline
 abbrev pub onto : List (List ℕ) → Last → ℕ → List (List ℕ)
 onto (row ∷ rows) last b = (b ∷ row) ∷ rows
 onto [] End b = (b ∷ []) ∷ []
 onto [] Failed b = []
 
--- the rows of a text that this follows: they end at newlines, and a carriage return right before a
--- newline isn't part of its row
+-- the rows of a text that this follows; a carriage return right before a newline is in no row
 abbrev pub text_rows : Last → List ℕ → List (List ℕ)
 text_rows last [] = []
 text_rows last (b ∷ bs) = if b == 10 then [] ∷ text_rows last bs
-    else if b == 13 && begins_with_newline bs then text_rows last bs
+    else if b == 13 && option_map_or (λ c. c == 10) (slice_get bs 0) false then text_rows last bs
     else onto (text_rows last bs) last b
 
 -- the text after the first row of a text: after its newline, or empty
@@ -89,20 +84,11 @@ abbrev pub good_rows : List (List ℕ) → List (List ℕ)
 good_rows [] = []
 good_rows (row ∷ rows) = if is_utf8 row then row ∷ good_rows rows else []
 
--- why a row isn't taken: it isn't UTF-8, which is this error, or else memory ran out
-abbrev pub row_fault : ReadlineError → List ℕ → ReadlineError
-row_fault broken row = if is_utf8 row then Memory else broken
-
 -- the entries of rows: empty rows give none
 abbrev pub entries_of : Bool → List (List ℕ) → List (List ℕ)
 entries_of escapes [] = []
 entries_of escapes ([] ∷ rows) = entries_of escapes rows
 entries_of escapes ((b ∷ bs) ∷ rows) = entry_of escapes (b ∷ bs) ∷ entries_of escapes rows
-
--- the history after the first row
-abbrev pub after_first : Filed → List ℕ → Filed
-after_first filed row =
-    if bytes_eq row header then filed else history_with_lines filed (entries_of false (row ∷ []))
 
 -- the texts that loading these rows adds, in order
 abbrev pub texts_of : List (List ℕ) → List (List ℕ)
@@ -130,8 +116,7 @@ EndIsMet met feed = IsTrue met → (feed.failed ≡ false)
 
 -- whether a row isn't UTF-8
 abbrev pub has_bad_row : List (List ℕ) → Bool
-has_bad_row [] = false
-has_bad_row (row ∷ rows) = if is_utf8 row then has_bad_row rows else true
+has_bad_row rows = list_any (λ row. not (is_utf8 row)) rows
 
 -- each whole row that was read from a text is UTF-8, and this remains
 pub record ReadsGood (text coming : List ℕ) : Type 0 where
@@ -139,22 +124,15 @@ pub record ReadsGood (text coming : List ℕ) : Type 0 where
   pub split : text ≡ read ++ coming
   pub good : has_bad_row (text_rows Failed read) ≡ false
 
--- good rows read after this are good rows read from the text's start
-abbrev pub GoodUpTo : List ℕ → List ℕ → Type 0
-GoodUpTo text coming = (later : List ℕ) → ReadsGood coming later → ReadsGood text later
-
 -- whether a result says that the source failed
 abbrev pub says_reader : {A : Type 0} → Result A ReadlineError → Bool
 says_reader (Err Reader) = true
 says_reader result = false
 
 -- the result of reading rows: a row that isn't UTF-8 comes before the failure of the source
-abbrev pub answer_at : Last → Bool → Result Bool ReadlineError
-answer_at End whole = Ok whole
-answer_at Failed whole = Err Reader
-
 abbrev pub rows_answer : Last → List (List ℕ) → Bool → Result Bool ReadlineError
-rows_answer last rows whole = if has_bad_row rows then Err HistoryText else answer_at last whole
+rows_answer End rows whole = if has_bad_row rows then Err HistoryText else Ok whole
+rows_answer Failed rows whole = if has_bad_row rows then Err HistoryText else Err Reader
 
 -- the answer of a load: whether the header was there and no row was ignored
 abbrev pub load_answer : Last → List (List ℕ) → Filed → Result Bool ReadlineError
@@ -163,19 +141,10 @@ load_answer last rows filed =
     rows_answer last rows (headed && takes_all filed (texts_of (good_rows rows)))
 
 -- the history after it: with all rows before an error, and with no new entry if there is none
-abbrev pub history_left_at : Last → Filed → Filed
-history_left_at End filed = all_saved filed
-history_left_at Failed filed = filed
-
 abbrev pub load_leaves : Last → List (List ℕ) → Filed → Filed
 load_leaves last rows filed =
     let after : Filed = history_with_lines filed (texts_of (good_rows rows)) in
-    if has_bad_row rows then after else history_left_at last after
-
--- whether such a result follows from the text alone: running out of memory doesn't
-abbrev pub follows : Result Bool ReadlineError → Bool
-follows (Err Memory) = false
-follows result = true
+    if is_ok (load_answer last rows filed) then all_saved after else after
 
 -- a row without the carriage return at its end
 abbrev pub without_return : List ℕ → List ℕ
@@ -230,7 +199,7 @@ pub record ReadsRow (old new : Feed) (bytes : List ℕ) (met : Bool)
       → (old.last ≡ Failed) × (new.coming ≡ []) × (text_rows old.last old.coming ≡ [])
   pub lost : IsTrue new.told → LosesRow old.coming new.coming
   pub good : IsTrue new.told → result ≡ Ok true → is_utf8 bytes ≡ true
-      → GoodUpTo old.coming new.coming
+      → (later : List ℕ) → ReadsGood new.coming later → ReadsGood old.coming later
   pub memory : IsTrue new.told → result ≡ Err Memory → ReadsGood old.coming new.coming
   pub ended : EndIsMet met new
   pub fault : IfErr result (λ e. (e ≡ Memory) ⊎ (e ≡ Reader))
@@ -261,9 +230,9 @@ pub record LoadsSome (texts : List (List ℕ) → List (List ℕ)) (last : Last)
 pub record LoadsAs (wanted : Result Bool ReadlineError) (filed : Filed)
     (texts : List (List ℕ) → List (List ℕ)) (old new : Feed) (before after : Filed)
     (result : Result Bool ReadlineError) : Type 0 where
-  pub answer : IsTrue new.told → IsTrue (follows result) → result ≡ wanted
-  pub history : IsTrue new.told → IsTrue (follows result) → after ≡ filed
-  pub left : IsTrue new.told → IsTrue (follows result)
+  pub answer : IsTrue new.told → result ≢ Err Memory → result ≡ wanted
+  pub history : IsTrue new.told → result ≢ Err Memory → after ≡ filed
+  pub left : IsTrue new.told → result ≢ Err Memory
       → new.coming ≡ rest_after_load old.last old.coming
   pub part : IsTrue new.told
       → OnErr result (LoadsSome texts old.last old.coming new.coming before after)
@@ -298,4 +267,25 @@ pub record AddsRow (row : List ℕ) (took : Bool) (wanted before after : Filed)
   pub added : OnOk result (after ≡ wanted)
   pub text : OnOk result (is_utf8 row ≡ true)
   pub kept : OnErr result (after ≡ before)
-  pub fault : IfErr result (λ e. (e ≡ row_fault HistoryText row) × (0 < length row))
+  pub fault : IfErr result
+      (λ e. (e ≡ (if is_utf8 row then Memory else HistoryText)) × (0 < length row))
+
+-- the words of a text are its rows, split like a history's, but no empty ones; the text says what
+-- remains, unless memory ran out. All this holds if the source agrees with the assumption
+pub record LoadsWords (old new : Feed) (result : Result (Vec (String Global)) ReadlineError)
+    : Type 0 where
+  pub words : IsTrue new.told → IfOk result
+      (λ words. map string_bytes words.items ≡ entries_of false (text_rows old.last old.coming))
+  pub end : IsTrue new.told → IfOk result (λ words. old.last ≡ End)
+  pub broken : IsTrue new.told → result ≡ Err NotUtf8
+      → has_bad_row (text_rows old.last old.coming) ≡ true
+  pub cut : IsTrue new.told → result ≡ Err Reader
+      → (old.last ≡ Failed) × (has_bad_row (text_rows old.last old.coming) ≡ false)
+  pub memory : IsTrue new.told → result ≡ Err Memory → ReadsGood old.coming new.coming
+  pub left : IsTrue new.told → result ≢ Err Memory
+      → new.coming ≡ rest_after_load old.last old.coming
+  pub refused : IfErr result (λ e. (e ≡ Memory) ⊎ ((e ≡ NotUtf8) ⊎ (e ≡ Reader)))
+  pub failure : new.failed ≡ says_reader result
+  pub told : IsTrue new.told → IsTrue old.told
+  pub last : new.last ≡ old.last
+  pub keeps : new.bound ≤ old.bound

@@ -11,4 +11,3 @@ pub mod Quotes
 pub mod Search
 pub mod SplitStyles
 pub mod Validation
-pub mod WordList

@@ -1,6 +1,7 @@
 -- Styles of drawn texts: the spans of a text, one after another.
 use Rattle.std.specs.Prelude.{◌≡◌, ℕ, ◌==◌, ◌&&◌, nat_lt, Bool, true, false, if◌then◌else◌, List, [], ◌∷◌, drop, length, Option, Some, None, is_some, option_map, flat_map, replicate}
 use Rattle.std.specs.List.{position_or_len}
+use Rattle.std.specs.Option.{option_map_or}
 use Rattle.line_keys.specs.declared.command.CmdKind.{CmdKind}
 use Rattle.line_help.specs.declared.helpers.style.Colour.TheVariants.{Terminal, Basic}
 use Rattle.line_help.specs.declared.helpers.style.Hue.TheVariants.{Blue, Red}
@@ -59,24 +60,17 @@ message_style = record plain { text = Basic Red }
 
 -- ---- the match of the bracket at the cursor
 
-abbrev pub match_byte : Span
-match_byte = record { len = 1; style = match_style }
-
 -- the place of the match that is to be shown
 abbrev pub match_place : List ℕ → ℕ → Option ℕ
 match_place text pos =
     option_map (λ found. found.1) (match_to_show text (bracket_to_match text pos))
 
--- the text before it is plain; what follows it has no span
-abbrev pub match_spans : Option ℕ → List Span
-match_spans None = []
-match_spans (Some place) = record { len = place; style = plain } ∷ (match_byte ∷ [])
-
--- the mark's state is 0 at the start, and 1 after the plain span
+-- by the mark's state: 0, a plain span before the match, and it; 1, the match; else nothing
 abbrev pub paints_match : Part → List ℕ → Mark → List Span
 paints_match (Line pos) text from =
-    if from.state == 0 then match_spans (match_place text pos)
-    else if from.state == 1 then (match_byte ∷ []) else []
+    let found : List Span = record { len = 1; style = match_style } ∷ [] in
+    if from.state == 0 then option_map_or (λ place. record { len = place; style = plain } ∷ found)
+    (match_place text pos) [] else if from.state == 1 then found else []
 paints_match part text from = []
 
 -- ---- the standard highlighter
@@ -88,11 +82,10 @@ first_bytes style len from = if from.state == 0 && nat_lt 0 len
 
 -- a line's match is bold and blue, a hint faint, a message's first row red, and a prompt plain
 abbrev pub standard_paints : Part → List ℕ → Mark → List Span
-standard_paints (Line pos) text from = paints_match (Line pos) text from
 standard_paints Hint text from = first_bytes hint_style (length text) from
 standard_paints Message text from =
     first_bytes message_style (position_or_len (λ byte. byte == 10) text) from
-standard_paints part text from = []
+standard_paints part text from = paints_match part text from
 
 abbrev pub standard_marks : Marks
 standard_marks = record {

@@ -35,13 +35,10 @@ text_with_escapes text esc breaks quote = option_map_or
     (λ e. encode_utf8_all (escaped_chars e breaks (chars text))) (escape_in quote esc) text
 
 -- whether a backslash is an escape, by the open quote: it is one outside and between double quotes
-abbrev pub escapes_in : Quote → Bool
-escapes_in Double = true
-escapes_in quote = false
-
 abbrev pub escapes_at : Option (ℕ × Quote) → Bool
 escapes_at None = true
-escapes_at (Some within) = escapes_in within.1
+escapes_at (Some (place, Double)) = true
+escapes_at within = false
 
 -- the byte that closes a quote
 abbrev pub closes_quote : Quote → ℕ → Bool

@@ -1,8 +1,8 @@
 -- Texts with control sequences (ECMA-48): the text without them, and the styles that SGR gives it.
-use Rattle.std.specs.Prelude.{◌≡◌, ◌≢◌, ◌<◌, ◌≤◌, ⊤, ℕ, zero, suc, ◌+◌, ◌-◌, ◌*◌, ◌==◌, ◌&&◌, nat_lt, min, Bool, true, false, if◌then◌else◌, List, [], ◌∷◌, ◌++◌, length, take, drop, slice_index, sum_by, replicate, Option, None, Some, option_map}
+use Rattle.std.specs.Prelude.{◌≡◌, ◌≢◌, ◌<◌, ◌≤◌, ⊤, ℕ, zero, suc, ◌+◌, ◌-◌, ◌*◌, ◌==◌, ◌&&◌, ◌||◌, nat_lt, min, Bool, true, false, if◌then◌else◌, List, [], ◌∷◌, ◌++◌, length, take, drop, slice_get, slice_index, sum_by, replicate, Option, None, Some, option_map}
 use Rattle.std.specs.Borrow.{Bor}
 use Rattle.std.specs.Int.{is_in_range}
-use Rattle.std.specs.Option.{option_map_or}
+use Rattle.std.specs.Option.{option_and_then, option_map_or}
 use Rattle.line_help.specs.declared.helpers.style_split.Open.{Open}
 use Rattle.line_help.specs.declared.helpers.style_split.Open.TheVariants.{Nothing, Kind, Index, Parts, OnePart, TwoParts, Dropped}
 use Rattle.line_help.specs.declared.helpers.style.Colour.{Colour}
@@ -94,33 +94,25 @@ abbrev pub rgb_in : List ℕ → Option Colour
 rgb_in (r ∷ (g ∷ (b ∷ ns))) = rgb r g b
 rgb_in ns = None
 
-abbrev pub palette_in : List ℕ → Option Colour
-palette_in (n ∷ ns) = palette n
-palette_in ns = None
-
 -- the colour that follows 38 or 48: 5 and a number, or 2 and three, each below 256
 abbrev pub colour_in : List ℕ → Option Colour
 colour_in [] = None
-colour_in (kind ∷ ns) = if kind == 5 then palette_in ns else if kind == 2 then rgb_in ns else None
+colour_in (kind ∷ ns) = if kind == 5 then option_and_then palette (slice_get ns 0)
+    else if kind == 2 then rgb_in ns else None
 
 -- how many numbers belong to it: all of them if the first is neither 5 nor 2
 abbrev pub colour_len : List ℕ → ℕ
 colour_len [] = 0
 colour_len (kind ∷ ns) = if kind == 5 then 2 else if kind == 2 then 4 else suc (length ns)
 
-abbrev pub style_after_number : ℕ → List ℕ → Style → Style
-style_after_number n ns s = if n == 38 then with_colour false (colour_in ns) s
-    else if n == 48 then with_colour true (colour_in ns) s else with_number n s
-
-abbrev pub count_taken : ℕ → List ℕ → ℕ
-count_taken n ns = if n == 38 then colour_len ns else if n == 48 then colour_len ns else 0
-
 -- what numbers change; so many of them belong to the colour of one before
 abbrev pub style_after_numbers : ℕ → List ℕ → Style → Style
 style_after_numbers skip [] s = s
 style_after_numbers (suc k) (n ∷ ns) s = style_after_numbers k ns s
 style_after_numbers zero (n ∷ ns) s =
-    style_after_numbers (count_taken n ns) ns (style_after_number n ns s)
+    style_after_numbers (if n == 38 || n == 48 then colour_len ns else 0) ns
+    (if n == 38 then with_colour false (colour_in ns) s
+    else if n == 48 then with_colour true (colour_in ns) s else with_number n s)
 
 -- the numbers up to m, if only digits and semicolons precede it. The first has begun with n, an
 -- empty one is 0, and 999 stands for all above it

@@ -24,11 +24,6 @@ abbrev pub message_of_unpaired : ℕ → List ℕ
 message_of_unpaired closing = codes "Mismatched brackets: '" ++
     (encode_utf8 closing ++ codes "' is unpaired")
 
--- the verdict at the end of the text, with these brackets open
-abbrev pub verdict_at_end : List ℕ → ValidationResult
-verdict_at_end [] = Valid None
-verdict_at_end (opening ∷ others) = Incomplete
-
 -- the verdict on a closing bracket that doesn't close the innermost one of these open ones
 abbrev pub mismatch : ℕ → List ℕ → ValidationResult
 mismatch closing [] = Invalid (Some (message_of_unpaired closing))
@@ -38,20 +33,16 @@ abbrev pub closes_innermost : ℕ → List ℕ → Bool
 closes_innermost closing [] = false
 closes_innermost closing (opening ∷ others) = partner opening == closing
 
-abbrev pub without_innermost : List ℕ → List ℕ
-without_innermost [] = []
-without_innermost (opening ∷ others) = others
-
 -- the verdict on a text, with these brackets open before it, the innermost first
 abbrev pub verdict_from : List ℕ → List ℕ → ValidationResult
-verdict_from unclosed [] = verdict_at_end unclosed
 verdict_from unclosed (byte ∷ text) = if is_opening byte then verdict_from (byte ∷ unclosed) text
     else if is_closing byte then (if closes_innermost byte unclosed
-    then verdict_from (without_innermost unclosed) text else mismatch byte unclosed)
+    then verdict_from (drop 1 unclosed) text else mismatch byte unclosed)
     else verdict_from unclosed text
+verdict_from [] [] = Valid None
+verdict_from (opening ∷ others) [] = Incomplete
 
--- no bracket stands between these places of a text: whatever is open, the verdict on the text from
--- the one place is that on the text from the other
+-- no bracket is between these places: whatever is open, the verdicts from both on are the same
 abbrev pub HasNoBracket : List ℕ → ℕ → ℕ → Type 0
 HasNoBracket text from upto = (unclosed : List ℕ)
     → verdict_from unclosed (drop from text) ≡ verdict_from unclosed (drop upto text)

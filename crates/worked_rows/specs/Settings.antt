@@ -10,7 +10,7 @@ use Rattle.line_config.specs.declared.settings.CompletionType.TheVariants.{List 
 use Rattle.line_config.specs.declared.settings.EditMode.{EditMode}
 use Rattle.line_config.specs.declared.settings.EditMode.TheVariants.{Vi}
 use Rattle.line_editor.specs.LineRun.{Helping, helper_from_hooks}
-use Rattle.line_help.specs.Completion.{nothing_offered, whole_word_reply}
+use Rattle.line_help.specs.Completion.{nothing_offered, word_offered, words_reply}
 use Rattle.line_help.specs.Hints.{hint_of_history}
 use Rattle.line_help.specs.HistoryText.{entries_of, text_rows}
 use Rattle.line_help.specs.Paints.{standard_marks}
@@ -128,7 +128,7 @@ aide_ending end brackets words =
     helper_from_hooks {H = ⊤} (λ h line pos entries place. hint_of_history line pos entries place)
     (λ h text. if brackets then bracket_reply text else gives_at_once (Valid None))
     (λ h line pos entries place. option_map_or
-    (λ ws. whole_word_reply (record { words = ws; end = end }) (take pos line)) words
+    (λ ws. words_reply (word_offered end) ws (take pos line)) words
     (gives_at_once nothing_offered)) (λ h line start elected. gives tt)
     (λ h. standard_marks) (Some tt)
 

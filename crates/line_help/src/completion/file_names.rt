@@ -1,11 +1,12 @@
 //! Completion of file names, from lists of what folders contain.
-ghost use Rattle.std.specs.Prelude.{◌≡◌, ◌++◌, ℕ, List, length, take, IsTrue, IfOk, IfErr, IsCharBoundary, string_bytes, vec_items, Some};
+ghost use Rattle.std.specs.Prelude.{◌≡◌, ◌==◌, ◌++◌, ℕ, List, nat_eq, drop, if◌then◌else◌, length, take, IsTrue, IfOk, IfErr, IsCharBoundary, string_bytes, vec_items, Some};
 ghost use Rattle.std.specs.Cow.{cow_str_bytes};
 ghost use Rattle.line_config.specs.declared.errors.HookFault.TheVariants.{Memory};
 ghost use Rattle.line_help.specs.Completion.{Offered, completion_by};
-ghost use Rattle.line_help.specs.FileNames.{Named, path_word, path_after_quote, is_special, typed_path, name_of, folder_of, offered_name, offered_names, name_begins, unsorted_completion, path_completion, is_displayed_before};
+ghost use Rattle.line_help.specs.FileNames.{Named, is_special, typed_path, folder_of, offered_name, offered_names, unsorted_completion, path_completion, is_displayed_before};
+ghost use Rattle.std.specs.List.{after_last, starts_with};
 ghost use Rattle.std.specs.List.Sorted.{IsSortedBy};
-ghost use Rattle.line_help.specs.Quotes.{text_with_escapes, escapes_in, escapes_at, unclosed_quote};
+ghost use Rattle.line_help.specs.Quotes.{text_with_escapes, text_without_escapes, escapes_at, unclosed_quote};
 ghost use Rattle.line_keys.specs.Replies.{Reply, Replies, gives, itself};
 
 use crate::completion::quotes::{Quote, escape, find_unclosed_quote, unescape};
@@ -39,7 +40,7 @@ impl Model for Listed {
 
 impl Listed {
     fn begins_with(&self, name: &str) -> bool
-        ensures { result ≡ name_begins name.now self.now }
+        ensures { result ≡ starts_with nat_eq self.now.name name.now }
     {
         self.name.as_str().starts_with(name)
     }
@@ -81,9 +82,13 @@ fn quoted<'l>(
     quote: Quote,
 ) -> Result<TypedPath<'l>, HookFault>
     requires { IsCharBoundary text.now start }
-    ensures typed { IfOk result (λ typed. path_word typed.start (cow_str_bytes typed.path)
-        typed.quote ≡ path_after_quote start quote text.now) }
-    ensures fault { IfErr result (λ e. (e ≡ Memory) × IsTrue (escapes_in quote)) }
+    ensures start { IfOk result (λ typed. typed.start ≡ start) }
+    ensures path { IfOk result (λ typed. cow_str_bytes typed.path
+        ≡ (if escapes_at (Some (start, quote))
+        then text_without_escapes (drop start text.now) (Some 92) else drop start text.now)) }
+    ensures quote { IfOk result (λ typed. typed.quote ≡ quote) }
+    ensures fault { IfErr result (λ e. (e ≡ Memory)
+        × IsTrue (escapes_at (Some (start, quote)))) }
 {
     let rest = &text[start..];
     let path = match quote {
@@ -96,8 +101,8 @@ fn quoted<'l>(
 /// The path at the end of a text: the text after an open quote, or the last word.
 #[tactic(auto, using(crate::proofs::FileNameLemmas::behind_quote))]
 fn typed_path<'l>(alloc: Global, text: &'l str) -> Result<TypedPath<'l>, HookFault>
-    ensures typed { IfOk result (λ typed. path_word typed.start (cow_str_bytes typed.path)
-        typed.quote ≡ typed_path text.now) }
+    ensures typed { IfOk result (λ typed. typed_path text.now ≡ record
+        { start = typed.start; path = cow_str_bytes typed.path; quote = typed.quote }) }
     ensures fault { IfErr result (λ e. (e ≡ Memory)
         × IsTrue (escapes_at (unclosed_quote text.now))) }
 {
@@ -118,7 +123,7 @@ fn typed_path<'l>(alloc: Global, text: &'l str) -> Result<TypedPath<'l>, HookFau
 /// A path's folder, up to its last slash, and its name.
 fn split_path(path: &str) -> (&str, &str)
     ensures folder { result.0.now ≡ folder_of path.now }
-    ensures name { result.1.now ≡ name_of path.now }
+    ensures name { result.1.now ≡ after_last (λ b. b == 47) path.now }
 {
     match path.rfind('/') {
         Some(place) => path.split_at(place + 1),

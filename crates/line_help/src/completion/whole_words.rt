@@ -2,7 +2,7 @@
 ghost use Rattle.std.specs.Prelude.{◌≡◌, ◌<◌, map, take, length, IfOk, IfErr, string_bytes};
 ghost use Rattle.line_config.specs.declared.errors.HookFault.TheVariants.{Memory};
 ghost use Rattle.line_keys.specs.Replies.{gives};
-ghost use Rattle.line_help.specs.Completion.{whole_word_reply, word_offered};
+ghost use Rattle.line_help.specs.Completion.{word_offered, words_reply};
 
 use crate::completion::word_before::extract_word;
 use crate::completion::word_completer::words_for;
@@ -118,7 +118,8 @@ fn whole_words(alloc: Global, words: &[String], end: &str) -> Result<Vec<WholeWo
 impl Completer for WholeWordCompleter {
     type Candidate = WholeWord;
 
-    ghost completion_of = { λ held line pos entries place. whole_word_reply held (take pos line) };
+    ghost completion_of = { λ held line pos entries place.
+        words_reply (word_offered held.end) held.words (take pos line) };
 
     ghost update_of = { λ held line start elected. gives (tt {0}) };
 

@@ -1,9 +1,10 @@
 //! The word before a place in a line.
-ghost use Rattle.std.specs.Prelude.{◌≡◌, ℕ, Bool, List, take, drop, reverse, length, true, false, MatchOption, IfSome, encode_utf8, IsCharBoundary, IsUtf8, ◌++◌, []};
+ghost use Rattle.std.specs.Prelude.{◌≡◌, ℕ, Bool, List, slice_get, take, drop, reverse, length, true, false, MatchOption, IfSome, encode_utf8, IsCharBoundary, IsUtf8, ◌++◌, []};
 ghost use Rattle.std.specs.Char.{IsScalar};
+ghost use Rattle.std.specs.Option.{option_map_or};
 ghost use Rattle.std.specs.Str.{chars};
 ghost use Rattle.line_help.specs.Quotes.{Tells};
-ghost use Rattle.line_help.specs.Completion.{is_escape, is_escaped, word_start, break_characters, double_quote_characters, is_among};
+ghost use Rattle.line_help.specs.Completion.{is_escape, word_start, break_characters, double_quote_characters, is_among};
 
 /// Whether a character ends a word in a shell.
 pub(crate) fn ends_word(c: char) -> bool
@@ -62,7 +63,8 @@ fn split_last(text: &str) -> Option<(&str, char)>
 /// The text before an escape at its end.
 #[tactic(auto, using(crate::proofs::WordBeforeLemmas::text_ends))]
 fn strip_escape(text: &str, esc_char: Option<char>) -> Option<&str>
-    ensures { MatchOption result (is_escaped esc_char (reverse (chars text.now)) ≡ false)
+    ensures { MatchOption result (option_map_or (is_escape esc_char)
+        (slice_get (reverse (chars text.now)) 0) false ≡ false)
         (λ front. (d : ℕ) × (text.now ≡ front.now ++ encode_utf8 d) × IsUtf8 front.now × IsScalar d
         × (is_escape esc_char d ≡ true)) }
 {

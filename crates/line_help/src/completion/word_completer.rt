@@ -2,7 +2,7 @@
 ghost use Rattle.std.specs.Prelude.{◌≡◌, ◌<◌, map, take, length, nat_eq, IfOk, IfErr, string_bytes};
 ghost use Rattle.std.specs.List.{starts_with};
 ghost use Rattle.line_keys.specs.Replies.{gives};
-ghost use Rattle.line_help.specs.Completion.{words_for, word_reply};
+ghost use Rattle.line_help.specs.Completion.{text_offered, words_for, words_reply};
 
 use crate::completion::word_before::extract_word;
 use crate::completion::{Completer, update_line};
@@ -66,7 +66,8 @@ pub(crate) fn words_for(
 impl Completer for WordCompleter {
     type Candidate = String;
 
-    ghost completion_of = { λ words line pos entries place. word_reply words (take pos line) };
+    ghost completion_of = { λ words line pos entries place.
+        words_reply text_offered words (take pos line) };
 
     ghost update_of = { λ words line start elected. gives (tt {0}) };
 

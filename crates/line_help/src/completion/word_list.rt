@@ -1,9 +1,8 @@
 //! Words of a text, one per row.
-ghost use Rattle.std.specs.Prelude.{◌≡◌, ◌<◌, ◌++◌, ◌∷◌, [], length, true, false, map, string_bytes, IsTrue, IfErr, OnOk};
+ghost use Rattle.std.specs.Prelude.{◌≡◌, ◌<◌, if◌then◌else◌, ◌++◌, ◌∷◌, [], length, true, false, map, string_bytes, IsTrue, IfErr, OnOk};
 ghost use Rattle.std.specs.Str.{is_utf8};
-ghost use Rattle.line_config.specs.declared.errors.ReadlineError.TheVariants.{NotUtf8};
-ghost use Rattle.line_help.specs.HistoryText.{entries_of, row_fault};
-ghost use Rattle.line_help.specs.WordList.{LoadsWords};
+ghost use Rattle.line_config.specs.declared.errors.ReadlineError.TheVariants.{Memory, NotUtf8};
+ghost use Rattle.line_help.specs.HistoryText.{entries_of, LoadsWords};
 
 use crate::history::rows::RowReader;
 use line_config::{ReadlineError, Source};
@@ -14,7 +13,8 @@ fn push_word(alloc: Global, words: &mut Vec<String>, row: &[u8]) -> Result<(), R
     ensures added { OnOk result (map string_bytes words.new.items
         ≡ map string_bytes words.old.items ++ entries_of false (row.now ∷ [])) }
     ensures text { OnOk result (is_utf8 row.now ≡ true) }
-    ensures fault { IfErr result (λ e. (e ≡ row_fault NotUtf8 row.now) × (0 < length row.now)) }
+    ensures fault { IfErr result (λ e. (e ≡ (if is_utf8 row.now then Memory else NotUtf8))
+        × (0 < length row.now)) }
 {
     if row.is_empty() {
         return Ok(());

@@ -1,6 +1,6 @@
 //! Brackets: the one at the cursor, and its match.
 ghost use Rattle.std.specs.Prelude.{◌≡◌, ◌+◌, ◌-◌, ◌<◌, IfSome, Some, option_map, slice_get, length, take, drop, reverse};
-ghost use Rattle.line_help.specs.Brackets.{is_opening, is_closing, is_bracket, partner, bracket_at, bracket_near, bracket_to_match, bytes_between, match_of};
+ghost use Rattle.line_help.specs.Brackets.{is_opening, is_closing, is_bracket, partner, bracket_at, bracket_near, bracket_to_match, bytes_between, match_place};
 
 /// Whether a byte opens brackets.
 pub(crate) fn is_opening(byte: u8) -> bool
@@ -87,7 +87,8 @@ pub fn check_bracket(line: &str, pos: usize) -> Option<(u8, usize)>
 /// Brackets of other kinds don't count. A byte that is no bracket has no match. The byte at `pos`
 /// itself isn't read.
 pub fn find_matching_bracket(line: &str, pos: usize, bracket: u8) -> Option<(u8, usize)>
-    ensures place { result ≡ match_of line.now pos bracket }
+    ensures place { result
+        ≡ option_map (λ place. (partner bracket, place)) (match_place line.now pos bracket) }
     ensures stands { IfSome result (λ found. slice_get line.now found.1 ≡ Some found.0) }
     ensures ascii { IfSome result (λ found. found.0 < 128) }
 {

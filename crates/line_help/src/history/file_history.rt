@@ -248,7 +248,7 @@ impl<'a> IntoIterator for &'a FileHistory {
 impl FileHistory {
     ghost use Rattle.std.specs.Prelude.{◌≡◌, ◌∷◌, [], false, bytes_eq};
     ghost use Rattle.line_help.specs.History.{history_with_lines, takes_all};
-    ghost use Rattle.line_help.specs.HistoryText.{after_first, entries_of, header, AddsRow, EndIsMet, Loads, LoadsRows};
+    ghost use Rattle.line_help.specs.HistoryText.{entries_of, header, texts_of, AddsRow, EndIsMet, Loads, LoadsRows};
 
     /// Adds the entry of a row, and returns whether it isn't ignored. An empty row has no entry.
     fn add_row(&mut self, alloc: Global, row: &[u8], escapes: bool) -> Result<bool, ReadlineError>
@@ -270,8 +270,8 @@ impl FileHistory {
 
     /// Adds the first row: the header, or a row without escapes. Returns whether it is the header.
     fn add_first(&mut self, alloc: Global, row: &[u8]) -> Result<bool, ReadlineError>
-        ensures { AddsRow row.now (bytes_eq row.now header) (after_first self.old row.now)
-            self.old self.new result }
+        ensures { AddsRow row.now (bytes_eq row.now header)
+            (history_with_lines self.old (texts_of (row.now ∷ []))) self.old self.new result }
     {
         if row == b"#V2".as_slice() {
             return Ok(true);

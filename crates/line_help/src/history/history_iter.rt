@@ -27,9 +27,9 @@ impl<'a> Iterator for HistoryIter<'a> {
 
     ghost use Rattle.std.specs.Prelude.{string_bytes};
     ghost use Rattle.std.specs.Iterator.{YieldsFirstBy, item_count};
-    ghost use Rattle.line_help.specs.History.{entries_left, item_text};
+    ghost use Rattle.line_help.specs.History.{entries_left};
 
-    ghost next_gives = { YieldsFirstBy item_text entries_left };
+    ghost next_gives = { YieldsFirstBy (λ item. string_bytes item.now) entries_left };
 
     ghost remaining = { item_count entries_left };
 

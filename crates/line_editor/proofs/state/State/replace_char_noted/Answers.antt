@@ -2,7 +2,7 @@ use Rattle.std.proofs.Common.{refl, sym, ap, subst, ◌∙◌}
 use Rattle.std.specs.Prelude.{is_some}
 use Rattle.line_buffer.specs.Clusters.{place_forward}
 use Rattle.line_edits.specs.Edits.{replace_group_if_any}
-use Rattle.line_edits.specs.Written.{line_and_record_in}
+use Rattle.line_edits.specs.WriteSteps.{line_and_record_in}
 use Rattle.line_editor.specs.Drawing.{since, refresh_effect_since, effect_if}
 use Rattle.line_editor.specs.Inserting.{replace_char}
 use Rattle.line_editor.specs.States.{value_of, setting_of}

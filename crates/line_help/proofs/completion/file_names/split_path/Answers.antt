@@ -1,7 +1,6 @@
 use Rattle.std.proofs.Common.{◌≡◌, ◌+◌, Some, None, arith}
 use Rattle.std.proofs.lemmas.Str.Pattern.{rfind_char}
-use Rattle.line_help.specs.FileNames.{folder_len}
-use Rattle.line_help.proofs.FileNameLemmas.{slash_last, no_slash}
+use Rattle.line_help.proofs.FileNameLemmas.{folder_len, slash_last, no_slash}
 use Rattle.line_help.proofs.completion.file_names.split_path.Goals as goal
 
 pub returns-in-Some-clause-folder : goal.returns-in-Some-clause-folder

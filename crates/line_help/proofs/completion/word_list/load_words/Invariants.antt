@@ -1,6 +1,7 @@
 use Rattle.std.proofs.Common.{◌≡◌, ◌≤◌, ◌++◌, IsTrue, map, false}
 use Rattle.std.specs.Prelude.{string_bytes}
-use Rattle.line_help.specs.HistoryText.{EndIsMet, GoodUpTo, entries_of, has_bad_row, rest_after_load, text_rows}
+use Rattle.line_help.specs.HistoryText.{EndIsMet, entries_of, has_bad_row, rest_after_load, text_rows}
+use Rattle.line_help.proofs.RowLemmas.{GoodUpTo}
 use Rattle.line_help.proofs.completion.word_list.load_words.Given as goal
 
 abbrev pub invariant-loop-rows : goal.invariant-loop-rows

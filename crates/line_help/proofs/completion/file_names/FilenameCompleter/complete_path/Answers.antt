@@ -4,7 +4,7 @@ use Rattle.std.proofs.lemmas.List.{map-id}
 use Rattle.std.specs.Ordering.{is_lt}
 use Rattle.std.proofs.lemmas.List.Sorted.{answers_always}
 use Rattle.line_help.specs.Completion.{Offered, Completion}
-use Rattle.line_help.specs.FileNames.{is_displayed_before, completion_in_order, list_in_order_by}
+use Rattle.line_help.specs.FileNames.{is_displayed_before, list_in_order_by}
 use Rattle.line_help.proofs.FileNameLemmas.{display_order}
 use Rattle.line_help.proofs.SortLemmas.{sorted_is}
 use Rattle.line_help.proofs.completion.file_names.FilenameCompleter.complete_path.Goals as goal
@@ -18,7 +18,7 @@ returns-clause-reply g c =
     (c.in_ok-sort_by.ensures.stable is_displayed_before display_order compares) in
     let Found : List Offered → Option Completion = λ offered. Some (record { start = c.in_ok-start.start; candidates = offered }) in
     record {
-      answer = ap (option_map completion_in_order) c.in_ok-start.ensures.answer ∙ ap Found (ap (list_in_order_by is_displayed_before) (map-id pairs) ∙ sym in_order ∙ sym (map-id c.sort_by.new.self.items));
+      answer = ap (option_map (λ (c : Completion). record c { candidates = list_in_order_by is_displayed_before c.candidates })) c.in_ok-start.ensures.answer ∙ ap Found (ap (list_in_order_by is_displayed_before) (map-id pairs) ∙ sym in_order ∙ sym (map-id c.sort_by.new.self.items));
       fault = tt;
     }
 

@@ -1,9 +1,8 @@
-use Rattle.std.proofs.Common.{◌≡◌, ◌∙◌, ◌≤◌, ◌&&◌, ℕ, List, Ok, Err, ap, arith, le_trans, take, rules, IsTrue}
+use Rattle.std.proofs.Common.{◌≡◌, ◌≢◌, ◌∙◌, ◌≤◌, ◌&&◌, ℕ, List, Ok, Err, ap, arith, le_trans, take, rules, IsTrue}
 use Rattle.line_config.specs.Feed.{Feed, GivesBytes}
 use Rattle.line_config.proofs.Taking.{on_err}
-use Rattle.line_help.specs.HistoryText.{follows, row_fault}
-use Rattle.line_config.specs.declared.errors.ReadlineError.TheVariants.{HistoryText}
-use Rattle.line_help.proofs.LoadLemmas.{EndsLoad, Underway, bad_row_ends, loads_some, memory_row, one_row_on}
+use Rattle.line_config.specs.declared.errors.ReadlineError.TheVariants.{Memory}
+use Rattle.line_help.proofs.LoadLemmas.{EndsLoad, Underway, bad_row_ends, loads_some, memory_row, one_row_on, row_fault}
 use Rattle.line_help.proofs.RowLemmas.{StandsWhole, none_read, stands_whole, still_met}
 use Rattle.line_help.proofs.history.file_history.FileHistory.load_rows.Goals as goal
 
@@ -82,8 +81,8 @@ returns-in_err-taken g c =
     let whole : IsTrue (g.S.Source.feed c.consume.new.self).told → StandsWhole here onward row = λ told.
     stands_whole c.buffer-ready.result.now here onward row c.row_len-count.result c.row_len-count.ensures c.if-count-ready.true
     (rw (← c.buffer-ready.ensures) at (c.consume.ensures.gives told).1) c.row_end.ensures.value in
-    let fault : c.from_residual.result ≡ Err (row_fault HistoryText row) = search rules in
-    let ends : IsTrue (g.S.Source.feed c.consume.new.self).told → IsTrue (follows c.from_residual.result) → EndsLoad c.args.escapes last text onward c.args.self.now c.loop-ready.self c.from_residual.result =
+    let fault : c.from_residual.result ≡ Err (row_fault row) = search rules in
+    let ends : IsTrue (g.S.Source.feed c.consume.new.self).told → c.from_residual.result ≢ Err Memory → EndsLoad c.args.escapes last text onward c.args.self.now c.loop-ready.self c.from_residual.result =
     λ told f.
     let before = (c.consume.ensures.gives told).0 in
     bad_row_ends c.args.escapes c.loop-ready.whole last text here onward row c.args.self.now c.loop-ready.self c.from_residual.result ((whole told).rows last) (whole told).behind fault f

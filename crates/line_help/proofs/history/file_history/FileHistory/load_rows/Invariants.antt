@@ -1,7 +1,8 @@
 use Rattle.std.proofs.Common.{◌≡◌, ◌≤◌, IsTrue, false}
 use Rattle.std.specs.Prelude.{◌&&◌}
 use Rattle.line_help.specs.History.{history_with_lines, takes_all}
-use Rattle.line_help.specs.HistoryText.{EndIsMet, GoodUpTo, entries_of, good_rows, rows_answer, text_rows, rest_after_load}
+use Rattle.line_help.specs.HistoryText.{EndIsMet, entries_of, good_rows, rows_answer, text_rows, rest_after_load}
+use Rattle.line_help.proofs.RowLemmas.{GoodUpTo}
 use Rattle.line_help.proofs.LoadLemmas.{Reached}
 use Rattle.line_help.proofs.history.file_history.FileHistory.load_rows.Given as goal
 
