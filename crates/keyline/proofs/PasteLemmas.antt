@@ -24,7 +24,7 @@ use Rattle.line_keys.specs.Refreshing.{Shown}
 use Rattle.line_keys.specs.Replies.{gives_at_once, with_memory}
 use Rattle.line_keys.specs.Vi.{with_last, change_part, insert_part, command_table, vi_counted, vi_command, insert_table, vi_insert}
 use Rattle.line_keys.specs.ViTables.{insert_action, action_of}
-use Rattle.line_editor.specs.Asks.{shown_in}
+use Rattle.line_editor.specs.Drawing.{shown_in}
 use Rattle.line_editor.specs.LineScripts.{turn_start, Keys, LineState, LineAsk, line_state, script_of_keys, phrase_script, played_from, Obeys, left_at, line_plan, line_script, meet_script, obey_script, turn_script, line_script_after, turns_script, line_begun}
 use Rattle.line_editor.specs.NextCommand.{with_group_begun, ring_after_reset}
 use Rattle.line_editor.specs.Values.{Setting, Value, empty_at, first_value, at_line}

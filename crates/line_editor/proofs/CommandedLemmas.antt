@@ -17,8 +17,8 @@ use Rattle.line_keys.specs.PhraseScripts.{Input, steps, is_emacs}
 use Rattle.line_keys.specs.declared.command.Cmd.{Cmd}
 use Rattle.line_keys.specs.declared.command.Cmd.TheVariants.{EndOfFile, AcceptOrInsertLine}
 use Rattle.line_record.specs.Ring.{Ring}
-use Rattle.line_editor.specs.Accepting.{accepts}
-use Rattle.line_editor.specs.Asks.{shown_in}
+use Rattle.line_editor.specs.Accepting.{accepts, verdict}
+use Rattle.line_editor.specs.Drawing.{shown_in}
 use Rattle.line_editor.specs.Commands.{Means, means_of, effect, outcome}
 use Rattle.line_editor.specs.LineScripts.{Obeys, Answered, LineStage, line_state, script_of_keys, obey_script, meet_script, turn_script}
 use Rattle.line_editor.specs.NextCommand.{line_phrase, ring_after_reset}
@@ -71,7 +71,7 @@ module _ {Out H Hi K T : Type 0} {renderer : renderers.Renderer.Ghosts Out} {com
   -- a command's own end
   end_cause : (custom : Custom) (t : State Out H Hi K T renderer completer candidate hinter hint highlighter validator history) (f : KeyFeed) (m : Means) (s : Setting) (v : Value) (cmd : Cmd) → IfErr (outcome m cmd s v) (λ e. Cause custom t f e)
   end_cause custom t f m s v EndOfFile = if_cause custom t f (length v.line.text == 0) (Err Eof) (if is_emacs m.mode then Ok Proceed else Ok Submit) tt (if_cause custom t f (is_emacs m.mode) (Ok Proceed) (Ok Submit) tt tt)
-  end_cause custom t f m s v (AcceptOrInsertLine middle) = if_cause custom t f (accepts middle s v) (Ok Submit) (Ok Proceed) tt tt
+  end_cause custom t f m s v (AcceptOrInsertLine middle) = if_cause custom t f (accepts middle (verdict s v) v.line) (Ok Submit) (Ok Proceed) tt tt
   end_cause custom t f m s v _ = tt
 
   -- ---- a turn, by how often it may read

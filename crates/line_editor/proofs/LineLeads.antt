@@ -13,7 +13,7 @@ use Rattle.line_keys.specs.declared.command.Cmd.{Cmd}
 use Rattle.line_keys.specs.declared.command.Cmd.TheVariants.{Interrupt, Unknown}
 use Rattle.line_keys.proofs.Settling.{phrase_settles, then_settles}
 use Rattle.line_editor.specs.Accepting.{submit_effect}
-use Rattle.line_editor.specs.Asks.{shown_in, ask_effect}
+use Rattle.line_editor.specs.Drawing.{shown_in, ask_effect}
 use Rattle.line_editor.specs.Commands.{Means, means_of, effect, outcome}
 use Rattle.line_editor.specs.Leads.{Leads, CommandLeads, EachTurnLeads, LeadsAlong, LinesLead}
 use Rattle.line_editor.specs.NextCommand.{begins_group, with_group_begun, line_phrase, ring_after_reset}

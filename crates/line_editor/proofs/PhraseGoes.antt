@@ -13,7 +13,7 @@ use Rattle.line_keys.specs.KeyFeeds.{behind}
 use Rattle.line_keys.specs.InputStates.{key_world, Stage as KeyStage}
 use Rattle.line_keys.specs.PhraseScripts.{KeyScript, Needs, Shows, Reads, Becomes, Refuses}
 use Rattle.line_record.specs.Ring.{Ring}
-use Rattle.line_editor.specs.Asks.{shown_in, ask_effect}
+use Rattle.line_editor.specs.Drawing.{shown_in, ask_effect}
 use Rattle.line_editor.specs.RenderCalls.{Canvas, Ruler, MadeIn}
 use Rattle.line_editor.specs.LineScripts.{LineAsk, LineAnswer, LineScript, script_of_keys, line_state, LineStage, DrawnBy, Answered, Stopped, line_world}
 use Rattle.line_editor.specs.Modal.{Modal}

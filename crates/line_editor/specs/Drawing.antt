@@ -1,5 +1,5 @@
 -- The drawings of a value.
-use Rattle.std.specs.Prelude.{◌≡◌, ℕ, ◌&&◌, ◌||◌, Bool, true, false, if◌then◌else◌, List, [], Option, None, Some, option_copied}
+use Rattle.std.specs.Prelude.{◌≡◌, ℕ, ◌&&◌, ◌||◌, Bool, true, false, if◌then◌else◌, List, [], Option, None, Some, option_copied, is_some, option_and_then}
 use Rattle.std.specs.Borrow.{Bor}
 use Rattle.line_help.specs.declared.helpers.style.Span.{Span}
 use Rattle.line_help.specs.declared.helpers.style.Style.{Style}
@@ -10,7 +10,10 @@ use Rattle.line_editor.specs.Redraws.{Redraw}
 use Rattle.line_editor.specs.Redraws.Redraw.{Drawn, DrawnFrom, Moved, ToEnd, Beeped, Cleared}
 use Rattle.line_editor.specs.SharedStyles.{told_styles, noted_styles, shared_styles}
 use Rattle.line_editor.specs.Sights.{drawn_spans}
-use Rattle.line_editor.specs.Values.{Value, Setting, Transition, no_effect, then_do, draw_effect, shown_marks, hint_reply, help_steps, with_hint, without_hint, with_mark, shown_hint}
+use Rattle.line_editor.specs.Values.{Value, Setting, Transition, no_effect, then_do, draw_effect, shown_marks, hint_reply, help_steps, with_hint, without_hint, with_mark, shown_hint, open_group, close_groups}
+use Rattle.line_keys.specs.Refreshing.{Shown, Ask}
+use Rattle.line_keys.specs.Refreshing.Ask.{Line, Message, Prompted, DoingInsert, DoneInserting}
+use Rattle.line_record.specs.Held.{last_inserted}
 
 -- the line with its hint after the session's own prompt
 abbrev pub redraw_of : Setting → Value → Redraw
@@ -69,10 +72,6 @@ repaint_effect s v = draw_effect_behind s.prompt true s v
 abbrev pub draw_effect_with : Option (List ℕ) → Transition
 draw_effect_with info s v = draw_effect (Drawn s.prompt true v.line.text v.line.place info) s v
 
--- the display's cursor moved to the text's cursor
-abbrev pub cursor_shown : Transition
-cursor_shown s v = draw_effect (Moved v.line.text v.line.place) s v
-
 -- the helper called for a hint; nothing is drawn
 abbrev pub hint_asked : Transition
 hint_asked s v = record { value = with_hint s v; steps = help_steps v (hint_reply s v) }
@@ -112,8 +111,24 @@ cursor_end_effect = draw_effect ToEnd
 abbrev pub beep_effect : Transition
 beep_effect = draw_effect Beeped
 
-abbrev pub clear_effect : Transition
-clear_effect = draw_effect Cleared
-
 abbrev pub clear_and_draw_effect : Transition
-clear_and_draw_effect = then_do clear_effect refresh_effect
+clear_and_draw_effect = then_do (draw_effect Cleared) refresh_effect
+
+-- ---- the value as the key tables see it, and the effect of their calls on it
+
+abbrev pub shown_in : Value → Shown
+shown_in v = record {
+  line = v.line.text;
+  place = v.line.place;
+  hinted = is_some v.hint;
+  completion = option_and_then (λ h. h.completion) v.hint;
+  last_insert = last_inserted v.held;
+}
+
+-- the effect of a phrase's call
+abbrev pub ask_effect : Ask → Transition
+ask_effect Line = refresh_effect
+ask_effect (Prompted prompt) = refresh_effect_behind prompt
+ask_effect (Message text kind) = message_effect text kind
+ask_effect DoingInsert = open_group
+ask_effect DoneInserting = close_groups

@@ -58,12 +58,10 @@ put_redraw Alone c from s v = Appended s.prompt c v.line.text v.line.place
 put_redraw Inside c from s v = PutIn s.prompt c v.line.text v.line.place
 put_redraw way c from s v = redraw_since from s v
 
-abbrev pub show_char_effect : ℕ → Way → Option Since → Transition
-show_char_effect c way from s v = draw_effect (put_redraw (way_if_bare way v) c from s v) s v
-
 -- with a new hint
 abbrev pub show_inserted_effect : ℕ → Way → Option Since → Transition
-show_inserted_effect c way from = then_do ask_anew_effect (show_char_effect c way from)
+show_inserted_effect c way from = then_do ask_anew_effect
+    (λ s v. draw_effect (put_redraw (way_if_bare way v) c from s v) s v)
 
 abbrev pub insert_char : ℕ → ℕ → Transition
 insert_char c n s v =

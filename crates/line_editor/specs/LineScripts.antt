@@ -12,10 +12,9 @@ use Rattle.line_keys.specs.PhraseScripts.{Input, KeyAsk, Answer, KeyScript, step
 use Rattle.line_keys.specs.declared.command.Cmd.{Cmd}
 use Rattle.line_record.specs.Ring.{Ring}
 use Rattle.line_editor.specs.Accepting.{submit_effect}
-use Rattle.line_editor.specs.Asks.{shown_in, ask_effect}
 use Rattle.line_editor.specs.RenderCalls.{Canvas, Ruler, MadeIn}
 use Rattle.line_editor.specs.Commands.{means_of, effect, ring_after_command, CutRing, outcome}
-use Rattle.line_editor.specs.Drawing.{refresh_effect}
+use Rattle.line_editor.specs.Drawing.{refresh_effect, shown_in, ask_effect}
 use Rattle.line_editor.specs.ModalCommands.{meeting, meeting_effect}
 use Rattle.line_editor.specs.Modal.{Modal}
 use Rattle.line_editor.specs.NextCommand.{line_phrase, ring_after_reset}
