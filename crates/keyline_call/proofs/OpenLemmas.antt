@@ -20,7 +20,7 @@ use Rattle.line_editor.specs.Accepting.{accepts, verdict}
 use Rattle.line_editor.specs.Drawing.{ask_effect, shown_in}
 use Rattle.line_editor.specs.Commands.{Means, means_of, outcome}
 use Rattle.line_editor.specs.Leads.{BeginShows, LeadsAlong}
-use Rattle.line_editor.specs.LineScripts.{Begins, Keys, Meets, Obeys, LineAsk, LineScript, LineState, answer_at, effect_at, script_of_keys, left_at, line_plan, line_script, meet_script, obey_script, played_from, steps_along, turn_script, line_script_after, turns_script}
+use Rattle.line_editor.specs.LineScripts.{Begins, Keys, Meets, Obeys, LineAsk, LineScript, LineState, answer_at, effect_at, script_of_keys, left_at, line_plan, line_script, meet_script, played_from, steps_along, turn_script, line_script_after, turns_script}
 use Rattle.line_editor.specs.ModalCommands.{meeting, modal_seen, sight_in_mode}
 use Rattle.line_editor.specs.Modal.{Modal}
 use Rattle.line_editor.specs.NextCommand.{line_phrase, ring_after_reset}
@@ -88,7 +88,7 @@ module _ (s : Setting) where
   abbrev spoken : KeyScript Cmd → LineScript Status
   spoken script = (then) (script_of_keys script) meet_script
 
-  obeyed : (cmd : Cmd) (k : LineState) → EndsInPhrase false (played_from s (obey_script cmd) k)
+  obeyed : (cmd : Cmd) (k : LineState) → EndsInPhrase false (played_from s (Asks (Obeys cmd) (λ status. Ends status)) k)
   obeyed cmd k = by (outcome (means_of k.input (ring_after_reset cmd k.ring)) cmd s k.value) (command_error (means_of k.input (ring_after_reset cmd k.ring)) cmd k.value)
     where
       by : (q : Result Status ReadlineError) → error_of q

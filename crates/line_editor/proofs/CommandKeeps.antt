@@ -18,7 +18,7 @@ use Rattle.line_buffer.specs.declared.types.Word.TheVariants.{Big}
 use Rattle.line_buffer.specs.declared.types.WordAction.{WordAction}
 use Rattle.line_buffer.specs.declared.types.WordAction.TheVariants.{Capitalize, Lowercase, Uppercase}
 use Rattle.line_edits.specs.WriteSteps.{effect_of_steps, with_answer, no_steps}
-use Rattle.line_edits.specs.Edits.{replace_group, by, yank_steps, text_steps, overwrite_steps, transpose_chars_group, transpose_words_group, word_group, char_steps, pop_group, kill_steps, indent_steps}
+use Rattle.line_edits.specs.Edits.{replace_group, by, yank_steps, text_steps, overwrite_steps, transpose_chars_group, transpose_words_group, word_group, char_steps, pop_group, kill_steps, indent_steps, replace_group_if_any}
 use Rattle.line_edits.specs.Written.{group_opened, group_closed}
 use Rattle.line_help.specs.Hints.{Hinted}
 use Rattle.line_help.specs.History.{begins_with_space}
@@ -34,7 +34,7 @@ use Rattle.line_record.specs.Ring.{yank_exchange}
 use Rattle.line_editor.specs.Accepting.{verdict_told, verdict, bare, accept, accepts, newline_if}
 use Rattle.line_editor.specs.Commands.{Means, in_vi_command, effect}
 use Rattle.line_editor.specs.Completing.{at_row_end, complete_hint_effect}
-use Rattle.line_editor.specs.Inserting.{insert_char, replace_char, overwrite_char, insert_text}
+use Rattle.line_editor.specs.Inserting.{insert_char, insert_text, clusters_replaced}
 use Rattle.line_editor.specs.Killing.{kill_effect}
 use Rattle.line_editor.specs.Moving.{to_found, to_place, move_home, move_to_next_word, move_to_first_print, move_by}
 use Rattle.line_editor.specs.Transforms.{edit_word_effect, undo, transpose_chars_effect, transpose_words_effect}
@@ -43,6 +43,7 @@ use Rattle.line_editor.specs.Yanking.{line_at_anchor, steps_over, behind_yank, v
 use Rattle.line_editor.proofs.MeetKeeps.{Fact, KeptByEdits, complete_keeps, Holds}
 use Rattle.line_editor.specs.Drawing.{effect_if, message_effect}
 use Rattle.std.specs.Option.{option_map_or}
+use Rattle.std.specs.Prelude.{◌&&◌}
 
 -- the edits of commands keep a fact, if the line is `sound` where an edit asks for that
 pub record KeptByCommands (fact : Fact) (sound : Value → Type 0) (s : Setting) : Type 0 where
@@ -154,13 +155,13 @@ module _ (fact : Fact) (sound : Value → Type 0) (s : Setting) (edits : KeptByE
   replaced_if true c n v h made = made
   replaced_if false c n v h made = h
 
-  replacing : (c n : ℕ) (v : Value) → sound v → Holds fact v → Holds fact (replace_char c n s v).value
+  replacing : (c n : ℕ) (v : Value) → sound v → Holds fact v → Holds fact (clusters_replaced n (replace_group_if_any c n) s v).value
   replacing c n v ok h =
       let some = is_some (place_forward n v.line) in
       let made = replaced_if some c n v h (k.replaced c n v ok h) in
       either_holds fact some _ _ made made
 
-  overwriting : (c : ℕ) (v : Value) → sound v → Holds fact v → Holds fact (overwrite_char c s v).value
+  overwriting : (c : ℕ) (v : Value) → sound v → Holds fact v → Holds fact (clusters_replaced 1 (overwrite_steps c) s v).value
   overwriting c v ok h = let made = k.overwritten c v ok h in either_holds fact (is_some (place_forward 1 v.line)) _ _ made made
 
   recasing : (action : WordAction) (v : Value) → sound v → Holds fact v → Holds fact (edit_word_effect action s v).value
@@ -194,7 +195,7 @@ module _ (fact : Fact) (sound : Value → Type 0) (s : Setting) (edits : KeptByE
   accepted v h = validated (is_some s.hooks) (bare s v).value h
 
   newline : (done : Bool) (found : ValidationResult) (v : Value) → Holds fact v → Holds fact (newline_if done found s v).value
-  newline done found v h = either_holds fact done _ _ h (either_holds fact (is_valid found || not (has_message found)) _ _ (typing 10 1 v h) h)
+  newline done found v h = either_holds fact (not done && (is_valid found || not (has_message found))) _ _ (typing 10 1 v h) h
 
   hint_taken : (o : Option (List ℕ)) (v : Value) → Holds fact v → Holds fact (complete_hint_effect o s v).value
   hint_taken None v h = h

@@ -1,6 +1,6 @@
 -- Each command leads from its value to the next.
 use Rattle.std.proofs.Common.{◌≡◌, ℕ, ◌+◌, ◌-◌, ◌==◌, ◌≤◌, ◌||◌, arith, not, max, Bool, true, false, List, [], ◌∷◌, ◌++◌, length, Option, Some, None, is_some, slice_get, drop, refl, sym, ap, ◌∙◌, subst, if◌then◌else◌}
-use Rattle.std.specs.Prelude.{⊤}
+use Rattle.std.specs.Prelude.{⊤, ◌&&◌}
 use Rattle.std.proofs.lemmas.Bool.{eqb-true, cond-false, not-false}
 use Rattle.line_buffer.specs.Clusters.{place_forward}
 use Rattle.line_buffer.specs.Columns.{line_up, line_down}
@@ -35,7 +35,7 @@ use Rattle.line_record.specs.Ring.{yank_exchange}
 use Rattle.line_editor.specs.Accepting.{bare, verdict, verdict_told, verdict_effect, group_and_verdict_effect, validate, newline, accept, accepts, newline_if, accept_or_insert}
 use Rattle.line_editor.specs.Commands.{in_vi_command, line_up_or_previous, line_down_or_next}
 use Rattle.line_editor.specs.Completing.{common_text, word_replaced, updates, complete_effect, candidates_given, candidates_asked, complete, word_completed, at_row_end, complete_hint_effect}
-use Rattle.line_editor.specs.Drawing.{since, draw_effect_behind, repaint_effect, ask_anew_effect, refresh_effect, refresh_effect_since, cursor_end_effect, effect_if, message_effect, beep_effect}
+use Rattle.line_editor.specs.Drawing.{since, draw_effect_behind, ask_anew_effect, refresh_effect, refresh_effect_since, cursor_end_effect, effect_if, message_effect, beep_effect, draw_effect_since}
 use Rattle.line_editor.specs.Inserting.{insert_char}
 use Rattle.line_editor.specs.Killing.{copy_effect}
 use Rattle.line_editor.specs.Leads.{Leads, CommandsLead, SubmittingLeads, AsksLead}
@@ -215,8 +215,7 @@ newline_leads s v = both_lead s v bare (insert_char 10 1) (bare_leads s v) (inse
 
 newline_if_leads : (accepted : Bool) (found : ValidationResult) (s : Setting) (v : Value) → Leads s v (newline_if accepted found s v)
 newline_if_leads accepted found s v =
-    either s v accepted _ _ (λ e. rest_leads s v v (refl, refl, refl)) (λ e.
-    either s v (is_valid found || not (has_message found)) _ _ (λ e. insertion_leads 10 1 s v) (λ e. rest_leads s v v (refl, refl, refl)))
+    either s v (not accepted && (is_valid found || not (has_message found))) _ _ (λ e. insertion_leads 10 1 s v) (λ e. rest_leads s v v (refl, refl, refl))
 
 accept_or_insert_leads : (middle : Bool) (s : Setting) (v : Value) → Leads s v (accept_or_insert middle s v)
 accept_or_insert_leads middle s v =
@@ -322,7 +321,7 @@ submitting_leads s v info =
 pub asks_lead : AsksLead
 asks_lead LineAsked s v x =
     let w = (ask_anew_effect s v).value in
-    help_turns v (hint_reply s v) s.prompt x (sight_of s w (shown_hint w)) (repaint_effect s w).steps (record { fits = ((λ e. refl), tt); leads = refl })
+    help_turns v (hint_reply s v) s.prompt x (sight_of s w (shown_hint w)) ((draw_effect_since None) s w).steps (record { fits = ((λ e. refl), tt); leads = refl })
 asks_lead (Message text kind) s v x = record { fits = ((λ e. refl), tt); leads = refl }
 asks_lead (Prompted prompt) s v x =
     let w = (ask_anew_effect s v).value in

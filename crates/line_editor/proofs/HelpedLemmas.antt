@@ -18,7 +18,7 @@ use Rattle.line_help.specs.declared.history as histories
 use Rattle.line_keys.specs.declared.command.CmdKind.TheVariants.{Other}
 use Rattle.line_editor.specs.Accepting.{verdict, group_and_verdict_effect, verdict_effect, validate}
 use Rattle.line_editor.specs.RenderCalls.{MadeIn}
-use Rattle.line_editor.specs.Drawing.{Since, draw_effect_since, repaint_effect, hint_asked, ask_anew_effect, redraw_of}
+use Rattle.line_editor.specs.Drawing.{Since, draw_effect_since, hint_asked, ask_anew_effect, redraw_of}
 use Rattle.line_editor.specs.Inserting.{way_if_bare, put_redraw, show_inserted_effect}
 use Rattle.line_editor.specs.Killing.{taken_redraw, show_killed_effect}
 use Rattle.line_editor.specs.EditSteps.{calls_of_steps}
@@ -153,10 +153,10 @@ module _ {Out H Hi K T : Type 0} {renderer : renderers.Renderer.Ghosts Out} {com
         (does_as (rewritten from upto true) (show_rewritten_effect over from upto) m t result (ap (λ b. rewritten from upto b (setting_of m) (value_of m)) (sym is)) k)
 
     pub drawn_anew : {A B : Type 0} (s m t : State Out H Hi K T renderer completer candidate hinter hint highlighter validator history) (x : A) (result : Result B ReadlineError)
-        → (over && has_letters from upto (value_of m)) ≡ false → Does ask_anew_effect s m (Ok x) → Does repaint_effect m t result → Does (refresh_over_effect over from upto) s t result
+        → (over && has_letters from upto (value_of m)) ≡ false → Does ask_anew_effect s m (Ok x) → Does (draw_effect_since None) m t result → Does (refresh_over_effect over from upto) s t result
     drawn_anew s m t x result is h k =
         does_both ask_anew_effect (show_rewritten_effect over from upto) s m t x result h
-        (does_as repaint_effect (show_rewritten_effect over from upto) m t result (ap (λ b. rewritten from upto b (setting_of m) (value_of m)) (sym is)) k)
+        (does_as (draw_effect_since None) (show_rewritten_effect over from upto) m t result (ap (λ b. rewritten from upto b (setting_of m) (value_of m)) (sym is)) k)
 
   -- ---- a verdict
 

@@ -31,7 +31,7 @@ use Rattle.line_keys.specs.declared.command.CmdKind.{CmdKind}
 use Rattle.line_keys.specs.declared.command.CmdKind.TheVariants.{MoveCursor}
 use Rattle.line_record.specs.Held.{HeldItem}
 use Rattle.line_editor.specs.Characters.{stands_apart, begins_apart, begins_apart_at}
-use Rattle.line_editor.specs.Drawing.{Since, redraw_of, line_spans, kept_upto, may_begin_at, since, redraw_since, draw_effect_since, repaint_effect, ask_anew_effect, refresh_effect, refresh_effect_since, effect_if, message_effect, cursor_moved, beep_effect, clear_and_draw_effect}
+use Rattle.line_editor.specs.Drawing.{Since, redraw_of, line_spans, kept_upto, may_begin_at, since, redraw_since, draw_effect_since, ask_anew_effect, refresh_effect, refresh_effect_since, effect_if, message_effect, cursor_moved, beep_effect, clear_and_draw_effect}
 use Rattle.line_editor.specs.Inserting.{is_bare, has_printable_rest, may_be_typed, may_be_appended, may_be_put_in, insertion_way, way_if_bare, put_redraw, show_inserted_effect, insert_char, insert_text}
 use Rattle.line_editor.specs.declared.way.Way.{Way}
 use Rattle.line_editor.specs.declared.way.Way.TheVariants.{AtEnd, Alone, Back, Inside, Whole}
@@ -190,7 +190,7 @@ redrawn_leads x u (Some reply) s v w h info = record { fits = (h (sight_of s v i
 -- ---- drawn in full, or left as it stands
 
 pub refresh_leads : (s : Setting) (v w : Value) → Leads s v (refresh_effect s w)
-refresh_leads s v w = help_leads w (hint_reply s w) s v (repaint_effect s (ask_anew_effect s w).value) (λ info. record { fits = ((λ e. refl), tt); leads = refl })
+refresh_leads s v w = help_leads w (hint_reply s w) s v ((draw_effect_since None) s (ask_anew_effect s w).value) (λ info. record { fits = ((λ e. refl), tt); leads = refl })
 
 -- behind an edit of the line
 pub redraw_leads : {A : Type 0} (edit : Line → WriteSteps A) (s : Setting) (v w : Value) → Leads s v (then_do (edit_effect edit) refresh_effect s w)

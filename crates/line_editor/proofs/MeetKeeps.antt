@@ -14,7 +14,7 @@ use Rattle.line_help.specs.declared.history.search.SearchDirection.TheVariants.{
 use Rattle.line_keys.specs.declared.command.Cmd.{Cmd}
 use Rattle.line_keys.specs.declared.command.Cmd.TheVariants.{EndOfHistory, HistorySearchBackward, HistorySearchForward}
 use Rattle.line_record.specs.Held.{HeldItem}
-use Rattle.line_editor.specs.Candidates.{only_text, only_completed, candidate_at, several, is_ambiguous, modal_after_offer, cycle_at, cycle_back, cycle_effect, modal_after_ask, offer_effect, list_shown}
+use Rattle.line_editor.specs.Candidates.{only_text, candidate_at, several, is_ambiguous, modal_after_offer, cycle_at, cycle_back, cycle_effect, modal_after_ask, offer_effect, list_shown, only_put}
 use Rattle.line_editor.specs.Completing.{begins_word, common_text_among, common_text, word_updated, complete_effect, candidates_given, candidates_asked, word_completed}
 use Rattle.line_editor.specs.Drawing.{refresh_effect, beep_effect, effect_if}
 use Rattle.line_editor.specs.History.{leave_effect}
@@ -137,7 +137,7 @@ module _ (fact : Fact) (s : Setting) (k : KeptByEdits fact s) where
   several_offered completion_type.List lists q found v h =
       listed lists (common_text found v.line) q.limit found v h (word_done (common_text_among (v.line.place - found.start) (map (λ o. o.replacement) found.candidates)) found v h)
 
-  offered : (ambiguous lists : Bool) (q : Modal) (found : Completion) (v : Value) → Holds fact v → Holds fact (if ambiguous then several q.completion_type lists q found s v else only_completed found s v).value
+  offered : (ambiguous lists : Bool) (q : Modal) (found : Completion) (v : Value) → Holds fact v → Holds fact (if ambiguous then several q.completion_type lists q found s v else option_map_or (word_completed found.start) (only_put found v.line) beep_effect s v).value
   offered false lists q found v h = word_done (only_text found.candidates) found v h
   offered true lists q found v h = several_offered q.completion_type lists q found v h
 

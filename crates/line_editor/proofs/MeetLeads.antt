@@ -12,7 +12,7 @@ use Rattle.line_keys.specs.Refreshing.Ask.{Line, Prompted}
 use Rattle.line_keys.specs.Replies.{Reply}
 use Rattle.line_keys.specs.declared.command.Cmd.{Cmd}
 use Rattle.line_keys.specs.declared.command.Cmd.TheVariants.{EndOfHistory, HistorySearchBackward, HistorySearchForward, Unknown}
-use Rattle.line_editor.specs.Candidates.{only_put, only_completed, list_standing, candidate_at, cycle_begun, cycle_first, cycle_back, cycle_at, cycle_effect, ask_and_turn_effect, modal_after_ask, several, several_modal, offer_effect, modal_after_offer, is_ambiguous, list_shown}
+use Rattle.line_editor.specs.Candidates.{only_put, candidate_at, cycle_begun, cycle_first, cycle_back, cycle_at, cycle_effect, ask_and_turn_effect, modal_after_ask, several, several_modal, offer_effect, modal_after_offer, is_ambiguous, list_shown}
 use Rattle.line_editor.specs.Completing.{common_text, updates, word_updated, word_completed, candidates_given, candidates_asked}
 use Rattle.line_edits.specs.Edits.{update_group}
 use Rattle.line_editor.specs.Drawing.{draw_effect_behind, ask_anew_effect, refresh_effect, refresh_effect_behind, beep_effect}
@@ -269,7 +269,7 @@ only_met start (Some text) q s v info x own from = own_met s info x (takes (word
 
 -- the common prefix, a list, or a beep
 listed_met : (lists : Bool) (text : Option (List ℕ)) (found : Completion) (q : Modal) (s : Setting) (v : Value) (info : Option (List ℕ)) (x : Sight) → x ≡ sight_of s v info
-    → Met s info x (takes (option_map_or (word_completed found.start) text (if lists then list_shown q.limit found.candidates else beep_effect)) (record q { standing = list_standing lists text }) s v)
+    → Met s info x (takes (option_map_or (word_completed found.start) text (if lists then list_shown q.limit found.candidates else beep_effect)) (record q { standing = option_map_or (λ text. Tabbed) text (if lists then Lists else Tabbed) }) s v)
 listed_met true (Some text) found q s v info x from =
     own_met s info x (takes (word_completed found.start text) (record q { standing = Tabbed }) s v) _ (word_drawn found.start text s v info x) refl
 listed_met false (Some text) found q s v info x from =
@@ -285,7 +285,7 @@ several_met completion_type.Circular lists found q s v info x from =
 several_met completion_type.List lists found q s v info x from = listed_met lists (common_text found v.line) found q s v info x from
 
 offered_met : (ambiguous lists : Bool) (found : Completion) (q : Modal) (s : Setting) (v : Value) (info : Option (List ℕ)) (x : Sight) → x ≡ sight_of s v info
-    → Met s info x (takes (λ a w. if ambiguous then several q.completion_type lists q found a w else only_completed found a w)
+    → Met s info x (takes (λ a w. if ambiguous then several q.completion_type lists q found a w else option_map_or (word_completed found.start) (only_put found w.line) beep_effect a w)
     (if ambiguous then several_modal q.completion_type lists found v.line q else modal_at_rest q) s v)
 offered_met false lists found q s v info x from = only_met found.start (only_put found v.line) (modal_at_rest q) s v info x refl from
 offered_met true lists found q s v info x from = several_met q.completion_type lists found q s v info x from

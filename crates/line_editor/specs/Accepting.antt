@@ -66,9 +66,8 @@ accepts middle found l =
 
 -- a line that isn't accepted gets a newline, unless a message is shown
 abbrev pub newline_if : Bool → ValidationResult → Transition
-newline_if accepted found s v =
-    if accepted then no_effect s v else if is_valid found || not (has_message found)
-    then insert_char 10 1 s v else no_effect s v
+newline_if accepted found = effect_if
+    (not accepted && (is_valid found || not (has_message found))) (insert_char 10 1)
 
 abbrev pub accept_or_insert : Bool → Transition
 accept_or_insert middle s v = let found = verdict s v in

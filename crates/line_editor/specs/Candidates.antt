@@ -1,5 +1,5 @@
 -- What Tab makes of a line: its only candidate, one of several in turn, or a list of them.
-use Rattle.std.specs.Prelude.{ℕ, ◌+◌, ◌-◌, ◌==◌, ◌&&◌, nat_lt, min, Bool, true, if◌then◌else◌, List, [], ◌∷◌, ◌++◌, flat_map, take, length, codes, decimal, slice_get, is_some, Option, Some, None, option_and_then}
+use Rattle.std.specs.Prelude.{ℕ, ◌+◌, ◌-◌, ◌==◌, ◌&&◌, nat_lt, min, Bool, if◌then◌else◌, List, [], ◌∷◌, ◌++◌, flat_map, take, length, codes, decimal, slice_get, is_some, Option, Some, None, option_and_then}
 use Rattle.line_buffer.specs.Line.{Line}
 use Rattle.line_config.specs.declared.settings.CompletionType.{CompletionType}
 use Rattle.line_config.specs.declared.settings.CompletionType.TheVariants as completion_type
@@ -13,7 +13,6 @@ use Rattle.line_editor.specs.Drawing.{beep_effect, refresh_effect, message_effec
 use Rattle.line_editor.specs.Modal.{Modal, modal_at_rest, Meeting, pass_meeting, takes}
 use Rattle.line_editor.specs.Searching.{hit_undo_effect, place_effect}
 use Rattle.line_editor.specs.Values.{Value, Setting, Transition, memory_effect, then_do, close_groups, completion_reply}
-use Rattle.line_editor.specs.declared.modal_state.Standing.{Standing}
 use Rattle.line_editor.specs.declared.modal_state.Standing.TheVariants.{Tabbed, Lists, Cycles}
 use Rattle.std.specs.Option.{option_map_or}
 
@@ -25,10 +24,6 @@ only_text candidates = None
 
 abbrev pub only_put : Completion → Line → Option (List ℕ)
 only_put found l = if begins_word found.start l then only_text found.candidates else None
-
-abbrev pub only_completed : Completion → Transition
-only_completed found s v =
-    option_map_or (word_completed found.start) (only_put found v.line) beep_effect s v
 
 -- ---- a list of candidates: each on a row of its own, at most so many, and how many more there are
 
@@ -52,10 +47,6 @@ abbrev pub list_effect : Bool → ℕ → Completion → Transition
 list_effect lists limit found s v =
     option_map_or (word_completed found.start) (common_text found v.line)
     (if lists then list_shown limit found.candidates else beep_effect) s v
-
-abbrev pub list_standing : Bool → Option (List ℕ) → Standing
-list_standing true None = Lists
-list_standing lists text = Tabbed
 
 -- ---- candidates in turn
 
@@ -110,8 +101,9 @@ several completion_type.List lists x found = list_effect lists x.limit found
 
 abbrev pub several_modal : CompletionType → Bool → Completion → Line → Modal → Modal
 several_modal completion_type.Circular lists found l x = cycle_first found l x
-several_modal completion_type.List lists found l x =
-    record x { standing = list_standing lists (common_text found l) }
+several_modal completion_type.List lists found l x = record x {
+  standing = option_map_or (λ text. Tabbed) (common_text found l) (if lists then Lists else Tabbed);
+}
 
 abbrev pub is_ambiguous : Completion → Line → Bool
 is_ambiguous found l = nat_lt 1 (length found.candidates) && begins_word found.start l
@@ -119,7 +111,7 @@ is_ambiguous found l = nat_lt 1 (length found.candidates) && begins_word found.s
 abbrev pub offer_effect : Bool → Modal → Completion → Transition
 offer_effect lists x found s v =
     if is_ambiguous found v.line then several x.completion_type lists x found s v
-    else only_completed found s v
+    else option_map_or (word_completed found.start) (only_put found v.line) beep_effect s v
 
 abbrev pub modal_after_offer : Bool → Completion → Line → Modal → Modal
 modal_after_offer lists found l x =

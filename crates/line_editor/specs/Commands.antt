@@ -12,11 +12,11 @@ use Rattle.line_keys.specs.declared.command.Cmd.{Cmd}
 use Rattle.line_keys.specs.declared.command.Cmd.TheVariants.{AcceptLine, BeginningOfHistory, CapitalizeWord, ClearScreen, Complete, CompleteHint, Dedent, DowncaseWord, EndOfFile, EndOfHistory, HistorySearchBackward, HistorySearchForward, Indent, Insert, Interrupt, Kill, Move, NextHistory, Repaint, Overwrite, PreviousHistory, ReplaceChar, Replace, SelfInsert, TransposeChars, TransposeWords, Undo, UpcaseWord, ViYankTo, Yank, YankPop, LineUpOrPreviousHistory, LineDownOrNextHistory, Newline, AcceptOrInsertLine}
 use Rattle.line_keys.specs.declared.command.InputMode.{InputMode}
 use Rattle.line_record.specs.Ring.{Ring, ring_after_yank, ring_after_turn, yank_exchange, ring_all, ring_with_kill}
-use Rattle.line_edits.specs.Edits.{ring_without_kill}
+use Rattle.line_edits.specs.Edits.{ring_without_kill, replace_group_if_any, overwrite_steps}
 use Rattle.line_editor.specs.Accepting.{bare, newline, accept, accepts, accept_or_insert, verdict}
 use Rattle.line_editor.specs.Completing.{complete, complete_hint}
 use Rattle.line_editor.specs.Drawing.{refresh_effect, clear_and_draw_effect, cursor_end_effect}
-use Rattle.line_editor.specs.Inserting.{insert_char, replace_char, overwrite_char}
+use Rattle.line_editor.specs.Inserting.{insert_char, clusters_replaced}
 use Rattle.line_editor.specs.Killing.{kill_effect, replace, copy_effect}
 use Rattle.line_editor.specs.Moving.{move_by, move_line_up, move_line_down}
 use Rattle.line_editor.specs.History.{history_step, history_end, history_search}
@@ -62,8 +62,8 @@ effect m YankPop = pop_lent (yank_exchange m.ring)
 effect m (Move movement) = move_by movement
 effect m (Kill movement) = kill_effect movement
 effect m (Replace movement text) = replace movement text
-effect m (ReplaceChar n c) = replace_char c n
-effect m (Overwrite c) = overwrite_char c
+effect m (ReplaceChar n c) = clusters_replaced n (replace_group_if_any c n)
+effect m (Overwrite c) = clusters_replaced 1 (overwrite_steps c)
 effect m EndOfFile = bare
 effect m ClearScreen = clear_and_draw_effect
 effect m Repaint = refresh_effect

@@ -65,9 +65,6 @@ abbrev pub draw_effect_behind : List ℕ → Bool → Transition
 draw_effect_behind prompt given s v =
     draw_effect (Drawn prompt given v.line.text v.line.place (shown_hint v)) s v
 
-abbrev pub repaint_effect : Transition
-repaint_effect s v = draw_effect_behind s.prompt true s v
-
 -- drawn with other information in place of the hint
 abbrev pub draw_effect_with : Option (List ℕ) → Transition
 draw_effect_with info s v = draw_effect (Drawn s.prompt true v.line.text v.line.place info) s v
@@ -80,12 +77,12 @@ hint_asked s v = record { value = with_hint s v; steps = help_steps v (hint_repl
 abbrev pub ask_anew_effect : Transition
 ask_anew_effect s v = record (hint_asked s v) { value = with_mark Other s (with_hint s v) }
 
-abbrev pub refresh_effect : Transition
-refresh_effect = then_do ask_anew_effect repaint_effect
-
--- the same after a change that leaves the line up to a place
+-- then the line is drawn, after a change that leaves it up to a place, if one is known
 abbrev pub refresh_effect_since : Option Since → Transition
 refresh_effect_since from = then_do ask_anew_effect (draw_effect_since from)
+
+abbrev pub refresh_effect : Transition
+refresh_effect = refresh_effect_since None
 
 -- an effect if a test holds, and none otherwise
 abbrev pub effect_if : Bool → Transition → Transition

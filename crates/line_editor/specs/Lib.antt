@@ -7,7 +7,6 @@ pub mod Completing
 pub mod Drawing
 pub mod Inserting
 pub mod Killing
-pub mod KnownPlaces
 pub mod Leads
 pub mod NextCommand
 pub mod LineScripts

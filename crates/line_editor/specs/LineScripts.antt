@@ -73,12 +73,9 @@ script_of_keys (Asks ask later) = Asks (Keys ask) (λ x. script_of_keys (later x
 abbrev pub phrase_script : ℕ → Custom → TurnStart → LineScript Cmd
 phrase_script n custom at = script_of_keys (steps (line_phrase custom at.input at.shown) n)
 
-abbrev pub obey_script : Cmd → LineScript Status
-obey_script cmd = Asks (Obeys cmd) (λ status. Ends status)
-
 -- a command, or what is left of it
 abbrev pub meet_script : Cmd → LineScript Status
-meet_script cmd = Asks (Meets cmd) (λ next. obey_script next)
+meet_script cmd = Asks (Meets cmd) (λ next. Asks (Obeys next) (λ status. Ends status))
 
 -- a phrase, and the command that it gives
 unfoldable pub turn_script : ℕ → Custom → LineScript Status
@@ -96,11 +93,9 @@ turns_script (suc n) custom = then (turn_script (suc n) custom)
     (line_script_after (turns_script n custom))
 
 -- drawn once memory has been taken for a line
-abbrev pub line_begun : Transition
-line_begun = then_do memory_effect refresh_effect
-
 unfoldable pub line_script : ℕ → Custom → LineScript (List ℕ)
-line_script n custom = Asks (Makes line_begun) (λ v. turns_script n custom)
+line_script n custom =
+    Asks (Makes (then_do memory_effect refresh_effect)) (λ v. turns_script n custom)
 
 -- ---- the meaning of each request
 

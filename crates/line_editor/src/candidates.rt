@@ -1,10 +1,12 @@
 //! What Tab makes of a line: its only candidate, one of several in turn, or a list of them.
-ghost use Rattle.std.specs.Prelude.{◌≡◌, ◌≤◌, ◌++◌, true, is_some, map, take, option_copied, string_bytes, IfErr, IfSome, OnOk, IsCharBoundary, length};
+ghost use Rattle.std.specs.Prelude.{◌≡◌, ◌≤◌, ◌++◌, true, is_some, map, take, option_copied, string_bytes, IfErr, IfSome, OnOk, IsCharBoundary, length, if◌then◌else◌};
+ghost use Rattle.std.specs.Option.{option_map_or};
 ghost use Rattle.line_config.specs.Refusals.{OrMemory};
 ghost use Rattle.line_config.specs.declared.errors.ReadlineError.TheVariants.{Memory};
-ghost use Rattle.line_editor.specs.Candidates.{only_put, only_completed, rows_of, more_row, list_text, list_shown, list_effect, list_standing, candidate_at, turn_effect, modal_after_turn, cycle_begun, cycle_first, cycle_back, ask_and_turn_effect, modal_after_ask, cycle_effect, cycle, several, several_modal, offer_effect, modal_after_offer, tab, cycle_at};
-ghost use Rattle.line_editor.specs.Completing.{common_text, completion_from, candidates_asked};
+ghost use Rattle.line_editor.specs.Candidates.{only_put, rows_of, more_row, list_text, list_shown, list_effect, candidate_at, turn_effect, modal_after_turn, cycle_begun, cycle_first, cycle_back, ask_and_turn_effect, modal_after_ask, cycle_effect, cycle, several, several_modal, offer_effect, modal_after_offer, tab, cycle_at};
+ghost use Rattle.line_editor.specs.Completing.{common_text, completion_from, candidates_asked, word_completed};
 ghost use Rattle.line_editor.specs.Modal.{modal_of, next_of};
+ghost use Rattle.line_editor.specs.declared.modal_state.Standing.TheVariants.{Tabbed, Lists};
 
 use crate::completing::{begins_word, elected};
 use crate::modal_state::{ModalState, Next, Standing, cycle_at};
@@ -125,8 +127,8 @@ impl<'p, 'h, Out: Renderer, H: Helper + Drop, Hi: History> State<'p, 'h, Out, H,
         candidates: &[H::Candidate],
     ) -> Result<(), ReadlineError>
         requires { is_some self.old.helper ≡ true }
-        ensures { Does (only_completed
-            (completion_from H.Candidate.offers start candidates.now))
+        ensures { Does (λ s v. option_map_or (word_completed start) (only_put
+            (completion_from H.Candidate.offers start candidates.now) v.line) beep_effect s v)
             self.old self.new result }
     {
         match only_put(&self.recorded.line, start, candidates) {
@@ -158,9 +160,9 @@ impl<'p, 'h, Out: Renderer, H: Helper + Drop, Hi: History> State<'p, 'h, Out, H,
             (completion_from H.Candidate.offers start candidates.now))
             self.old self.new result }
         ensures modal { OnOk result (modal_of modal.new ≡ record (modal_of modal.old) {
-          standing = list_standing lists (common_text
+          standing = option_map_or (λ text. Tabbed) (common_text
               (completion_from H.Candidate.offers start candidates.now)
-              self.old.recorded.line);
+              self.old.recorded.line) (if lists then Lists else Tabbed);
         }) }
     {
         match elected(&self.recorded.line, start, candidates) {
