@@ -31,7 +31,7 @@ use Rattle.line_keys.specs.declared.command.CmdKind.{CmdKind}
 use Rattle.line_keys.specs.declared.command.CmdKind.TheVariants.{ForcedRefresh, MoveCursor, Other}
 use Rattle.line_record.specs.Held.{closes}
 use Rattle.line_record.specs.Ring.{yank_exchange}
-use Rattle.line_editor.specs.Accepting.{verdict_told, verdict, bare, accept, accepts, newline_if}
+use Rattle.line_editor.specs.Accepting.{verdict_told, verdict, bare, accept, accepts, newline_if, group_and_verdict_effect, verdict_effect}
 use Rattle.line_editor.specs.Commands.{Means, in_vi_command, effect}
 use Rattle.line_editor.specs.Completing.{at_row_end, complete_hint_effect}
 use Rattle.line_editor.specs.Inserting.{insert_char, insert_text, clusters_replaced}

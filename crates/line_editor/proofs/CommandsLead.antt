@@ -44,7 +44,7 @@ use Rattle.line_editor.specs.Redraws.Redraw.{Drawn, Bared, Beeped}
 use Rattle.line_editor.specs.History.{at_place, leave_effect, recall, recall_earlier_effect, history_step, history_end, history_search, entry_shown, save_effect}
 use Rattle.line_editor.specs.Transforms.{transpose_words_effect, edit_word_effect, undo}
 use Rattle.line_editor.specs.Sights.{sight_with, sight_of, ended_sight, Turns, info_after}
-use Rattle.line_editor.specs.Values.{Value, Setting, Effect, without_hint, with_mark, help_steps, hint_reply, verdict_reply, completion_reply, update_reply, shown_hint, shown_marks, no_effect, value_with_edit, line_and_record_of, at_line}
+use Rattle.line_editor.specs.Values.{Value, Setting, Effect, without_hint, with_mark, help_steps, hint_reply, verdict_reply, completion_reply, update_reply, shown_hint, shown_marks, no_effect, value_with_edit, line_and_record_of, at_line, then_do}
 use Rattle.line_editor.specs.Values.EditStep.{Draws}
 use Rattle.line_editor.specs.Yanking.{line_at_anchor, steps_over, behind_yank, value_after_yank, yank_text, yank_lent, pop_lent}
 use Rattle.line_editor.proofs.KnownLemmas.{Begins, yank_begins, pop_begins, over_begins, replaced_begins}

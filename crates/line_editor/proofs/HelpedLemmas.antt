@@ -18,7 +18,7 @@ use Rattle.line_help.specs.declared.history as histories
 use Rattle.line_keys.specs.declared.command.CmdKind.TheVariants.{Other}
 use Rattle.line_editor.specs.Accepting.{verdict, group_and_verdict_effect, verdict_effect, validate}
 use Rattle.line_editor.specs.RenderCalls.{MadeIn}
-use Rattle.line_editor.specs.Drawing.{Since, draw_effect_since, hint_asked, ask_anew_effect, redraw_of}
+use Rattle.line_editor.specs.Drawing.{Since, draw_effect_since, hint_asked, ask_anew_effect, redraw_of, effect_if}
 use Rattle.line_editor.specs.Inserting.{way_if_bare, put_redraw, show_inserted_effect}
 use Rattle.line_editor.specs.Killing.{taken_redraw, show_killed_effect}
 use Rattle.line_editor.specs.EditSteps.{calls_of_steps}

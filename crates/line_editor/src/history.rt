@@ -1,5 +1,5 @@
 //! Shows history entries in place of the line.
-ghost use Rattle.std.specs.Prelude.{◌≡◌, ◌<◌, ◌≤◌, length, IsCharBoundary};
+ghost use Rattle.std.specs.Prelude.{◌≡◌, ◌<◌, ◌≤◌, length, IsCharBoundary, true, false};
 
 use crate::renderer::Renderer;
 use crate::saved::SavedLine;

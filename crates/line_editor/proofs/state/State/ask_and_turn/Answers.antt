@@ -4,6 +4,7 @@ use Rattle.line_editor.specs.Candidates.{turn_effect, cycle_at}
 use Rattle.line_editor.specs.Modal.{modal_of}
 use Rattle.line_editor.proofs.CandidateLemmas.{asking_made, asking_refused}
 use Rattle.line_editor.proofs.state.State.ask_and_turn.Goals as goal
+use Rattle.std.specs.Prelude.{length}
 
 pub returns-in_err-start-clause-does : goal.returns-in_err-start-clause-does
 returns-in_err-start-clause-does g c =
