@@ -31,7 +31,7 @@ use Rattle.line_keys.specs.declared.command.CmdKind.{CmdKind}
 use Rattle.line_keys.specs.declared.command.CmdKind.TheVariants.{MoveCursor}
 use Rattle.line_record.specs.Held.{HeldItem}
 use Rattle.line_editor.specs.Characters.{stands_apart, begins_apart, begins_apart_at}
-use Rattle.line_editor.specs.Drawing.{Since, redraw_of, line_spans, kept_upto, may_begin_at, since, redraw_since, draw_effect_since, ask_anew_effect, refresh_effect, refresh_effect_since, effect_if, message_effect, cursor_moved, beep_effect, clear_and_draw_effect}
+use Rattle.line_editor.specs.Drawing.{Since, redraw_of, line_spans, kept_upto, since, redraw_since, draw_effect_since, ask_anew_effect, refresh_effect, refresh_effect_since, effect_if, message_effect, cursor_moved, beep_effect, clear_and_draw_effect}
 use Rattle.line_editor.specs.Inserting.{is_bare, has_printable_rest, may_be_typed, may_be_appended, may_be_put_in, insertion_way, way_if_bare, put_redraw, show_inserted_effect, insert_char, insert_text}
 use Rattle.line_editor.specs.declared.way.Way.{Way}
 use Rattle.line_editor.specs.declared.way.Way.TheVariants.{AtEnd, Alone, Back, Inside, Whole}
@@ -238,7 +238,7 @@ module _ (from : ℕ) (s : Setting) (v w : Value) (first : begins_apart_at v.lin
   abbrev kept : ℕ
   kept = kept_upto noted s w
 
-  from_leads : may_begin_at kept noted w ≡ true → Leads s v (record { value = w; steps = Draws w s.marks (DrawnFrom s.prompt kept w.line.text w.line.place (shown_hint w)) ∷ [] })
+  from_leads : (begins_apart_at w.line.text noted.from && begins_apart_at w.line.text kept) ≡ true → Leads s v (record { value = w; steps = Draws w s.marks (DrawnFrom s.prompt kept w.line.text w.line.place (shown_hint w)) ∷ [] })
   from_leads later info =
       let both = and_parts (begins_apart_at w.line.text from) (begins_apart_at w.line.text kept) later in
       let styles = kept_styles from (line_spans s v) (line_spans s w) kept refl in
@@ -271,9 +271,9 @@ module _ (from : ℕ) (s : Setting) (v w : Value) (first : begins_apart_at v.lin
       }
 
   noted_leads : Leads s v (record { value = w; steps = Draws w s.marks (redraw_since (Some noted) s w) ∷ [] })
-  noted_leads = by_test (may_begin_at kept noted w) refl
+  noted_leads = by_test (begins_apart_at w.line.text noted.from && begins_apart_at w.line.text kept) refl
     where
-      by_test : (b : Bool) → may_begin_at kept noted w ≡ b
+      by_test : (b : Bool) → (begins_apart_at w.line.text noted.from && begins_apart_at w.line.text kept) ≡ b
           → Leads s v (record { value = w; steps = Draws w s.marks (if b then DrawnFrom s.prompt kept w.line.text w.line.place (shown_hint w) else redraw_of s w) ∷ [] })
       by_test true later = from_leads later
       by_test false later = whole_leads s v w

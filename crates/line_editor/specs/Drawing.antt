@@ -44,17 +44,12 @@ since s from v = if s.config.partial_redraw && begins_apart_at v.line.text from
 abbrev pub kept_upto : Since → Setting → Value → ℕ
 kept_upto before s v = shared_styles before.styles (told_styles before.from (line_spans s v))
 
--- whether the line may be drawn from there on: no cluster lies over either place in it
-abbrev pub may_begin_at : ℕ → Since → Value → Bool
-may_begin_at kept before v =
-    begins_apart_at v.line.text before.from && begins_apart_at v.line.text kept
-
--- the line with its hint, drawn from such a place on, if it may be
+-- the line with its hint, drawn from there on, if no cluster lies over either place in it
 abbrev pub redraw_since : Option Since → Setting → Value → Redraw
 redraw_since None s v = redraw_of s v
 redraw_since (Some before) s v =
     let kept = kept_upto before s v in
-    if may_begin_at kept before v
+    if begins_apart_at v.line.text before.from && begins_apart_at v.line.text kept
     then DrawnFrom s.prompt kept v.line.text v.line.place (shown_hint v) else redraw_of s v
 
 abbrev pub draw_effect_since : Option Since → Transition

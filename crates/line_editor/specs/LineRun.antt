@@ -54,10 +54,9 @@ breaks_after why = false
 -- the relation of `run`: a line goes as its script says. More fuel than the reader has keys and
 -- pastes is enough
 pub record Runs {R H K T : Type 0} (canvas : Canvas R) (helps : Option H → Helping)
-    (custom : Custom)
-    (prompt : List ℕ) (helper : Option H) (entries : List (List ℕ)) (config : Config) (out : R)
-    (ring : Ring) (query : List ℕ) (feed : KeyFeed) (ran : Ran R H K T) (ring' : Ring)
-    (query' : List ℕ) (feed' : KeyFeed) : Type 0 where
+    (custom : Custom) (prompt : List ℕ) (helper : Option H) (entries : List (List ℕ))
+    (config : Config) (out : R) (ring : Ring) (query : List ℕ) (feed : KeyFeed)
+    (ran : Ran R H K T) (ring' : Ring) (query' : List ℕ) (feed' : KeyFeed) : Type 0 where
   -- its value at its end
   pub value : Value
   pub input : Input
