@@ -201,7 +201,7 @@ module _ (fact : Fact) (sound : Value → Type 0) (s : Setting) (edits : KeptByE
   hint_taken None v h = h
   hint_taken (Some text) v h = let put = k.yanked text 1 v h in either_holds fact (is_some (yanked_in text 1 v.line).answer) _ _ put put
 
-  hint_completed : (o : Option Hinted) (v : Value) → Holds fact v → Holds fact (option_map_or (λ (h : Hinted). complete_hint_effect h.completion s (at_row_end v)) o (no_effect s v) s v).value
+  hint_completed : (o : Option Hinted) (v : Value) → Holds fact v → Holds fact (option_map_or (λ (h : Hinted). complete_hint_effect h.completion s (at_row_end v)) o (no_effect s v)).value
   hint_completed None v h = h
   hint_completed (Some hint) v h = hint_taken hint.completion (at_row_end v) h
 

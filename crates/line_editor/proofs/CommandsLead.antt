@@ -229,7 +229,7 @@ completion_leads (Some text) s v w =
     let u = value_with_edit (by (yank_steps text 1)) w in
     either s v (is_some (yanked_in text 1 w.line).answer) _ _ (λ e. redraw_leads (yank_steps text 1) s v w) (λ e. redrawn_leads Beeped u (hint_reply s u) s v (ask_anew_effect s u).value (λ y. tt))
 
-hint_leads : (o : Option Hinted) (s : Setting) (v : Value) → Leads s v (option_map_or (λ (h : Hinted). complete_hint_effect h.completion s (at_row_end v)) o (no_effect s v) s v)
+hint_leads : (o : Option Hinted) (s : Setting) (v : Value) → Leads s v (option_map_or (λ (h : Hinted). complete_hint_effect h.completion s (at_row_end v)) o (no_effect s v))
 hint_leads None s v = rest_leads s v v (refl, refl, refl)
 hint_leads (Some hint) s v = completion_leads hint.completion s v (at_row_end v)
 

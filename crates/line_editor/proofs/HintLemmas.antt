@@ -28,7 +28,7 @@ use Rattle.line_editor.proofs.YankLemmas.{is_put}
 use Rattle.std.specs.Option.{option_map_or}
 
 completed_is : (hint : Hinted) (completion : Option (List ℕ)) (s : Setting) (v : Value) → v.hint ≡ Some hint → hint.completion ≡ completion → complete_hint_effect completion s (at_row_end v) ≡ complete_hint s v
-completed_is hint completion s v shown is = sym (ap (λ x. option_map_or (λ (h : Hinted). complete_hint_effect h.completion s (at_row_end v)) x (no_effect s v) s v) shown ∙ ap (λ x. complete_hint_effect x s (at_row_end v)) is)
+completed_is hint completion s v shown is = sym (ap (λ x. option_map_or (λ (h : Hinted). complete_hint_effect h.completion s (at_row_end v)) x (no_effect s v)) shown ∙ ap (λ x. complete_hint_effect x s (at_row_end v)) is)
 
 -- by whether its text was put in
 taken_is : (b : Bool) (hint : Hinted) (text : List ℕ) (s : Setting) (v : Value) → v.hint ≡ Some hint → hint.completion ≡ Some text → is_some (yanked_in text 1 (at_row_end v).line).answer ≡ b
