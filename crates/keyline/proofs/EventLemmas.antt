@@ -331,14 +331,14 @@ module _ {D L : Type 0} (shown : D → List ℕ) (written_in : L → List ℕ) (
           let events = step_events s x.drawn.layout rs ++ more in
           subst (λ c. Broken events (at x) why (on y.drawn.out c)) (sym (leaves_coming ask x.kept y.kept why leaves))
           (went_before more (steps_stopped rs x.kept.coming why y.kept.value x.drawn y.drawn is stops))
-      ask_stopped (Keys (Reads item)) asks why x y is (inr (left, unread, same)) = unread_by item why left unread same
+      ask_stopped ask asks why x y is (inr (item, left, reads, unread, same)) =
+          subst (λ (q : LineAsk). Broken (asks_events s a x.drawn.layout x.kept (q ∷ asks)) (at x) why (at y)) (sym reads) (unread_by item why left unread same)
         where
           unread_by : (item : InputItem) (why : ReadlineError) (left : List ℕ) → IsReadFault item why → y ≡ line_stage x.drawn (record x.kept { coming = coming_after_error why left })
               → Broken (Hears item ∷ asks_events s a x.drawn.layout (left_at a x.kept (Keys (Reads item))) asks) (at x) why (at y)
           unread_by Paste Memory left unread same =
               went_stopped (Hears Paste) (asks_events s a x.drawn.layout (left_at a x.kept (Keys (Reads Paste))) asks) Memory (none_done (at x)) (left, ap (λ (z : LineStage (ScreenRenderer D)). at z) same) refl
           unread_by _ _ left unread same = absurd unread
-      ask_stopped _ asks why x y is (inr (left, unread, same)) = absurd unread
 
       -- ---- a line
 

@@ -16,13 +16,12 @@ use Rattle.line_keys.specs.declared.command.Cmd.{Cmd}
 use Rattle.line_keys.specs.declared.command.Cmd.TheVariants.{SelfInsert}
 use Rattle.line_editor.specs.RenderCalls.{Marks}
 use Rattle.line_editor.specs.RenderCalls.Call.{Append}
-use Rattle.line_editor.specs.Drawing.{Since, since, ask_anew_effect}
+use Rattle.line_editor.specs.Drawing.{Since, since, ask_anew_effect, shown_in}
 use Rattle.line_keys.specs.Replies.{Reply, fails}
-use Rattle.line_editor.specs.Asks.{shown_in}
 use Rattle.line_editor.specs.Inserting.{is_bare, may_be_typed, may_be_appended, may_be_put_in, insertion_way, put_redraw, show_inserted_effect, insert_char}
 use Rattle.line_editor.specs.declared.way.Way.{Way}
 use Rattle.line_editor.specs.declared.way.Way.TheVariants.{AtEnd, Alone, Inside, Whole}
-use Rattle.line_editor.specs.LineScripts.{turn_start, Meets, LineState, line_plan, made_from, meet_script, obey_script, phrase_script, played_from, steps_along, turn_script}
+use Rattle.line_editor.specs.LineScripts.{turn_start, Meets, LineState, line_plan, made_from, meet_script, phrase_script, played_from, steps_along, turn_script, Obeys}
 use Rattle.line_editor.specs.Modal.{Modal, is_at_rest}
 use Rattle.line_editor.specs.NextCommand.{line_phrase}
 use Rattle.line_editor.specs.Redraws.{RedrawCalls, full, rest_call, nothing_asked, move_call, char_call, append_call, erase_call, put_in_short, taken_out_short, fits_in_row, may_type, may_take, may_erase, may_put_in, may_take_out, write_over_call, may_write_over}
@@ -43,6 +42,7 @@ use Rattle.line_screen.specs.Measure.{in_row}
 use Rattle.line_screen.proofs.Items.{letter_items}
 use Rattle.keyline.proofs.ShowSteps.{if_none, small}
 use Rattle.keyline.specs.Shows.{TellsSight, LayoutsTell, TypedAtEnd, OneByte, ReadAlone, calls_by_screen, bytes_for}
+use Rattle.script.specs.Scripts.{Asks, Ends}
 
 -- ---- the layout that is kept
 
@@ -182,7 +182,7 @@ turned_steps n a custom k c rests alone =
     let p = played_from a phrase k in
     let first = steps_along a k p.asks in
     let on : Cmd → LineState → PlayedOf a Status = follows (line_plan a) meet_script in
-    let obeyed = (played_from a (obey_script cmd) p.rest).asks in
+    let obeyed = (played_from a (Asks (Obeys cmd) (λ status. Ends status)) p.rest).asks in
     let more = Meets cmd ∷ obeyed in
     let all : PlayedOf a Status → List EditStep = λ q. steps_along a k q.asks in
     let still : is_at_rest p.rest.modal.standing ≡ true =

@@ -24,10 +24,10 @@ use Rattle.line_keys.specs.Refreshing.{Shown}
 use Rattle.line_keys.specs.Replies.{gives_at_once, with_memory}
 use Rattle.line_keys.specs.Vi.{with_last, change_part, insert_part, command_table, vi_counted, vi_command, insert_table, vi_insert}
 use Rattle.line_keys.specs.ViTables.{insert_action, action_of}
-use Rattle.line_editor.specs.Asks.{shown_in}
-use Rattle.line_editor.specs.LineScripts.{turn_start, Keys, LineState, LineAsk, line_state, script_of_keys, phrase_script, played_from, Obeys, left_at, line_plan, line_script, meet_script, obey_script, turn_script, line_script_after, turns_script, line_begun}
+use Rattle.line_editor.specs.Drawing.{shown_in, refresh_effect}
+use Rattle.line_editor.specs.LineScripts.{turn_start, Keys, LineState, LineAsk, line_state, script_of_keys, phrase_script, played_from, Obeys, left_at, line_plan, line_script, meet_script, turn_script, line_script_after, turns_script}
 use Rattle.line_editor.specs.NextCommand.{with_group_begun, ring_after_reset}
-use Rattle.line_editor.specs.Values.{Setting, Value, empty_at, first_value, at_line}
+use Rattle.line_editor.specs.Values.{Setting, Value, empty_at, first_value, at_line, then_do, memory_effect}
 use Rattle.line_screen.specs.KeyGrammar.{coming_of, marker, paste_start, with_newlines}
 use Rattle.line_screen.proofs.Pasting.{pasted_text_is_before_its_mark}
 use Rattle.keyline.specs.Pasting.{paste_bytes, IsFree, IsPasteable, Accepts, IsUnbound, PastedLinesAreAccepted, PastesAreAccepted, PastesGoIn, line_with_paste}
@@ -226,7 +226,7 @@ module _ (s : Setting) (custom : Custom) where
   -- its command begins nothing
   turn_ends : (n : ℕ) (k j : LineState) (cmd : Cmd) → is_at_rest j.modal.standing ≡ true → begins_modal cmd ≡ false
       → ending (played_from s (phrase_script (suc n) custom (turn_start k)) k) ≡ (Ok cmd, j)
-      → ending (played_from s (turn_script (suc n) custom) k) ≡ ending (played_from s (obey_script cmd) j)
+      → ending (played_from s (turn_script (suc n) custom) k) ≡ ending (played_from s (Asks (Obeys cmd) (λ status. Ends status)) j)
   unfolding turn_script
   turn_ends n k j cmd rests none is =
       ap ending (played_then (line_plan s) meet_script (phrase_script (suc n) custom (turn_start k)) k)
@@ -297,7 +297,7 @@ pub pasted_lines_are_accepted : PastedLinesAreAccepted
 unfolding line_script
 pasted_lines_are_accepted n g x text more last none free paste is =
     let s : Setting = setting_in g x.history.kept.entries in
-    let e = line_begun s (first_value s) in
+    let e = (then_do memory_effect refresh_effect) s (first_value s) in
     let k = line_state e.value (new_input g.config) x.ring (modal_first g.config x.query) x.coming in
     let a = pastes_are_accepted n s g.custom k text more last none free refl refl (first_rests g.config.modal_commands) paste is in
     record { outcome = a.outcome; rest_is = a.rest_is }

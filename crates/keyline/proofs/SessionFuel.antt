@@ -1,7 +1,7 @@
 -- Lines and sessions by two amounts of fuel above the keys and pastes to come are one.
 use Rattle.std.proofs.Common.{ℕ, zero, suc, ◌<◌, Bool, true, false, List, refl, ap, arith, ◌≡◌, ◌≤◌, ◌∷◌, ◌++◌, sym, ◌∙◌, Result, Ok, Err}
 use Rattle.script.specs.Scripts.{Ends, Asks, then}
-use Rattle.line_editor.specs.LineScripts.{TurnStart, turn_start, Keys, LineAsk, LineScript, script_of_keys, line_script, meet_script, turn_script, line_script_after, turns_script, Begins, Makes, LineAnswer, LineState, answer_at, left_at, line_begun, played_from}
+use Rattle.line_editor.specs.LineScripts.{TurnStart, turn_start, Keys, LineAsk, LineScript, script_of_keys, line_script, meet_script, turn_script, line_script_after, turns_script, Begins, Makes, LineAnswer, LineState, answer_at, left_at, played_from}
 use Rattle.line_editor.specs.NextCommand.{with_group_begun}
 use Rattle.line_editor.specs.declared.commands.Status.{Status}
 use Rattle.line_editor.specs.declared.commands.Status.TheVariants.{Proceed, Submit}
@@ -15,13 +15,14 @@ use Rattle.script.specs.Played.{Played, play_with_first_ask, play_after_answer}
 use Rattle.line_config.specs.declared.errors.ReadlineError.{ReadlineError}
 use Rattle.line_config.specs.declared.errors.ReadlineError.TheVariants.{Eof}
 use Rattle.line_editor.specs.LineRun.{first_line_state}
-use Rattle.line_editor.specs.Values.{Setting}
+use Rattle.line_editor.specs.Values.{Setting, then_do, memory_effect}
 use Rattle.keyline.specs.Events.{Begins as LineBegins, Course, end_events, events_first, events_of, course_after_line, line_course, line_play_in, session}
 use Rattle.keyline.specs.Sessions.{Given, LineGiven, SessionState, for_line, history_after, setting_in, state_at}
 use Rattle.keyline.specs.SessionLaws.{keys_and_pastes}
 use Rattle.line_editor.proofs.ToldLemmas.{PlayedOf, played_each}
 use Rattle.keyline.proofs.PhraseFuel.{Alike, Next, Plays, after_alike, alike_itself, is_key_read, next_map, next_read, s_phrase_from, s_with_group, then_alike}
 use Rattle.line_keys.specs.Refreshing.{Shown}
+use Rattle.line_editor.specs.Drawing.{refresh_effect}
 
 abbrev is_line_read : LineAsk → Bool
 is_line_read (Keys ask) = is_key_read ask
@@ -145,7 +146,7 @@ module _ (s : Setting) where
       → suc (keys_and_pastes (played_from s (line_script (suc n) custom) c).rest.coming) ≤ keys_and_pastes c.coming
   unfolding line_script turns_script turn_script and_then with_read
   line_falls n custom c text ok =
-      let drawn = left_at s c (Makes line_begun) in
+      let drawn = left_at s c (Makes (then_do memory_effect refresh_effect)) in
       first_key (turn_after n custom (turn_start drawn)) (left_at s drawn Begins) (item_at Key c.coming) refl text ok
 
 -- ---- sessions

@@ -5,9 +5,9 @@ use Rattle.std.specs.List.{flat_map}
 use Rattle.line_buffer.specs.declared.layout.Layout.{Layout}
 use Rattle.line_buffer.specs.declared.layout.TabStops.{TabStops}
 use Rattle.line_config.specs.declared.errors.ReadlineError.{ReadlineError}
-use Rattle.line_editor.specs.LineScripts.{LineAsk, LineState, effect_at, left_at, steps_along}
+use Rattle.line_editor.specs.LineScripts.{LineAsk, LineState, effect_at, left_at, steps_along, played_from, line_script}
 use Rattle.line_editor.specs.Redraws.{fresh}
-use Rattle.line_editor.specs.LineRun.{first_line_state, line_played}
+use Rattle.line_editor.specs.LineRun.{first_line_state}
 use Rattle.line_editor.specs.EditSteps.{one}
 use Rattle.line_editor.specs.Values.{EditStep, Setting, shown_marks}
 use Rattle.line_editor.specs.Values.EditStep.{Draws as DrawStep, Helped as HelpStep}
@@ -62,7 +62,7 @@ untabbed g columns none = ap (λ tab. tabs_of (at_columns columns (tabbed g tab)
 abbrev course_on : ℕ → Given → SessionState → Screen → Setting → Course (Result (List ℕ) ReadlineError × SessionState)
 course_on n g x s a =
     let k = first_line_state a x.ring x.query x.coming in
-    let p = line_played n a g.custom x.ring x.query x.coming in
+    let p = played_from a (line_script n g.custom) (first_line_state a x.ring x.query x.coming) in
     record {
       events = Begins s ∷ (asks_events s a (fresh s.mode) k p.asks ++ end_events p.answer);
       answer = (p.answer, state_at p.rest.ring p.rest.modal.query (history_after g.config.auto_add_history p.answer x.history) p.rest.coming);
@@ -79,7 +79,7 @@ lines_alike n g x columns t e =
     let s = other.screen in
     let entries = x.history.kept.entries in
     let a = setting_in g entries in
-    let p = line_played n a g.custom x.ring x.query x.coming in
+    let p = played_from a (line_script n g.custom) (first_line_state a x.ring x.query x.coming) in
     let k = first_line_state a x.ring x.query x.coming in
     let asks = λ (s : Screen). asks_events s a (fresh s.mode) k p.asks in
     let same : line_course n other x ≡ course_on n g x s a =
@@ -133,7 +133,7 @@ line_columns_are_free n g x columns none e =
     let tabs = tabs_of (at_columns columns g) in
     let t = untabbed g columns none in
     let first : Setting → LineState = λ a. first_line_state a x.ring x.query x.coming in
-    let played = λ (a : Setting). line_played n a g.custom x.ring x.query x.coming in
+    let played = λ (a : Setting). played_from a (line_script n g.custom) (first_line_state a x.ring x.query x.coming) in
     let stepped = λ (a : Setting). steps_along a (first a) (played a).asks in (
       ap (λ column. played (at column tabs)) e ∙ ap (λ tabs. played (at own tabs)) t,
       ap (λ column. stepped (at column tabs)) e ∙ ap (λ tabs. stepped (at own tabs)) t,

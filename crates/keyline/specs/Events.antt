@@ -7,10 +7,10 @@ use Rattle.script.specs.Played.{Played}
 use Rattle.line_config.specs.declared.errors.ReadlineError.{ReadlineError}
 use Rattle.line_config.specs.declared.errors.ReadlineError.TheVariants.{Memory}
 use Rattle.line_editor.specs.RenderCalls.{Marks}
-use Rattle.line_editor.specs.LineScripts.{LineState, LineAsk, Begins as TurnBegins, Keys, effect_at, left_at}
+use Rattle.line_editor.specs.LineScripts.{LineState, LineAsk, Begins as TurnBegins, Keys, effect_at, left_at, played_from, line_script}
 use Rattle.line_editor.specs.ModalCommands.{modal_seen}
 use Rattle.line_editor.specs.Redraws.{Redraw, calls_of_redraw, fresh}
-use Rattle.line_editor.specs.LineRun.{first_line_state, line_played, breaks_after}
+use Rattle.line_editor.specs.LineRun.{first_line_state, breaks_after}
 use Rattle.line_editor.specs.EditSteps.{calls_of_steps, one}
 use Rattle.line_editor.specs.Values.{EditStep, Setting, shown_marks}
 use Rattle.line_editor.specs.Values.EditStep.{Draws as DrawStep, Helped as HelpStep}
@@ -81,14 +81,15 @@ abbrev pub end_events : Result (List ℕ) ReadlineError → List SessionEvent
 end_events (Ok text) = Breaks ∷ (Keeps text ∷ (Writes text ∷ []))
 end_events (Err e) = if breaks_after e then Breaks ∷ [] else []
 
--- a line's script, without faults. More fuel than the source has keys and pastes is enough
-abbrev pub line_play_in : ℕ → Given → SessionState → Played LineAsk LineState ReadlineError (List ℕ)
-line_play_in n g x =
-    line_played n (setting_in g x.history.kept.entries) g.custom x.ring x.query x.coming
-
--- its state before the first request, and the events of its requests
+-- a line's state before its first request
 abbrev pub first_in : Given → SessionState → LineState
 first_in g x = first_line_state (setting_in g x.history.kept.entries) x.ring x.query x.coming
+
+-- its script, without faults, and the events of its requests. More fuel than the source has keys
+-- and pastes is enough
+abbrev pub line_play_in : ℕ → Given → SessionState → Played LineAsk LineState ReadlineError (List ℕ)
+line_play_in n g x =
+    played_from (setting_in g x.history.kept.entries) (line_script n g.custom) (first_in g x)
 
 abbrev pub events_of : Given → SessionState → List LineAsk → List SessionEvent
 events_of g x asks = asks_events g.screen (setting_in g x.history.kept.entries)

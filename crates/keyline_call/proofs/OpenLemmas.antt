@@ -16,11 +16,11 @@ use Rattle.line_keys.specs.Refreshing.Ask.{Line, Message, Prompted, DoingInsert,
 use Rattle.line_keys.specs.Replies.{Reply}
 use Rattle.line_keys.specs.declared.command.Cmd.{Cmd}
 use Rattle.line_keys.specs.declared.command.Cmd.TheVariants.{AcceptLine, AcceptOrInsertLine, EndOfFile, Interrupt}
-use Rattle.line_editor.specs.Accepting.{accepts}
-use Rattle.line_editor.specs.Asks.{ask_effect, shown_in}
+use Rattle.line_editor.specs.Accepting.{accepts, verdict}
+use Rattle.line_editor.specs.Drawing.{ask_effect, shown_in}
 use Rattle.line_editor.specs.Commands.{Means, means_of, outcome}
 use Rattle.line_editor.specs.Leads.{BeginShows, LeadsAlong}
-use Rattle.line_editor.specs.LineScripts.{Begins, Keys, Meets, Obeys, LineAsk, LineScript, LineState, answer_at, effect_at, script_of_keys, left_at, line_plan, line_script, meet_script, obey_script, played_from, steps_along, turn_script, line_script_after, turns_script}
+use Rattle.line_editor.specs.LineScripts.{Begins, Keys, Meets, Obeys, LineAsk, LineScript, LineState, answer_at, effect_at, script_of_keys, left_at, line_plan, line_script, meet_script, played_from, steps_along, turn_script, line_script_after, turns_script}
 use Rattle.line_editor.specs.ModalCommands.{meeting, modal_seen, sight_in_mode}
 use Rattle.line_editor.specs.Modal.{Modal}
 use Rattle.line_editor.specs.NextCommand.{line_phrase, ring_after_reset}
@@ -81,14 +81,14 @@ module _ (s : Setting) where
   command_error : (m : Means) (cmd : Cmd) (v : Value) → error_of (outcome m cmd s v)
   command_error m EndOfFile v e is h = end_if (length v.line.text == 0) (is_emacs m.mode) e is h
   command_error m AcceptLine v e is h = cc
-  command_error m (AcceptOrInsertLine middle) v e is h = accepts_if (accepts middle s v) e is h
+  command_error m (AcceptOrInsertLine middle) v e is h = accepts_if (accepts middle (verdict s v) v.line) e is h
   command_error m Interrupt v e is h = (let same : Interrupted ≡ e = cc in subst IsOfPhrase (sym same) h)
   command_error m cmd v e is h = cc
 
   abbrev spoken : KeyScript Cmd → LineScript Status
   spoken script = (then) (script_of_keys script) meet_script
 
-  obeyed : (cmd : Cmd) (k : LineState) → EndsInPhrase false (played_from s (obey_script cmd) k)
+  obeyed : (cmd : Cmd) (k : LineState) → EndsInPhrase false (played_from s (Asks (Obeys cmd) (λ status. Ends status)) k)
   obeyed cmd k = by (outcome (means_of k.input (ring_after_reset cmd k.ring)) cmd s k.value) (command_error (means_of k.input (ring_after_reset cmd k.ring)) cmd k.value)
     where
       by : (q : Result Status ReadlineError) → error_of q

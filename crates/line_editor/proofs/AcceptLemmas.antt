@@ -9,7 +9,7 @@ use Rattle.line_help.specs.declared.helpers.highlight as highlights
 use Rattle.line_help.specs.declared.helpers.validate as verdicts
 use Rattle.line_help.specs.declared.history as histories
 use Rattle.line_help.specs.declared.helpers.validate.ValidationResult.{ValidationResult}
-use Rattle.line_editor.specs.Accepting.{accept, verdict, accepts, accepts_found, newline_if, accept_or_insert}
+use Rattle.line_editor.specs.Accepting.{accept, verdict, accepts, newline_if, accept_or_insert}
 use Rattle.line_editor.specs.States.{value_of, setting_of, Does}
 use Rattle.line_editor.specs.Values.{Value, Setting, Transition, then_do}
 use Rattle.line_editor.specs.declared.renderer as renderers
@@ -17,19 +17,19 @@ use Rattle.line_editor.specs.declared.state.State.{State}
 use Rattle.line_editor.proofs.DoesLemmas.{does_as, does_both, does_both_by, does_cut_by}
 
 abbrev behind : Bool → Setting → Value → Transition
-behind middle s v = newline_if (accepts middle s v) (verdict s v)
+behind middle s v = newline_if (accepts middle (verdict s v) v.line) (verdict s v)
 
 module _ {Out H Hi K T : Type 0} {renderer : renderers.Renderer.Ghosts Out} {completer : completions.Completer.Ghosts H K} {candidate : completions.Candidate.Ghosts K}
     {hinter : hints.Hinter.Ghosts H T} {hint : hints.Hint.Ghosts T} {highlighter : highlights.Highlighter.Ghosts H} {validator : verdicts.Validator.Ghosts H} {history : histories.History.Ghosts Hi} where
   -- what was found decides what comes after it
   newline_by : (middle accepted : Bool) (found : ValidationResult) (s m : State Out H Hi K T renderer completer candidate hinter hint highlighter validator history)
-      → found ≡ verdict (setting_of s) (value_of s) → m.recorded.line ≡ s.recorded.line → accepted ≡ accepts_found middle found m.recorded.line → newline_if accepted found ≡ behind middle (setting_of s) (value_of s)
+      → found ≡ verdict (setting_of s) (value_of s) → m.recorded.line ≡ s.recorded.line → accepted ≡ accepts middle found m.recorded.line → newline_if accepted found ≡ behind middle (setting_of s) (value_of s)
   newline_by middle accepted found s m is same test =
-      ap (λ (a : Bool). newline_if a found) (test ∙ ap (λ (l : Line). accepts_found middle found l) same ∙ ap (λ (f : ValidationResult). accepts_found middle f s.recorded.line) is)
-      ∙ ap (newline_if (accepts middle (setting_of s) (value_of s))) is
+      ap (λ (a : Bool). newline_if a found) (test ∙ ap (λ (l : Line). accepts middle found l) same ∙ ap (λ (f : ValidationResult). accepts middle f s.recorded.line) is)
+      ∙ ap (newline_if (accepts middle (verdict (setting_of s) (value_of s)) (value_of s).line)) is
 
   newline_is : {B : Type 0} (middle accepted : Bool) (found : ValidationResult) (s m t : State Out H Hi K T renderer completer candidate hinter hint highlighter validator history) (r : Result B ReadlineError)
-      → found ≡ verdict (setting_of s) (value_of s) → m.recorded.line ≡ s.recorded.line → accepted ≡ accepts_found middle found m.recorded.line
+      → found ≡ verdict (setting_of s) (value_of s) → m.recorded.line ≡ s.recorded.line → accepted ≡ accepts middle found m.recorded.line
       → Does (newline_if accepted found) m t r → Does (behind middle (setting_of s) (value_of s)) m t r
   newline_is middle accepted found s m t r is same test k = subst (λ (edit : Transition). Does edit m t r) (newline_by middle accepted found s m is same test) k
 
@@ -44,7 +44,7 @@ module _ {Out H Hi K T : Type 0} {renderer : renderers.Renderer.Ghosts Out} {com
   made_as edit s t x y h = record { value = h.value; calls = h.calls; layout = h.layout; stays = h.stays; reason = tt; stops = tt }
 
   pub accept_newline : {A B C : Type 0} (middle accepted : Bool) (found : ValidationResult) (s m t : State Out H Hi K T renderer completer candidate hinter hint highlighter validator history) (x : A) (y : B)
-      → Does accept s m (Ok x) → found ≡ verdict (setting_of s) (value_of s) → m.recorded.line ≡ s.recorded.line → accepted ≡ accepts_found middle found m.recorded.line
+      → Does accept s m (Ok x) → found ≡ verdict (setting_of s) (value_of s) → m.recorded.line ≡ s.recorded.line → accepted ≡ accepts middle found m.recorded.line
       → (z : C) → Does (newline_if accepted found) m t (Ok z) → Does (accept_or_insert middle) s t (Ok y)
   accept_newline middle accepted found s m t x y h is same test z k =
       does_as (then_do accept (behind middle (setting_of s) (value_of s))) (accept_or_insert middle) s t (Ok y) refl
@@ -52,7 +52,7 @@ module _ {Out H Hi K T : Type 0} {renderer : renderers.Renderer.Ghosts Out} {com
       (newline_is middle accepted found s m t (Ok y) is same test (made_as (newline_if accepted found) m t z y k)))
 
   pub accept_newline_cut : {A B C : Type 0} (middle accepted : Bool) (found : ValidationResult) (s m t : State Out H Hi K T renderer completer candidate hinter hint highlighter validator history) (x : A) (e : ReadlineError) (r : Result C ReadlineError)
-      → IsErrAnd r (λ y. y ≡ e) → Does accept s m (Ok x) → found ≡ verdict (setting_of s) (value_of s) → m.recorded.line ≡ s.recorded.line → accepted ≡ accepts_found middle found m.recorded.line
+      → IsErrAnd r (λ y. y ≡ e) → Does accept s m (Ok x) → found ≡ verdict (setting_of s) (value_of s) → m.recorded.line ≡ s.recorded.line → accepted ≡ accepts middle found m.recorded.line
       → Does {A = B} (newline_if accepted found) m t (Err e) → Does (accept_or_insert middle) s t r
   accept_newline_cut {A} {B} {C} middle accepted found s m t x e r fault h is same test k =
       does_as (then_do accept (behind middle (setting_of s) (value_of s))) (accept_or_insert middle) s t r refl

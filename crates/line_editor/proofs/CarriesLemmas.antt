@@ -18,11 +18,11 @@ use Rattle.line_keys.specs.PhraseScripts.{Input}
 use Rattle.line_record.specs.Ring.{Ring}
 use Rattle.line_editor.specs.Accepting.{submit_effect}
 use Rattle.line_editor.specs.Drawing.{refresh_effect}
-use Rattle.line_editor.specs.LineScripts.{line_begun, LineAsk, LineAnswer, LineScript, Makes, LineStage, line_state, line_script_after, turn_script, turns_script, line_script}
+use Rattle.line_editor.specs.LineScripts.{LineAsk, LineAnswer, LineScript, Makes, LineStage, line_state, line_script_after, turn_script, turns_script, line_script}
 use Rattle.line_editor.specs.Modal.{Modal}
 use Rattle.line_editor.specs.States.{value_of, Reason, Stays, Does}
 use Rattle.line_editor.specs.Turn.{Cause, Takes, stage_of, world_of}
-use Rattle.line_editor.specs.Values.{Value, Transition, memory_effect}
+use Rattle.line_editor.specs.Values.{Value, Transition, memory_effect, then_do}
 use Rattle.line_editor.specs.declared.commands.Status.{Status}
 use Rattle.line_editor.specs.declared.commands.Status.TheVariants.{Proceed, Submit}
 use Rattle.line_editor.specs.declared.renderer as renderers
@@ -211,20 +211,20 @@ module _ {Out H Hi K T : Type 0} {renderer : renderers.Renderer.Ghosts Out} {com
   -- ---- the first drawing
 
   -- memory was taken before it
-  begun : {A : Type 0} (s t : State Out H Hi K T renderer completer candidate hinter hint highlighter validator history) (result : Result A ReadlineError) → Does refresh_effect s t result → Does line_begun s t result
+  begun : {A : Type 0} (s t : State Out H Hi K T renderer completer candidate hinter hint highlighter validator history) (result : Result A ReadlineError) → Does refresh_effect s t result → Does (then_do memory_effect refresh_effect) s t result
   begun s t result h = does_both memory_effect refresh_effect s s t (tt {0}) result (taken s) h
 
   module _ (custom : Custom) (i : Input) (r : Ring) (q : Modal) (s : State Out H Hi K T renderer completer candidate hinter hint highlighter validator history) (feed : KeyFeed) where
-    drawn_on : {B : Type 0} (n : ℕ) (x : B) (m : State Out H Hi K T renderer completer candidate hinter hint highlighter validator history) (result : Result (List ℕ) ReadlineError) (y : LineStage Out) → Does line_begun s m (Ok x)
+    drawn_on : {B : Type 0} (n : ℕ) (x : B) (m : State Out H Hi K T renderer completer candidate hinter hint highlighter validator history) (result : Result (List ℕ) ReadlineError) (y : LineStage Out) → Does (then_do memory_effect refresh_effect) s m (Ok x)
         → Goes (world_of m) (turns_script n custom) (stage_of m i r q feed.coming) result y → Goes (world_of s) (line_script n custom) (stage_of s i r q feed.coming) result y
     unfolding line_script
-    drawn_on n x m result y drawn goes = makes s s m (stays_same s) line_begun i r q feed.coming (λ v. turns_script n custom) x result y drawn
+    drawn_on n x m result y drawn goes = makes s s m (stays_same s) (then_do memory_effect refresh_effect) i r q feed.coming (λ v. turns_script n custom) x result y drawn
         (subst (λ w. Goes w (turns_script n custom) (stage_of m i r q feed.coming) result y) (world_stays s m drawn.stays) goes)
 
-    not_drawn : {B : Type 0} (n : ℕ) (t : State Out H Hi K T renderer completer candidate hinter hint highlighter validator history) (e : ReadlineError) → Does {A = B} line_begun s t (Err e)
+    not_drawn : {B : Type 0} (n : ℕ) (t : State Out H Hi K T renderer completer candidate hinter hint highlighter validator history) (e : ReadlineError) → Does {A = B} (then_do memory_effect refresh_effect) s t (Err e)
         → Goes (world_of s) (line_script n custom) (stage_of s i r q feed.coming) (Err e) (stage_of t i r q feed.coming)
     unfolding line_script
-    not_drawn {B} n t e refused = unmade s s t (stays_same s) line_begun i r q feed.coming (λ v. turns_script n custom) {A = B} e refused
+    not_drawn {B} n t e refused = unmade s s t (stays_same s) (then_do memory_effect refresh_effect) i r q feed.coming (λ v. turns_script n custom) {A = B} e refused
 
     pub draws : {A B : Type 0} (x : B) (m t : State Out H Hi K T renderer completer candidate hinter hint highlighter validator history) (i2 : Input) (r2 : Ring) (q2 : Modal) (feed2 : KeyFeed) (result : Result A ReadlineError)
         → Does refresh_effect s m (Ok x) → Takes turns_script custom m i r q feed t i2 r2 q2 feed2 (result_and result (Ok t.recorded.line.text))

@@ -1,6 +1,5 @@
 -- What the edits of commands keep is kept by each command that shows no other entry of the history.
 use Rattle.std.proofs.Common.{◌≡◌, ℕ, ◌==◌, ◌||◌, not, Bool, true, false, List, length, Option, Some, None, is_some, slice_get, if◌then◌else◌}
-use Rattle.std.specs.Prelude.{unwrap_or}
 use Rattle.line_buffer.specs.Columns.{line_up, line_down}
 use Rattle.line_buffer.specs.Insertions.{can_take_before, insert as insertion, yank as yanked_in}
 use Rattle.line_buffer.specs.Clusters.{place_forward, place_backward}
@@ -19,10 +18,10 @@ use Rattle.line_buffer.specs.declared.types.Word.TheVariants.{Big}
 use Rattle.line_buffer.specs.declared.types.WordAction.{WordAction}
 use Rattle.line_buffer.specs.declared.types.WordAction.TheVariants.{Capitalize, Lowercase, Uppercase}
 use Rattle.line_edits.specs.WriteSteps.{effect_of_steps, with_answer, no_steps, group_opened, group_closed}
-use Rattle.line_edits.specs.Edits.{replace_group, by, yank_steps, text_steps, overwrite_steps, transpose_chars_group, transpose_words_group, word_group, char_steps, pop_group, kill_steps, indent_steps}
+use Rattle.line_edits.specs.Edits.{replace_group, by, yank_steps, text_steps, overwrite_steps, transpose_chars_group, transpose_words_group, word_group, char_steps, pop_group, kill_steps, indent_steps, replace_group_if_any}
+use Rattle.line_edits.specs.Written.{group_opened, group_closed}
 use Rattle.line_help.specs.Hints.{Hinted}
 use Rattle.line_help.specs.History.{begins_with_space}
-use Rattle.line_keys.specs.Replies.{Reply}
 use Rattle.line_help.specs.Validation.{is_valid, has_message}
 use Rattle.line_help.specs.declared.helpers.validate.ValidationResult.{ValidationResult}
 use Rattle.line_help.specs.declared.helpers.validate.ValidationResult.TheVariants.{Incomplete, Invalid, Valid}
@@ -32,16 +31,19 @@ use Rattle.line_keys.specs.declared.command.CmdKind.{CmdKind}
 use Rattle.line_keys.specs.declared.command.CmdKind.TheVariants.{ForcedRefresh, MoveCursor, Other}
 use Rattle.line_record.specs.Held.{closes}
 use Rattle.line_record.specs.Ring.{yank_exchange}
-use Rattle.line_editor.specs.Accepting.{message_effect_if, verdict_told, validate_by, verdict, bare, accept, accepts, newline_if}
+use Rattle.line_editor.specs.Accepting.{verdict_told, verdict, bare, accept, accepts, newline_if, group_and_verdict_effect, verdict_effect}
 use Rattle.line_editor.specs.Commands.{Means, in_vi_command, effect}
-use Rattle.line_editor.specs.Hinting.{at_row_end, complete_hint_effect, complete_by}
-use Rattle.line_editor.specs.Inserting.{insert_char, replace_char, overwrite_char}
-use Rattle.line_editor.specs.Killing.{kill_effect, insert_text_if}
+use Rattle.line_editor.specs.Completing.{at_row_end, complete_hint_effect}
+use Rattle.line_editor.specs.Inserting.{insert_char, insert_text, clusters_replaced}
+use Rattle.line_editor.specs.Killing.{kill_effect}
 use Rattle.line_editor.specs.Moving.{to_found, to_place, move_home, move_to_next_word, move_to_first_print, move_by}
 use Rattle.line_editor.specs.Transforms.{edit_word_effect, undo, transpose_chars_effect, transpose_words_effect}
-use Rattle.line_editor.specs.Values.{Value, Setting, Effect, then_do, verdict_reply, value_with_edit, line_and_record_of, at_line}
+use Rattle.line_editor.specs.Values.{Value, Setting, Effect, then_do, value_with_edit, line_and_record_of, at_line, no_effect}
 use Rattle.line_editor.specs.Yanking.{line_at_anchor, steps_over, behind_yank, value_after_yank, yank_text, yank_lent, pop_lent}
 use Rattle.line_editor.proofs.MeetKeeps.{Fact, KeptByEdits, complete_keeps, Holds}
+use Rattle.line_editor.specs.Drawing.{effect_if, message_effect}
+use Rattle.std.specs.Option.{option_map_or}
+use Rattle.std.specs.Prelude.{◌&&◌}
 
 -- the edits of commands keep a fact, if the line is `sound` where an edit asks for that
 pub record KeptByCommands (fact : Fact) (sound : Value → Type 0) (s : Setting) : Type 0 where
@@ -116,7 +118,7 @@ module _ (fact : Fact) (sound : Value → Type 0) (s : Setting) (edits : KeptByE
   killing : (m : Movement) (v : Value) → sound v → Holds fact v → Holds fact (kill_effect m s v).value
   killing m v ok h = let killed = k.killed m v ok h in either_holds fact (is_some (range_of m v.line)) _ _ killed killed
 
-  text_if : (text : Option (List ℕ)) (v : Value) → Holds fact v → Holds fact (insert_text_if text s v).value
+  text_if : (text : Option (List ℕ)) (v : Value) → Holds fact v → Holds fact (option_map_or insert_text text no_effect s v).value
   text_if None v h = h
   text_if (Some text) v h = either_holds fact (length text == 0) _ _ h (k.inserted text v h)
 
@@ -153,13 +155,13 @@ module _ (fact : Fact) (sound : Value → Type 0) (s : Setting) (edits : KeptByE
   replaced_if true c n v h made = made
   replaced_if false c n v h made = h
 
-  replacing : (c n : ℕ) (v : Value) → sound v → Holds fact v → Holds fact (replace_char c n s v).value
+  replacing : (c n : ℕ) (v : Value) → sound v → Holds fact v → Holds fact (clusters_replaced n (replace_group_if_any c n) s v).value
   replacing c n v ok h =
       let some = is_some (place_forward n v.line) in
       let made = replaced_if some c n v h (k.replaced c n v ok h) in
       either_holds fact some _ _ made made
 
-  overwriting : (c : ℕ) (v : Value) → sound v → Holds fact v → Holds fact (overwrite_char c s v).value
+  overwriting : (c : ℕ) (v : Value) → sound v → Holds fact v → Holds fact (clusters_replaced 1 (overwrite_steps c) s v).value
   overwriting c v ok h = let made = k.overwritten c v ok h in either_holds fact (is_some (place_forward 1 v.line)) _ _ made made
 
   recasing : (action : WordAction) (v : Value) → sound v → Holds fact v → Holds fact (edit_word_effect action s v).value
@@ -176,7 +178,7 @@ module _ (fact : Fact) (sound : Value → Type 0) (s : Setting) (edits : KeptByE
 
   -- ---- lines that are to be accepted, and hints
 
-  told_if : (draws : Bool) (text : Option (List ℕ)) (kind : CmdKind) (v : Value) → Holds fact v → Holds fact (message_effect_if draws text kind s v).value
+  told_if : (draws : Bool) (text : Option (List ℕ)) (kind : CmdKind) (v : Value) → Holds fact v → Holds fact (effect_if (draws || is_some text) (message_effect text kind) s v).value
   told_if draws text kind v h = either_holds fact (draws || is_some text) _ _ h h
 
   judged : (found : ValidationResult) (draws : Bool) (v : Value) → Holds fact v → Holds fact (verdict_told found draws s v).value
@@ -184,23 +186,22 @@ module _ (fact : Fact) (sound : Value → Type 0) (s : Setting) (edits : KeptByE
   judged (Invalid text) draws v h = told_if draws text Other v h
   judged (Valid text) draws v h = told_if draws text ForcedRefresh v h
 
-  validated : (reply : Option (Reply ValidationResult)) (v : Value) → Holds fact v → Holds fact (validate_by reply s v).value
-  validated None v h = h
-  validated (Some reply) v h =
+  validated : (some : Bool) (v : Value) → Holds fact v → Holds fact (effect_if some (then_do group_and_verdict_effect (verdict_effect (verdict s v))) s v).value
+  validated some v h =
       let w = value_with_edit group_opened v in
-      judged (unwrap_or reply.answer Incomplete) (closes w.held || is_some w.hint) (value_with_edit group_closed w) (k.grouped v h)
+      either_holds fact some _ _ (judged (verdict s v) (closes w.held || is_some w.hint) (value_with_edit group_closed w) (k.grouped v h)) h
 
   accepted : (v : Value) → Holds fact v → Holds fact (accept s v).value
-  accepted v h = validated (verdict_reply s (bare s v).value) (bare s v).value h
+  accepted v h = validated (is_some s.hooks) (bare s v).value h
 
   newline : (done : Bool) (found : ValidationResult) (v : Value) → Holds fact v → Holds fact (newline_if done found s v).value
-  newline done found v h = either_holds fact done _ _ h (either_holds fact (is_valid found || not (has_message found)) _ _ (typing 10 1 v h) h)
+  newline done found v h = either_holds fact (not done && (is_valid found || not (has_message found))) _ _ (typing 10 1 v h) h
 
   hint_taken : (o : Option (List ℕ)) (v : Value) → Holds fact v → Holds fact (complete_hint_effect o s v).value
   hint_taken None v h = h
   hint_taken (Some text) v h = let put = k.yanked text 1 v h in either_holds fact (is_some (yanked_in text 1 v.line).answer) _ _ put put
 
-  hint_completed : (o : Option Hinted) (v : Value) → Holds fact v → Holds fact (complete_by o s v).value
+  hint_completed : (o : Option Hinted) (v : Value) → Holds fact v → Holds fact (option_map_or (λ (h : Hinted). complete_hint_effect h.completion s (at_row_end v)) o (no_effect s v)).value
   hint_completed None v h = h
   hint_completed (Some hint) v h = hint_taken hint.completion (at_row_end v) h
 
@@ -217,7 +218,7 @@ module _ (fact : Fact) (sound : Value → Type 0) (s : Setting) (edits : KeptByE
   command_keeps m (LineDownOrNextHistory n) v other ok h = cc
   command_keeps m AcceptLine v other ok h = accepted v h
   command_keeps m Newline v other ok h = typing 10 1 (bare s v).value h
-  command_keeps m (AcceptOrInsertLine middle) v other ok h = newline (accepts middle s v) (verdict s v) (accept s v).value (accepted v h)
+  command_keeps m (AcceptOrInsertLine middle) v other ok h = newline (accepts middle (verdict s v) v.line) (verdict s v) (accept s v).value (accepted v h)
   command_keeps m CapitalizeWord v other ok h = recasing Capitalize v ok h
   command_keeps m DowncaseWord v other ok h = recasing Lowercase v ok h
   command_keeps m UpcaseWord v other ok h = recasing Uppercase v ok h

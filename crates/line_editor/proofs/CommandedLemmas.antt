@@ -3,7 +3,7 @@ use Rattle.std.proofs.Common.{◌≡◌, inl, inr, ℕ, suc, ◌<◌, le_refl, B
 use Rattle.std.specs.Prelude.{Result, Ok, Err, IfErr, OnOk, IsErrAnd, length, ◌==◌}
 use Rattle.line_config.specs.declared.errors.ReadlineError.{ReadlineError}
 use Rattle.line_config.specs.declared.errors.ReadlineError.TheVariants.{Eof, Interrupted, NotUtf8, PasteOutOfPlace, Reader, Display, Lines, HistoryText, Helper, Handler, Memory}
-use Rattle.script.specs.Scripts.{Goes, then}
+use Rattle.script.specs.Scripts.{Goes, then, Asks, Ends}
 use Rattle.script.proofs.ScriptLaws.{then_goes, then_cut}
 use Rattle.line_help.specs.declared.completion as completions
 use Rattle.line_help.specs.declared.helpers.hint as hints
@@ -17,10 +17,10 @@ use Rattle.line_keys.specs.PhraseScripts.{Input, steps, is_emacs}
 use Rattle.line_keys.specs.declared.command.Cmd.{Cmd}
 use Rattle.line_keys.specs.declared.command.Cmd.TheVariants.{EndOfFile, AcceptOrInsertLine}
 use Rattle.line_record.specs.Ring.{Ring}
-use Rattle.line_editor.specs.Accepting.{accepts}
-use Rattle.line_editor.specs.Asks.{shown_in}
+use Rattle.line_editor.specs.Accepting.{accepts, verdict}
+use Rattle.line_editor.specs.Drawing.{shown_in}
 use Rattle.line_editor.specs.Commands.{Means, means_of, effect, outcome}
-use Rattle.line_editor.specs.LineScripts.{Obeys, Answered, LineStage, line_state, script_of_keys, obey_script, meet_script, turn_script}
+use Rattle.line_editor.specs.LineScripts.{Obeys, Answered, LineStage, line_state, script_of_keys, meet_script, turn_script}
 use Rattle.line_editor.specs.NextCommand.{line_phrase, ring_after_reset}
 use Rattle.line_editor.specs.ModalCommands.{meeting, meeting_effect}
 use Rattle.line_editor.specs.Modal.{Modal}
@@ -71,7 +71,7 @@ module _ {Out H Hi K T : Type 0} {renderer : renderers.Renderer.Ghosts Out} {com
   -- a command's own end
   end_cause : (custom : Custom) (t : State Out H Hi K T renderer completer candidate hinter hint highlighter validator history) (f : KeyFeed) (m : Means) (s : Setting) (v : Value) (cmd : Cmd) → IfErr (outcome m cmd s v) (λ e. Cause custom t f e)
   end_cause custom t f m s v EndOfFile = if_cause custom t f (length v.line.text == 0) (Err Eof) (if is_emacs m.mode then Ok Proceed else Ok Submit) tt (if_cause custom t f (is_emacs m.mode) (Ok Proceed) (Ok Submit) tt tt)
-  end_cause custom t f m s v (AcceptOrInsertLine middle) = if_cause custom t f (accepts middle s v) (Ok Submit) (Ok Proceed) tt tt
+  end_cause custom t f m s v (AcceptOrInsertLine middle) = if_cause custom t f (accepts middle (verdict s v) v.line) (Ok Submit) (Ok Proceed) tt tt
   end_cause custom t f m s v _ = tt
 
   -- ---- a turn, by how often it may read
@@ -99,7 +99,7 @@ module _ {Out H Hi K T : Type 0} {renderer : renderers.Renderer.Ghosts Out} {com
       -- what a search makes of the command
       module _ (cmd : Cmd) (w : State Out H Hi K T renderer completer candidate hinter hint highlighter validator history) (modal' : Modal) (stays : Stays s m) where
         met : (next : Cmd) (result : Result Status ReadlineError) (y : LineStage Out) → Meets (meeting modal cmd) (λ (c : Cmd). c) m w modal' (Ok next)
-            → Goes (world_of s) (obey_script next) (stage_of w i1 r modal' c1) result y → Goes (world_of s) (meet_script cmd) (stage_of m i1 r modal c1) result y
+            → Goes (world_of s) (Asks (Obeys next) (λ status. Ends status)) (stage_of w i1 r modal' c1) result y → Goes (world_of s) (meet_script cmd) (stage_of m i1 r modal c1) result y
         met next result y meets goes =
             let value = edit_value s m w stays (meeting_effect modal cmd) next meets.does in
             let same = setting_stays s m stays in
@@ -123,7 +123,7 @@ module _ {Out H Hi K T : Type 0} {renderer : renderers.Renderer.Ghosts Out} {com
         means_here = means_of i1 (ring_after_reset cmd r)
 
         commanded : (result : Result Status ReadlineError) → Executes cmd i1 w (ring_after_reset cmd r) t ring' result
-            → Goes (world_of s) (obey_script cmd) (stage_of w i1 r modal' c1) result (stage_of t i1 ring' modal' c1)
+            → Goes (world_of s) (Asks (Obeys cmd) (λ status. Ends status)) (stage_of w i1 r modal' c1) result (stage_of t i1 ring' modal' c1)
         commanded result (inl (does, outcome_is, ring_is)) = ended result (
           sym (outcome_is ∙ ap (λ a. outcome means_here cmd a (value_of w)) (setting_stays s w stays)),
           ap (λ v. line_state v i1 ring' modal' c1) (edit_value s w t stays (effect means_here cmd) (tt {0}) does)
@@ -132,7 +132,7 @@ module _ {Out H Hi K T : Type 0} {renderer : renderers.Renderer.Ghosts Out} {com
         )
           where
             ended : (result : Result Status ReadlineError) → Answered renderer.canvas (renderer.canvas.ruler s.out) (setting_of s) (stage_of w i1 r modal' c1) (Obeys cmd) result (stage_of t i1 ring' modal' c1)
-                → Goes (world_of s) (obey_script cmd) (stage_of w i1 r modal' c1) result (stage_of t i1 ring' modal' c1)
+                → Goes (world_of s) (Asks (Obeys cmd) (λ status. Ends status)) (stage_of w i1 r modal' c1) result (stage_of t i1 ring' modal' c1)
             ended (Ok status) made = inl (status, stage_of t i1 ring' modal' c1, made, (refl, refl))
             ended (Err e) made = inr (e, inl made, refl)
         commanded result (inr (e, is, refused, ring)) = inr (e, inr (inl (edit_stops s w t stays (effect means_here cmd) e refused, (refl, ring))), is)

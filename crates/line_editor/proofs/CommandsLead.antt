@@ -1,6 +1,6 @@
 -- Each command leads from its value to the next.
 use Rattle.std.proofs.Common.{◌≡◌, ℕ, ◌+◌, ◌-◌, ◌==◌, ◌≤◌, ◌||◌, arith, not, max, Bool, true, false, List, [], ◌∷◌, ◌++◌, length, Option, Some, None, is_some, slice_get, drop, refl, sym, ap, ◌∙◌, subst, if◌then◌else◌}
-use Rattle.std.specs.Prelude.{⊤, unwrap_or}
+use Rattle.std.specs.Prelude.{⊤, ◌&&◌}
 use Rattle.std.proofs.lemmas.Bool.{eqb-true, cond-false, not-false}
 use Rattle.line_buffer.specs.Clusters.{place_forward}
 use Rattle.line_buffer.specs.Columns.{line_up, line_down}
@@ -31,25 +31,25 @@ use Rattle.line_keys.specs.declared.command.CmdKind.{CmdKind}
 use Rattle.line_keys.specs.declared.command.CmdKind.TheVariants.{ForcedRefresh, Other}
 use Rattle.line_record.specs.Held.{has_step, closes}
 use Rattle.line_record.specs.Ring.{yank_exchange}
-use Rattle.line_editor.specs.Accepting.{bare, verdict, message_effect_if, verdict_told, verdict_effect, group_and_verdict_effect, validate_by, validate, newline, accept, accepts, newline_if, accept_or_insert}
+use Rattle.line_editor.specs.Accepting.{bare, verdict, verdict_told, verdict_effect, group_and_verdict_effect, validate, newline, accept, accepts, newline_if, accept_or_insert}
 use Rattle.line_editor.specs.Commands.{in_vi_command, line_up_or_previous, line_down_or_next}
-use Rattle.line_editor.specs.Completing.{common_text, word_replaced, updates, complete_effect_with, complete_effect, candidates_given, candidates_asked, complete}
-use Rattle.line_editor.specs.Drawing.{since, draw_effect_behind, repaint_effect, ask_anew_effect, refresh_effect, refresh_effect_since, cursor_end_effect}
-use Rattle.line_editor.specs.Hinting.{at_row_end, complete_hint_effect, complete_by}
+use Rattle.line_editor.specs.Completing.{common_text, word_replaced, updates, complete_effect, candidates_given, candidates_asked, complete, word_completed, at_row_end, complete_hint_effect}
+use Rattle.line_editor.specs.Drawing.{since, draw_effect_behind, ask_anew_effect, refresh_effect, refresh_effect_since, cursor_end_effect, effect_if, message_effect, beep_effect, draw_effect_since}
 use Rattle.line_editor.specs.Inserting.{insert_char}
 use Rattle.line_editor.specs.Killing.{copy_effect}
 use Rattle.line_editor.specs.Leads.{Leads, CommandsLead, SubmittingLeads, AsksLead}
 use Rattle.line_editor.specs.Moving.{move_buffer_end}
 use Rattle.line_editor.specs.Redraws.Redraw.{Drawn, Bared, Beeped}
-use Rattle.line_editor.specs.History.{with_saved_line, at_place, value_on_leaving, leave_effect, recall, recall_earlier_effect, history_step, history_end, hit_effect, history_search}
+use Rattle.line_editor.specs.History.{at_place, leave_effect, recall, recall_earlier_effect, history_step, history_end, history_search, entry_shown, save_effect}
 use Rattle.line_editor.specs.Transforms.{transpose_words_effect, edit_word_effect, undo}
 use Rattle.line_editor.specs.Sights.{sight_with, sight_of, ended_sight, Turns, info_after}
-use Rattle.line_editor.specs.Values.{Value, Setting, Effect, without_hint, with_mark, help_steps, hint_reply, verdict_reply, completion_reply, update_reply, shown_hint, shown_marks, no_effect, value_with_edit, line_and_record_of, at_line}
-use Rattle.line_editor.specs.Values.EditStep.{Draws, Takes}
+use Rattle.line_editor.specs.Values.{Value, Setting, Effect, without_hint, with_mark, help_steps, hint_reply, verdict_reply, completion_reply, update_reply, shown_hint, shown_marks, no_effect, value_with_edit, line_and_record_of, at_line, then_do}
+use Rattle.line_editor.specs.Values.EditStep.{Draws}
 use Rattle.line_editor.specs.Yanking.{line_at_anchor, steps_over, behind_yank, value_after_yank, yank_text, yank_lent, pop_lent}
 use Rattle.line_editor.proofs.KnownLemmas.{Begins, yank_begins, pop_begins, over_begins, replaced_begins}
 use Rattle.line_editor.proofs.LeadLemmas.{turns_both, info_both, both_lead, either, help_turns, Alike, alike_sight, or_none, asking_leads, edit_leads, back_leads, take_leads, redraw_leads, redrawn_leads, refresh_leads, refresh_since_leads, redraw_since_leads, refresh_since_if_leads, told_leads, rest_leads, beep_leads, clear_leads, refresh_if_leads, step_leads, motion_leads, none_if, insertion_leads, kill_leads, replace_leads}
 use Rattle.line_editor.proofs.RewrittenLeads.{chars_lead}
+use Rattle.std.specs.Option.{option_map_or}
 
 found_none : (o : Option ℕ) (l : Line) → is_some o ≡ false → with_cursor_at o l ≡ l
 found_none None l h = refl
@@ -147,13 +147,13 @@ recall_leads place (Some hit) s v w h = redraw_leads (update_group hit.entry (le
 leaving_leads : (s : Setting) (v : Value) → Leads s v (leave_effect s v)
 leaving_leads s v = by_test (v.history == length s.entries)
   where
-    by_test : (b : Bool) → Leads s v (record { value = if b then with_saved_line v else v; steps = if b then Takes v ∷ [] else [] })
+    by_test : (b : Bool) → Leads s v (if b then save_effect s v else no_effect s v)
     by_test true info = record { fits = (tt, tt); leads = refl }
     by_test false info = record { fits = tt; leads = refl }
 
 recall_left : (place : ℕ) (s : Setting) (v : Value) → Leads s v (recall_earlier_effect place s v)
 recall_left place s v =
-    let w = value_on_leaving s v in
+    let w = (leave_effect s v).value in
     both_lead s v leave_effect (recall place (entry_at place s.entries)) (leaving_leads s v) (recall_leads place (entry_at place s.entries) s w w (refl, refl, refl))
 
 step_back_leads : (back : Bool) (s : Setting) (v : Value) → Leads s v (history_step back s v)
@@ -167,7 +167,7 @@ end_leads true s v = either s v (v.history == 0) _ _ (λ e. rest_leads s v v (re
 end_leads false s v =
     either s v (v.history == length s.entries) _ _ (λ e. rest_leads s v v (refl, refl, refl)) (λ e. redraw_leads (update_steps v.saved.text v.saved.place) s v (at_place (length s.entries) v))
 
-found_leads : (o : Option Hit) (s : Setting) (v w : Value) → Alike v w → Leads s v (hit_effect o s w)
+found_leads : (o : Option Hit) (s : Setting) (v w : Value) → Alike v w → Leads s v (option_map_or (λ (hit : Hit). entry_shown hit.idx hit.entry hit.pos) o beep_effect s w)
 found_leads None s v w h = beep_leads s v w h
 found_leads (Some hit) s v w h = redraw_leads (update_group hit.entry hit.pos) s v (at_place hit.idx w)
 
@@ -188,7 +188,7 @@ bared_by s v w false e h none info =
 bare_leads : (s : Setting) (v : Value) → Leads s v (bare s v)
 bare_leads s v = let w = with_mark ForcedRefresh s (without_hint v) in bared_by s v w (is_some v.hint || (v.marked || w.marked)) refl refl refl
 
-told_if_leads : (draws : Bool) (text : Option (List ℕ)) (kind : CmdKind) (s : Setting) (v w : Value) → Alike v w → Leads s v (message_effect_if draws text kind s w)
+told_if_leads : (draws : Bool) (text : Option (List ℕ)) (kind : CmdKind) (s : Setting) (v w : Value) → Alike v w → Leads s v (effect_if (draws || is_some text) (message_effect text kind) s w)
 told_if_leads draws text kind s v w h = either s v (draws || is_some text) _ _ (λ e. told_leads text kind s v w) (λ e. rest_leads s v w h)
 
 verdict_leads : (found : ValidationResult) (draws : Bool) (s : Setting) (v w : Value) → Alike v w → Leads s v (verdict_told found draws s w)
@@ -196,29 +196,28 @@ verdict_leads Incomplete draws s v w h = rest_leads s v w h
 verdict_leads (Invalid text) draws s v w h = told_if_leads draws text Other s v w h
 verdict_leads (Valid text) draws s v w h = told_if_leads draws text ForcedRefresh s v w h
 
-validate_leads : (reply : Option (Reply ValidationResult)) (s : Setting) (v : Value) → Leads s v (validate_by reply s v)
-validate_leads None s v = rest_leads s v v (refl, refl, refl)
-validate_leads (Some reply) s v =
-    let found = unwrap_or reply.answer Incomplete in
+validate_leads : (some : Bool) (s : Setting) (v : Value) → Leads s v (effect_if some (then_do group_and_verdict_effect (verdict_effect (verdict s v))) s v)
+validate_leads false s v = rest_leads s v v (refl, refl, refl)
+validate_leads true s v =
+    let found = verdict s v in
     let w = value_with_edit group_opened v in
     let draws = closes w.held || is_some w.hint in
     both_lead s v group_and_verdict_effect (verdict_effect found) (take_leads s v v (record { value = w; steps = help_steps w (verdict_reply s w) }) (asking_leads w (verdict_reply s w) s v w (refl, refl, refl)))
     (verdict_leads found draws s w (value_with_edit group_closed w) (refl, refl, refl))
 
 accept_leads : (s : Setting) (v : Value) → Leads s v (accept s v)
-accept_leads s v = both_lead s v bare validate (bare_leads s v) (validate_leads (verdict_reply s (bare s v).value) s (bare s v).value)
+accept_leads s v = both_lead s v bare validate (bare_leads s v) (validate_leads (is_some s.hooks) s (bare s v).value)
 
 newline_leads : (s : Setting) (v : Value) → Leads s v (newline s v)
 newline_leads s v = both_lead s v bare (insert_char 10 1) (bare_leads s v) (insertion_leads 10 1 s (bare s v).value)
 
 newline_if_leads : (accepted : Bool) (found : ValidationResult) (s : Setting) (v : Value) → Leads s v (newline_if accepted found s v)
 newline_if_leads accepted found s v =
-    either s v accepted _ _ (λ e. rest_leads s v v (refl, refl, refl)) (λ e.
-    either s v (is_valid found || not (has_message found)) _ _ (λ e. insertion_leads 10 1 s v) (λ e. rest_leads s v v (refl, refl, refl)))
+    either s v (not accepted && (is_valid found || not (has_message found))) _ _ (λ e. insertion_leads 10 1 s v) (λ e. rest_leads s v v (refl, refl, refl))
 
 accept_or_insert_leads : (middle : Bool) (s : Setting) (v : Value) → Leads s v (accept_or_insert middle s v)
 accept_or_insert_leads middle s v =
-    both_lead s v accept (newline_if (accepts middle s v) (verdict s v)) (accept_leads s v) (newline_if_leads (accepts middle s v) (verdict s v) s (accept s v).value)
+    both_lead s v accept (newline_if (accepts middle (verdict s v) v.line) (verdict s v)) (accept_leads s v) (newline_if_leads (accepts middle (verdict s v) v.line) (verdict s v) s (accept s v).value)
 
 -- ---- hints
 
@@ -228,7 +227,7 @@ completion_leads (Some text) s v w =
     let u = value_with_edit (by (yank_steps text 1)) w in
     either s v (is_some (yanked_in text 1 w.line).answer) _ _ (λ e. redraw_leads (yank_steps text 1) s v w) (λ e. redrawn_leads Beeped u (hint_reply s u) s v (ask_anew_effect s u).value (λ y. tt))
 
-hint_leads : (o : Option Hinted) (s : Setting) (v : Value) → Leads s v (complete_by o s v)
+hint_leads : (o : Option Hinted) (s : Setting) (v : Value) → Leads s v (option_map_or (λ (h : Hinted). complete_hint_effect h.completion s (at_row_end v)) o (no_effect s v))
 hint_leads None s v = rest_leads s v v (refl, refl, refl)
 hint_leads (Some hint) s v = completion_leads hint.completion s v (at_row_end v)
 
@@ -238,7 +237,7 @@ updating_leads : (reply : Option (Reply ⊤)) (s : Setting) (v : Value) (e : Eff
 updating_leads None s v e h = h
 updating_leads (Some reply) s v e h = λ info. record { fits = (tt, (tt, (h info).fits)); leads = (h info).leads }
 
-elected_leads : (start : ℕ) (o : Option (List ℕ)) (s : Setting) (v : Value) → Leads s v (complete_effect_with start o s v)
+elected_leads : (start : ℕ) (o : Option (List ℕ)) (s : Setting) (v : Value) → Leads s v (option_map_or (word_completed start) o beep_effect s v)
 elected_leads start None s v = beep_leads s v v (refl, refl, refl)
 elected_leads start (Some text) s v =
     let w = value_with_edit (word_replaced start text) v in
@@ -320,7 +319,7 @@ submitting_leads s v info =
 pub asks_lead : AsksLead
 asks_lead LineAsked s v x =
     let w = (ask_anew_effect s v).value in
-    help_turns v (hint_reply s v) s.prompt x (sight_of s w (shown_hint w)) (repaint_effect s w).steps (record { fits = ((λ e. refl), tt); leads = refl })
+    help_turns v (hint_reply s v) s.prompt x (sight_of s w (shown_hint w)) ((draw_effect_since None) s w).steps (record { fits = ((λ e. refl), tt); leads = refl })
 asks_lead (Message text kind) s v x = record { fits = ((λ e. refl), tt); leads = refl }
 asks_lead (Prompted prompt) s v x =
     let w = (ask_anew_effect s v).value in

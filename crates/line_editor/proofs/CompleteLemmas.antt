@@ -17,9 +17,9 @@ use Rattle.line_help.specs.declared.helpers.highlight as highlights
 use Rattle.line_help.specs.declared.helpers.validate as verdicts
 use Rattle.line_help.specs.declared.history as histories
 use Rattle.line_keys.specs.Replies.{Reply, IsFaultOf}
-use Rattle.line_record.specs.Items.{Items, ItemsStand, RecordsEventIn, record_refuses, record_on}
-use Rattle.line_editor.specs.Drawing.{effect_if}
-use Rattle.line_editor.specs.Completing.{common_text, word_put, CutWord, word_updated, complete_effect_with, complete_effect, candidates_given, candidates_asked, complete}
+use Rattle.line_record.specs.Items.{Items, ItemsStand, RecordsEventIn, record_refuses, record_on, items_with_mark}
+use Rattle.line_editor.specs.Drawing.{effect_if, beep_effect}
+use Rattle.line_editor.specs.Completing.{common_text, word_put, CutWord, word_updated, complete_effect_with, complete_effect, candidates_given, candidates_asked, complete, word_completed}
 use Rattle.line_editor.specs.States.{hooks_of, value_of, setting_of, fails_by, IsHelpFault, error_of, surface_of, Stays, Does}
 use Rattle.line_editor.specs.Values.{Value, Setting, Hooks, then_do, completion_reply, update_reply}
 use Rattle.line_editor.specs.declared.renderer as renderers
@@ -28,6 +28,7 @@ use Rattle.line_editor.proofs.StopsLemmas.{help_made, help_layout, stops_asking,
 use Rattle.line_editor.proofs.DoesLemmas.{does_as, does_both, does_cut_by, does_refused, stays_same}
 use Rattle.line_editor.proofs.HelpedLemmas.{completion_reason, update_reason, fault_told}
 use Rattle.line_record.proofs.StepLemmas.{items_with_mark}
+use Rattle.std.specs.Option.{option_map_or}
 
 -- the texts that candidates put in
 pub replacements : {A : Type 0} (offers : A → Offered) (candidates : List A) → map (λ (o : Offered). o.replacement) (map offers candidates) ≡ map (λ c. (offers c).replacement) candidates
@@ -83,8 +84,8 @@ has_hooks : {A B : Type 0} (f : A → B) (o : Option A) → is_some (option_map 
 has_hooks f None = refl
 has_hooks f (Some x) = refl
 
-completed_is : (found given : Completion) (o : Option (List ℕ)) (s : Setting) (v : Value) → found ≡ given → common_text found v.line ≡ o → complete_effect_with found.start o s v ≡ complete_effect given s v
-completed_is found given o s v same is = ap (λ x. complete_effect_with found.start x s v) (sym is) ∙ ap (λ f. complete_effect f s v) same
+completed_is : (found given : Completion) (o : Option (List ℕ)) (s : Setting) (v : Value) → found ≡ given → common_text found v.line ≡ o → option_map_or (word_completed found.start) o beep_effect s v ≡ complete_effect given s v
+completed_is found given o s v same is = ap (λ x. option_map_or (word_completed found.start) x beep_effect s v) (sym is) ∙ ap (λ f. complete_effect f s v) same
 
 module _ {Out H Hi K T : Type 0} {renderer : renderers.Renderer.Ghosts Out} {completer : completions.Completer.Ghosts H K} {candidate : completions.Candidate.Ghosts K}
     {hinter : hints.Hinter.Ghosts H T} {hint : hints.Hint.Ghosts T} {highlighter : highlights.Highlighter.Ghosts H} {validator : verdicts.Validator.Ghosts H} {history : histories.History.Ghosts Hi} where
@@ -169,10 +170,10 @@ module _ {Out H Hi K T : Type 0} {renderer : renderers.Renderer.Ghosts Out} {com
   pub complete_made : {A : Type 0} (start : ℕ) (items : List K) (o : Option (List ℕ)) (s t : State Out H Hi K T renderer completer candidate hinter hint highlighter validator history) (result : Result A ReadlineError)
       → is_some s.helper ≡ true → (let found : Completion = record { start = start; candidates = map candidate.offers items } in
       found ≡ candidates_given (completion_reply (setting_of s) (value_of s)) → common_text found s.recorded.line ≡ o → IsFalse (fails_by (completion_reply (setting_of s) (value_of s)))
-      → Does (complete_effect_with start o) s t result → Does complete s t result)
+      → Does (option_map_or (word_completed start) o beep_effect) s t result → Does complete s t result)
   complete_made {A} start items o s t result some same is works does =
       let found : Completion = record { start = start; candidates = map candidate.offers items } in
       let given : Completion = candidates_given (completion_reply (setting_of s) (value_of s)) in
       does_as (then_do candidates_asked (complete_effect given)) complete s t result (complete_is s some)
       (does_both {A = ⊤} candidates_asked (complete_effect given) s s t (tt {0}) result (asked_made s (tt {0}) works)
-      (does_as (complete_effect_with start o) (complete_effect given) s t result (completed_is found given o (setting_of s) (value_of s) same is) does))
+      (does_as (option_map_or (word_completed start) o beep_effect) (complete_effect given) s t result (completed_is found given o (setting_of s) (value_of s) same is) does))

@@ -25,7 +25,7 @@ use Rattle.line_editor.specs.Killing.{may_be_taken, may_be_taken_out, text_gone,
 use Rattle.line_editor.specs.Rewriting.{may_be_rewritten, refresh_over_effect}
 use Rattle.line_editor.specs.Transforms.{pair_end, transpose_chars_effect}
 use Rattle.line_editor.specs.States.{value_of, setting_of, surface_of, Stays, Does}
-use Rattle.line_editor.specs.EditSteps.{Surface, CutEditSteps, SameBeside}
+use Rattle.line_editor.specs.EditSteps.{Surface, CutEditSteps}
 use Rattle.line_editor.specs.Values.{Value, Setting, Effect, Transition, no_effect, then_do, value_with_edit, edit_effect, line_and_record_of}
 use Rattle.line_editor.specs.Values.EditStep.{Edits}
 use Rattle.line_editor.specs.Yanking.{pop_text}
@@ -140,7 +140,7 @@ module _ {Out H Hi K T : Type 0} {renderer : renderers.Renderer.Ghosts Out} {com
   -- memory ran out for it
   pub edit_refused : {A B E : Type 0} (whole second : Transition) (edit : Line → WriteSteps A) (stands : Value) (s t : State Out H Hi K T renderer completer candidate hinter hint highlighter validator history)
       (old : RecordedLine) (result : Result B ReadlineError) (fault : E) → IsErrAnd result (λ x. x ≡ Memory) → then_do (edit_effect edit) second (setting_of s) stands ≡ whole (setting_of s) (value_of s)
-      → line_and_record_in old ≡ line_and_record_of stands → EditsRecorded {A = A} (edit old.line) old t.recorded (Err fault) → SameBeside stands (value_of t)
+      → line_and_record_in old ≡ line_and_record_of stands → EditsRecorded {A = A} (edit old.line) old t.recorded (Err fault) → value_of t ≡ record stands { line = (value_of t).line; held = (value_of t).held }
       → surface_of t ≡ surface_of s → Stays s t → Does whole s t result
   edit_refused {A} {B} whole second edit stands s t old result fault failed is same wrote rest surface stays =
       let canvas = renderer.canvas in

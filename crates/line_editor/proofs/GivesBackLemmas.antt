@@ -20,15 +20,17 @@ use Rattle.line_record.specs.Held.{HeldItem, change_of, record_after_event, has_
 use Rattle.line_record.specs.Held.HeldItem.{Opened, Stepped}
 use Rattle.line_record.proofs.GroupLaws.{unchanged}
 use Rattle.line_record.proofs.RecordLaws.{no_mark}
-use Rattle.line_editor.specs.Candidates.{cycle_begun, cycle_first, candidate_at, turn_effect_with, turn_effect, cycle_at, cycle_back, cycle_effect, modal_after_ask}
-use Rattle.line_editor.specs.Completing.{begins_word, word_replaced, candidates_given}
+use Rattle.line_editor.specs.Candidates.{cycle_begun, cycle_first, candidate_at, turn_effect, cycle_at, cycle_back, cycle_effect, modal_after_ask}
+use Rattle.line_editor.specs.Completing.{begins_word, word_replaced, candidates_given, word_completed}
 use Rattle.line_editor.specs.Returns.{GivesBack, is_onward, AllOnward, search_after, GivesWordBack, cycle_after}
 use Rattle.line_editor.specs.Modal.{Modal, Meeting, pass_meeting, takes}
 use Rattle.line_editor.specs.Searching.{begin_search, modal_at_search_start, hit_undo_effect, put_hit_effect, search_for, modal_after_look, looks, looks_again, search_drawn, onward, modal_with_query, modal_after_erase, modal_with_char, is_place, line_at_place}
-use Rattle.line_editor.specs.Values.{Value, Setting, value_with_edit, completion_reply}
+use Rattle.line_editor.specs.Values.{Value, Setting, value_with_edit, completion_reply, then_do}
 use Rattle.line_editor.specs.declared.modal_state.Act.{Act}
 use Rattle.line_editor.specs.declared.modal_state.Act.TheVariants.{Types, Erases, Goes, Leaves, Ends}
 use Rattle.line_record.proofs.StepLemmas.{steps_with_change_if}
+use Rattle.std.specs.Option.{option_map_or}
+use Rattle.line_editor.specs.Drawing.{beep_effect, refresh_effect}
 
 -- ---- an entry put in place of a line is one step
 
@@ -241,7 +243,7 @@ begun_some true (Some o) text is = some_text o.replacement text is
 begun_some false o text is = cc
 
 turned_stands : (start : ℕ) (o : Option (List ℕ)) (s : Setting) (v w : Value) → ((text : List ℕ) → o ≡ Some text → (length text == 0) ≡ false) → Standing v false w
-    → Standing v (is_some o) (turn_effect_with start o s w).value
+    → Standing v (is_some o) (option_map_or (word_completed start) o (then_do refresh_effect beep_effect) s w).value
 turned_stands start None s v w some h = h
 turned_stands start (Some text) s v w some h =
     let held = (value_with_edit (word_replaced start text) w).held in

@@ -1,7 +1,6 @@
 -- What a state makes of asking its helper.
 use Rattle.std.proofs.Common.{◌≡◌, ◌⊎◌, inl, inr, ℕ, Bool, true, false, true≢false, List, [], refl, sym, ap, subst, ◌∙◌, if◌then◌else◌, ◌&&◌}
-use Rattle.std.specs.Prelude.{Option, Some, None, is_some, option_map, Result, Ok, Err, IsErrAnd, IsTrue, unwrap_or}
-use Rattle.std.specs.Option.{option_map_or}
+use Rattle.std.specs.Prelude.{Option, Some, None, is_some, option_map, Result, Ok, Err, IsErrAnd, IsTrue}
 use Rattle.std.specs.List.{FoldsTo}
 use Rattle.line_buffer.specs.Line.{Line}
 use Rattle.line_config.specs.declared.errors.ReadlineError.{ReadlineError}
@@ -15,14 +14,13 @@ use Rattle.line_help.specs.declared.helpers.hint as hints
 use Rattle.line_help.specs.declared.helpers.highlight as highlights
 use Rattle.line_help.specs.declared.helpers.validate as verdicts
 use Rattle.line_help.specs.declared.helpers.validate.ValidationResult.{ValidationResult}
-use Rattle.line_help.specs.declared.helpers.validate.ValidationResult.TheVariants.{Incomplete, Valid}
 use Rattle.line_help.specs.declared.history as histories
 use Rattle.line_keys.specs.declared.command.CmdKind.TheVariants.{Other}
-use Rattle.line_editor.specs.Accepting.{verdict, group_and_verdict_effect, verdict_effect, validate_by, validate}
+use Rattle.line_editor.specs.Accepting.{verdict, group_and_verdict_effect, verdict_effect, validate}
 use Rattle.line_editor.specs.RenderCalls.{MadeIn}
-use Rattle.line_editor.specs.Drawing.{Since, draw_effect_since, repaint_effect, hint_asked, ask_anew_effect, redraw_of}
-use Rattle.line_editor.specs.Inserting.{way_if_bare, put_redraw, show_char_effect, show_inserted_effect}
-use Rattle.line_editor.specs.Killing.{taken_redraw, show_taken_effect, show_killed_effect}
+use Rattle.line_editor.specs.Drawing.{Since, draw_effect_since, hint_asked, ask_anew_effect, redraw_of, effect_if}
+use Rattle.line_editor.specs.Inserting.{way_if_bare, put_redraw, show_inserted_effect}
+use Rattle.line_editor.specs.Killing.{taken_redraw, show_killed_effect}
 use Rattle.line_editor.specs.EditSteps.{calls_of_steps}
 use Rattle.line_editor.specs.declared.way.Way.{Way}
 use Rattle.line_editor.specs.declared.way.Way.TheVariants.{Alone, Back, Whole}
@@ -78,13 +76,13 @@ rewritten from upto b s v = draw_effect (if b then Rewritten s.prompt from upto 
 
 -- ---- with a helper
 
-some_mapped : {A B C : Type 0} (f : B → C) (g : A → B) (o : Option A) → is_some (option_map f (option_map g o)) ≡ is_some o
-some_mapped f g None = refl
-some_mapped f g (Some x) = refl
+has_hooks : {A B : Type 0} (f : A → B) (o : Option A) → is_some (option_map f o) ≡ is_some o
+has_hooks f None = refl
+has_hooks f (Some x) = refl
 
-validated_by : (reply : Option (Reply ValidationResult)) (s : Setting) (v : Value) → is_some reply ≡ true → then_do group_and_verdict_effect (verdict_effect (option_map_or (λ r. unwrap_or r.answer Incomplete) reply (Valid None))) s v ≡ validate_by reply s v
-validated_by None s v some = absurd (true≢false (sym some))
-validated_by (Some reply) s v some = refl
+validated_by : (helped : Bool) (s : Setting) (v : Value) → helped ≡ true → (let edit = then_do group_and_verdict_effect (verdict_effect (verdict s v)) in edit s v ≡ effect_if helped edit s v)
+validated_by false s v some = absurd (true≢false (sym some))
+validated_by true s v some = refl
 
 -- a hook's fault, told as an error
 pub fault_told : {A : Type 0} (reply : Reply A) (fault : HookFault) → IsFaultOf reply fault → IsHelpFault (Some reply) (error_of fault)
@@ -125,8 +123,8 @@ module _ {Out H Hi K T : Type 0} {renderer : renderers.Renderer.Ghosts Out} {com
     pub put_made : {A B : Type 0} (shown : Way) (s m t : State Out H Hi K T renderer completer candidate hinter hint highlighter validator history) (x : A) (result : Result B ReadlineError)
         → way_if_bare way (value_of m) ≡ shown → Does ask_anew_effect s m (Ok x) → Does (put c shown from) m t result → Does (show_inserted_effect c way from) s t result
     put_made shown s m t x result is h k =
-        does_both ask_anew_effect (show_char_effect c way from) s m t x result h
-        (does_as (put c shown from) (show_char_effect c way from) m t result (ap (λ w. put c w from (setting_of m) (value_of m)) (sym is)) k)
+        does_both ask_anew_effect (λ s v. draw_effect (put_redraw (way_if_bare way v) c from s v) s v) s m t x result h
+        (does_as (put c shown from) (λ s v. draw_effect (put_redraw (way_if_bare way v) c from s v) s v) m t result (ap (λ w. put c w from (setting_of m) (value_of m)) (sym is)) k)
 
     pub put_drawn : {A B : Type 0} (s m t : State Out H Hi K T renderer completer candidate hinter hint highlighter validator history) (x : A) (result : Result B ReadlineError)
         → ((d : ℕ) × (way_if_bare way (value_of m) ≡ Back d)) ⊎ (way_if_bare way (value_of m) ≡ Whole) → Does ask_anew_effect s m (Ok x)
@@ -138,8 +136,8 @@ module _ {Out H Hi K T : Type 0} {renderer : renderers.Renderer.Ghosts Out} {com
     pub taken_made : {A B : Type 0} (shown : Way) (s m t : State Out H Hi K T renderer completer candidate hinter hint highlighter validator history) (x : A) (result : Result B ReadlineError)
         → way_if_bare way (value_of m) ≡ shown → Does ask_anew_effect s m (Ok x) → Does (taken count shown from) m t result → Does (show_killed_effect count way from) s t result
     taken_made shown s m t x result is h k =
-        does_both ask_anew_effect (show_taken_effect count way from) s m t x result h
-        (does_as (taken count shown from) (show_taken_effect count way from) m t result (ap (λ w. taken count w from (setting_of m) (value_of m)) (sym is)) k)
+        does_both ask_anew_effect (λ s v. draw_effect (taken_redraw (way_if_bare way v) count from s v) s v) s m t x result h
+        (does_as (taken count shown from) (λ s v. draw_effect (taken_redraw (way_if_bare way v) count from s v) s v) m t result (ap (λ w. taken count w from (setting_of m) (value_of m)) (sym is)) k)
 
     pub killed_drawn : {A B : Type 0} (s m t : State Out H Hi K T renderer completer candidate hinter hint highlighter validator history) (x : A) (result : Result B ReadlineError)
         → (way_if_bare way (value_of m) ≡ Alone) ⊎ (way_if_bare way (value_of m) ≡ Whole) → Does ask_anew_effect s m (Ok x)
@@ -155,10 +153,10 @@ module _ {Out H Hi K T : Type 0} {renderer : renderers.Renderer.Ghosts Out} {com
         (does_as (rewritten from upto true) (show_rewritten_effect over from upto) m t result (ap (λ b. rewritten from upto b (setting_of m) (value_of m)) (sym is)) k)
 
     pub drawn_anew : {A B : Type 0} (s m t : State Out H Hi K T renderer completer candidate hinter hint highlighter validator history) (x : A) (result : Result B ReadlineError)
-        → (over && has_letters from upto (value_of m)) ≡ false → Does ask_anew_effect s m (Ok x) → Does repaint_effect m t result → Does (refresh_over_effect over from upto) s t result
+        → (over && has_letters from upto (value_of m)) ≡ false → Does ask_anew_effect s m (Ok x) → Does (draw_effect_since None) m t result → Does (refresh_over_effect over from upto) s t result
     drawn_anew s m t x result is h k =
         does_both ask_anew_effect (show_rewritten_effect over from upto) s m t x result h
-        (does_as repaint_effect (show_rewritten_effect over from upto) m t result (ap (λ b. rewritten from upto b (setting_of m) (value_of m)) (sym is)) k)
+        (does_as (draw_effect_since None) (show_rewritten_effect over from upto) m t result (ap (λ b. rewritten from upto b (setting_of m) (value_of m)) (sym is)) k)
 
   -- ---- a verdict
 
@@ -174,7 +172,7 @@ module _ {Out H Hi K T : Type 0} {renderer : renderers.Renderer.Ghosts Out} {com
 
   pub validated : (s : State Out H Hi K T renderer completer candidate hinter hint highlighter validator history) → is_some s.helper ≡ true
       → then_do group_and_verdict_effect (verdict_effect (verdict (setting_of s) (value_of s))) (setting_of s) (value_of s) ≡ validate (setting_of s) (value_of s)
-  validated s some = validated_by (verdict_reply (setting_of s) (value_of s)) (setting_of s) (value_of s) (some_mapped (λ (h : Hooks). h.judge s.recorded.line.text) (hooks_of completer hinter validator) s.helper ∙ some)
+  validated s some = validated_by (is_some (setting_of s).hooks) (setting_of s) (value_of s) (has_hooks (hooks_of completer hinter validator) s.helper ∙ some)
 
   pub validate_unasked : {A B : Type 0} (s t : State Out H Hi K T renderer completer candidate hinter hint highlighter validator history) (e : ReadlineError) (result : Result B ReadlineError)
       → is_some s.helper ≡ true → IsErrAnd result (λ x. x ≡ e) → Does {A = A} group_and_verdict_effect s t (Err e) → Does validate s t result

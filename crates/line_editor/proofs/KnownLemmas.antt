@@ -23,7 +23,7 @@ use Rattle.line_edits.specs.WriteSteps.{with_answer, no_steps, effect_of_steps, 
 use Rattle.line_edits.specs.Written.{Written}
 use Rattle.line_buffer.specs.Replay.{insertion as told_insertion}
 use Rattle.line_buffer.specs.Printable.{is_plain_byte, is_plain}
-use Rattle.line_editor.specs.KnownPlaces.{IsKnown, known_within}
+use Rattle.line_editor.specs.RenderCalls.{IsKnown, known_within}
 
 -- a prefix of a text is one of a longer text
 pub record Begins (k : ℕ) (before after : List ℕ) : Type 0 where

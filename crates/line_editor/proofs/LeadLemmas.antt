@@ -31,11 +31,11 @@ use Rattle.line_keys.specs.declared.command.CmdKind.{CmdKind}
 use Rattle.line_keys.specs.declared.command.CmdKind.TheVariants.{MoveCursor}
 use Rattle.line_record.specs.Held.{HeldItem}
 use Rattle.line_editor.specs.Characters.{stands_apart, begins_apart, begins_apart_at}
-use Rattle.line_editor.specs.Drawing.{Since, redraw_of, line_spans, kept_upto, may_begin_at, since, redraw_since, draw_effect_since, repaint_effect, ask_anew_effect, refresh_effect, refresh_effect_since, effect_if, message_effect, cursor_moved, beep_effect, clear_and_draw_effect}
-use Rattle.line_editor.specs.Inserting.{is_bare, has_printable_rest, may_be_typed, may_be_appended, may_be_put_in, insertion_way, way_if_bare, put_redraw, show_char_effect, show_inserted_effect, insert_char, insert_text}
+use Rattle.line_editor.specs.Drawing.{Since, redraw_of, line_spans, kept_upto, since, redraw_since, draw_effect_since, ask_anew_effect, refresh_effect, refresh_effect_since, effect_if, message_effect, cursor_moved, beep_effect, clear_and_draw_effect}
+use Rattle.line_editor.specs.Inserting.{is_bare, has_printable_rest, may_be_typed, may_be_appended, may_be_put_in, insertion_way, way_if_bare, put_redraw, show_inserted_effect, insert_char, insert_text}
 use Rattle.line_editor.specs.declared.way.Way.{Way}
 use Rattle.line_editor.specs.declared.way.Way.TheVariants.{AtEnd, Alone, Back, Inside, Whole}
-use Rattle.line_editor.specs.Killing.{may_be_taken, may_be_taken_out, text_gone, is_cut_inside, is_erased, last_of_bare, way_erased, kill_way, taken_redraw, show_taken_effect, show_taken, kill_effect, insert_text_if, replace}
+use Rattle.line_editor.specs.Killing.{may_be_taken, may_be_taken_out, text_gone, is_cut_inside, last_of_bare, way_erased, kill_way, taken_redraw, show_taken, kill_effect, replace}
 use Rattle.line_editor.specs.Leads.{Leads}
 use Rattle.line_editor.specs.Moving.{cursor_moved_if, to_found, to_place, move_home, move_to_next_word, move_to_first_print, move_by}
 use Rattle.line_editor.specs.RenderCalls.{Marks}
@@ -43,7 +43,7 @@ use Rattle.line_editor.specs.Redraws.{Redraw, info_text}
 use Rattle.line_editor.specs.Redraws.Redraw.{Drawn, DrawnFrom, Moved, Typed, Appended, Taken, Erased, PutIn, TakenOut, Cleared}
 use Rattle.line_editor.specs.SharedStyles.{styles_to, told_styles}
 use Rattle.line_editor.specs.Sights.{PartSpans, drawn_spans, Sight, InPart, sight_as, sight, sight_all, Fits, FitsAll, Turns, info_one, info_after, sight_of}
-use Rattle.line_editor.specs.Values.{Value, Setting, EditStep, Effect, Transition, no_effect, then_do, hint_reply, help_steps, value_with_edit, edit_effect, at_line, with_mark, marks_seen, shown_marks, shown_hint, line_and_record_of}
+use Rattle.line_editor.specs.Values.{Value, Setting, EditStep, Effect, Transition, no_effect, then_do, hint_reply, help_steps, value_with_edit, edit_effect, at_line, with_mark, marks_seen, shown_marks, shown_hint, line_and_record_of, draw_effect}
 use Rattle.line_editor.specs.Values.EditStep.{Draws, Edits, TakesBack, Takes}
 use Rattle.line_editor.proofs.ApartLemmas.{apart_before}
 use Rattle.line_editor.proofs.CharacterRanges.{end_is_last}
@@ -52,6 +52,7 @@ use Rattle.line_editor.proofs.KnownLemmas.{Begins, behind_place, text_begins, ty
 use Rattle.line_editor.proofs.SharedLemmas.{kept_styles}
 use Rattle.line_editor.proofs.SinceLemmas.{unmarked_line}
 use Rattle.line_editor.proofs.SimpleLemmas.{typed_at_any}
+use Rattle.std.specs.Option.{option_map_or}
 
 -- ---- one after the other
 
@@ -189,7 +190,7 @@ redrawn_leads x u (Some reply) s v w h info = record { fits = (h (sight_of s v i
 -- ---- drawn in full, or left as it stands
 
 pub refresh_leads : (s : Setting) (v w : Value) → Leads s v (refresh_effect s w)
-refresh_leads s v w = help_leads w (hint_reply s w) s v (repaint_effect s (ask_anew_effect s w).value) (λ info. record { fits = ((λ e. refl), tt); leads = refl })
+refresh_leads s v w = help_leads w (hint_reply s w) s v ((draw_effect_since None) s (ask_anew_effect s w).value) (λ info. record { fits = ((λ e. refl), tt); leads = refl })
 
 -- behind an edit of the line
 pub redraw_leads : {A : Type 0} (edit : Line → WriteSteps A) (s : Setting) (v w : Value) → Leads s v (then_do (edit_effect edit) refresh_effect s w)
@@ -237,7 +238,7 @@ module _ (from : ℕ) (s : Setting) (v w : Value) (first : begins_apart_at v.lin
   abbrev kept : ℕ
   kept = kept_upto noted s w
 
-  from_leads : may_begin_at kept noted w ≡ true → Leads s v (record { value = w; steps = Draws w s.marks (DrawnFrom s.prompt kept w.line.text w.line.place (shown_hint w)) ∷ [] })
+  from_leads : (begins_apart_at w.line.text noted.from && begins_apart_at w.line.text kept) ≡ true → Leads s v (record { value = w; steps = Draws w s.marks (DrawnFrom s.prompt kept w.line.text w.line.place (shown_hint w)) ∷ [] })
   from_leads later info =
       let both = and_parts (begins_apart_at w.line.text from) (begins_apart_at w.line.text kept) later in
       let styles = kept_styles from (line_spans s v) (line_spans s w) kept refl in
@@ -270,9 +271,9 @@ module _ (from : ℕ) (s : Setting) (v w : Value) (first : begins_apart_at v.lin
       }
 
   noted_leads : Leads s v (record { value = w; steps = Draws w s.marks (redraw_since (Some noted) s w) ∷ [] })
-  noted_leads = by_test (may_begin_at kept noted w) refl
+  noted_leads = by_test (begins_apart_at w.line.text noted.from && begins_apart_at w.line.text kept) refl
     where
-      by_test : (b : Bool) → may_begin_at kept noted w ≡ b
+      by_test : (b : Bool) → (begins_apart_at w.line.text noted.from && begins_apart_at w.line.text kept) ≡ b
           → Leads s v (record { value = w; steps = Draws w s.marks (if b then DrawnFrom s.prompt kept w.line.text w.line.place (shown_hint w) else redraw_of s w) ∷ [] })
       by_test true later = from_leads later
       by_test false later = whole_leads s v w
@@ -527,7 +528,7 @@ insertion_leads c n s v =
     either s v (is_some (insertion c n v.line).answer) (then_do (edit_effect (char_steps c n)) (show_inserted_effect c way from) s v) (no_effect s w)
     (λ some. let asked = (ask_anew_effect s w).value in
     edit_leads (with_answer tt (char_steps c n v.line)) s v v (show_inserted_effect c way from s w)
-    (help_leads w (hint_reply s w) s v (show_char_effect c way from s asked)
+    (help_leads w (hint_reply s w) s v (draw_effect (put_redraw (way_if_bare way asked) c from s asked) s asked)
     (put_by s c n v asked (λ one. one_typed c n v.line (n == 1) one some) (λ low. typed_begins c n v.line.place v.line (omega arith) low) (way_if_bare way asked) refl)))
     (λ none. rest_leads s v w (no_typing c n v.line (n == 1) none, refl, refl))
 
@@ -536,6 +537,10 @@ text_leads text s v = either s v (length text == 0) _ _ (λ e. rest_leads s v v 
     (λ e. redraw_since_leads (text_steps text) v.line.place s v v (text_begins text v.line.place v.line (omega arith)))
 
 -- ---- a kill
+
+-- `count` bytes are gone from the line's end: this character, which is apart from what is left
+abbrev is_erased : ℕ → ℕ → Line → Bool
+is_erased c count l = (l.place == length l.text) && ((count == length (encode_utf8 c)) && stands_apart l.text c)
 
 module _ (s : Setting) (v w : Value) (from upto : ℕ) (text : w.line.text ≡ replace_range v.line.text from upto []) (place : w.line.place ≡ from) where
   abbrev count : ℕ
@@ -685,15 +690,15 @@ killed_by edit s v held (Some span) h =
     let asked = (ask_anew_effect s w).value in
     let way = kill_way s v w.line in
     edit_leads edit s v v (show_taken v s w) (help_leads w (hint_reply s w) s v
-    (show_taken_effect (length v.line.text - length w.line.text) way (since s w.line.place v) s asked)
+    (draw_effect (taken_redraw (way_if_bare way asked) (length v.line.text - length w.line.text) (since s w.line.place v) s asked) s asked)
     (taken_by s v asked span.from span.upto refl refl (way_if_bare way asked) (last_of_bare s.config.partial_redraw v) refl refl h))
 
 pub kill_leads : (m : Movement) (s : Setting) (v : Value) → Leads s v (kill_effect m s v)
 kill_leads m s v = killed_by (with_answer tt (kill_steps m v.line)) s v (value_with_edit (by (kill_steps m)) v).held (range_of m v.line) (λ plain. range_low v.line plain m)
 
-text_if_leads : (text : Option (List ℕ)) (s : Setting) (v : Value) → Leads s v (insert_text_if text s v)
+text_if_leads : (text : Option (List ℕ)) (s : Setting) (v : Value) → Leads s v (option_map_or insert_text text no_effect s v)
 text_if_leads None s v = rest_leads s v v (refl, refl, refl)
 text_if_leads (Some text) s v = text_leads text s v
 
 pub replace_leads : (m : Movement) (text : Option (List ℕ)) (s : Setting) (v : Value) → Leads s v (replace m text s v)
-replace_leads m text s v = both_lead s v (kill_effect m) (insert_text_if text) (kill_leads m s v) (text_if_leads text s (kill_effect m s v).value)
+replace_leads m text s v = both_lead s v (kill_effect m) (option_map_or insert_text text no_effect) (kill_leads m s v) (text_if_leads text s (kill_effect m s v).value)

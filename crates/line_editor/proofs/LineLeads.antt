@@ -13,15 +13,15 @@ use Rattle.line_keys.specs.declared.command.Cmd.{Cmd}
 use Rattle.line_keys.specs.declared.command.Cmd.TheVariants.{Interrupt, Unknown}
 use Rattle.line_keys.proofs.Settling.{phrase_settles, then_settles}
 use Rattle.line_editor.specs.Accepting.{submit_effect}
-use Rattle.line_editor.specs.Asks.{shown_in, ask_effect}
+use Rattle.line_editor.specs.Drawing.{shown_in, ask_effect, refresh_effect}
 use Rattle.line_editor.specs.Commands.{Means, means_of, effect, outcome}
 use Rattle.line_editor.specs.Leads.{Leads, CommandLeads, EachTurnLeads, LeadsAlong, LinesLead}
 use Rattle.line_editor.specs.NextCommand.{begins_group, with_group_begun, line_phrase, ring_after_reset}
-use Rattle.line_editor.specs.LineScripts.{line_begun, LineAsk, LineScript, Keys, Meets, Obeys, Makes, LineState, line_state, script_of_keys, obey_script, meet_script, turn_script, line_script_after, turns_script, line_script, effect_at, answer_at, left_at, line_plan, steps_along, played_from}
+use Rattle.line_editor.specs.LineScripts.{LineAsk, LineScript, Keys, Meets, Obeys, Makes, LineState, line_state, script_of_keys, meet_script, turn_script, line_script_after, turns_script, line_script, effect_at, answer_at, left_at, line_plan, steps_along, played_from}
 use Rattle.line_editor.specs.ModalCommands.{meeting, modal_seen}
 use Rattle.line_editor.specs.Modal.{Modal, Meeting, modal_first}
 use Rattle.line_editor.specs.Sights.{Sight, no_sight, sight_with, sight_of, sight, sight_all, FitsAll, info_after}
-use Rattle.line_editor.specs.Values.{Value, Setting, EditStep, Effect, first_value, shown_marks, memory_effect}
+use Rattle.line_editor.specs.Values.{Value, Setting, EditStep, Effect, first_value, shown_marks, memory_effect, then_do}
 use Rattle.line_editor.specs.declared.commands.Status.{Status}
 use Rattle.line_editor.specs.declared.commands.Status.TheVariants.{Proceed, Submit}
 use Rattle.line_editor.proofs.CommandsLead.{asks_lead, commands_lead, submitting_leads}
@@ -104,7 +104,7 @@ module _ (s : Setting) where
   abbrev on_command : LineState → Cmd → Status → PlayedOf s Status
   on_command k cmd status = record { answer = Ok status; asks = []; rest = left_at s k (Obeys cmd) }
 
-  command_leads : (cmd : Cmd) (k : LineState) (info : Option (List ℕ)) → shows_own k.modal.standing ≡ true → PlayLeads info (sight_of s k.value info) k (played_from s (obey_script cmd) k)
+  command_leads : (cmd : Cmd) (k : LineState) (info : Option (List ℕ)) → shows_own k.modal.standing ≡ true → PlayLeads info (sight_of s k.value info) k (played_from s (Asks (Obeys cmd) (λ status. Ends status)) k)
   command_leads cmd k info rests =
       let m = means_of k.input (ring_after_reset cmd k.ring) in
       let v = k.value in
@@ -122,21 +122,21 @@ module _ (s : Setting) where
       by (Err e) h = record { fits = h.fits; leads = h.leads; closes = h.closes }
 
   -- nothing is left to do
-  nothing_leads : (k : LineState) (info : Option (List ℕ)) → PlayLeads info (modal_seen k.modal s k.value info) k (played_from s (obey_script Unknown) k)
+  nothing_leads : (k : LineState) (info : Option (List ℕ)) → PlayLeads info (modal_seen k.modal s k.value info) k (played_from s (Asks (Obeys Unknown) (λ status. Ends status)) k)
   nothing_leads k info = record { fits = tt; leads = λ status is. refl; closes = λ is. cc }
 
   -- what is left to do of a command that was met
-  left_leads : (next : Cmd) (k : LineState) (info : Option (List ℕ)) → (next ≡ Unknown) ⊎ (shows_own k.modal.standing ≡ true) → PlayLeads info (modal_seen k.modal s k.value info) k (played_from s (obey_script next) k)
-  left_leads next k info (inl is) = subst (λ c. PlayLeads info (modal_seen k.modal s k.value info) k (played_from s (obey_script c) k)) (sym is) (nothing_leads k info)
+  left_leads : (next : Cmd) (k : LineState) (info : Option (List ℕ)) → (next ≡ Unknown) ⊎ (shows_own k.modal.standing ≡ true) → PlayLeads info (modal_seen k.modal s k.value info) k (played_from s (Asks (Obeys next) (λ status. Ends status)) k)
+  left_leads next k info (inl is) = subst (λ c. PlayLeads info (modal_seen k.modal s k.value info) k (played_from s (Asks (Obeys c) (λ status. Ends status)) k)) (sym is) (nothing_leads k info)
   left_leads next k info (inr rests) =
-      subst (λ x. PlayLeads info x k (played_from s (obey_script next) k)) (sym (seen_resting k.modal.standing k.modal s k.value info rests)) (command_leads next k info rests)
+      subst (λ x. PlayLeads info x k (played_from s (Asks (Obeys next) (λ status. Ends status)) k)) (sym (seen_resting k.modal.standing k.modal s k.value info rests)) (command_leads next k info rests)
 
   met_leads : (cmd : Cmd) (k : LineState) (info : Option (List ℕ)) (x : Sight) → (shows_own k.modal.standing ≡ true → x ≡ sight_of s k.value info) → PlayLeads info x k (played_from s (meet_script cmd) k)
   met_leads cmd k info x from =
       let q : Meeting = meeting k.modal cmd s k.value in
       let met = meeting_leads k.modal.standing k.modal refl cmd s k.value info x from in
       let left = left_at s k (Meets cmd) in
-      let p = played_from s (obey_script q.next) left in
+      let p = played_from s (Asks (Obeys q.next) (λ status. Ends status)) left in
       lead_behind s info x q.effect.steps p.answer p.rest.modal (made_of_play left p) met.fits
       (subst (λ y. PlayLeads (info_after q.effect.steps info) y left p) (sym met.leads) (left_leads q.next left (info_after q.effect.steps info) met.next))
 
@@ -206,7 +206,7 @@ module _ (s : Setting) where
       → FitsAll s.prompt x rs × LeadsAlong s o k (sight_all x rs) more
   alone k x o more rs fits leads = (subst (FitsAll s.prompt x) (append-nil rs) fits, subst (λ zs. LeadsAlong s o k (sight_all x zs) more) (append-nil rs) leads)
 
-  command_along : (cmd : Cmd) (k : LineState) (x : Sight) (o : Result (List ℕ) ReadlineError) (more : List LineAsk) → Along k x o more (played_from s (obey_script cmd) k)
+  command_along : (cmd : Cmd) (k : LineState) (x : Sight) (o : Result (List ℕ) ReadlineError) (more : List LineAsk) → Along k x o more (played_from s (Asks (Obeys cmd) (λ status. Ends status)) k)
   command_along cmd k x o more =
       let left = left_at s k (Obeys cmd) in
       let steps = (effect_at s k (Obeys cmd)).steps in
@@ -218,7 +218,7 @@ module _ (s : Setting) where
       let left = left_at s k (Meets cmd) in
       let made = (effect_at s k (Meets cmd)).steps in
       let next = (meeting k.modal cmd s k.value).next in
-      let p = played_from s (obey_script next) left in
+      let p = played_from s (Asks (Obeys next) (λ status. Ends status)) left in
       let rest = steps_along s left p.asks in (
         fits_first s.prompt x made rest fits,
         tt,
@@ -289,7 +289,7 @@ module _ (s : Setting) where
 pub lines_lead : LinesLead
 unfolding line_script
 lines_lead n s custom input r config query c =
-    let e = line_begun s (first_value s) in
+    let e = (then_do memory_effect refresh_effect) s (first_value s) in
     let first = asks_lead Line s (first_value s) no_sight in
     let seen = first.leads ∙ ap (sight_of s e.value) (sym (hint_stands s (first_value s) true s.prompt None)) ∙ sym (first_seen config query s e.value (info_after e.steps None)) in
     let k = line_state e.value input r (modal_first config query) c in

@@ -14,10 +14,10 @@ use Rattle.line_help.specs.declared.history.search.SearchDirection.TheVariants.{
 use Rattle.line_keys.specs.declared.command.Cmd.{Cmd}
 use Rattle.line_keys.specs.declared.command.Cmd.TheVariants.{EndOfHistory, HistorySearchBackward, HistorySearchForward}
 use Rattle.line_record.specs.Held.{HeldItem}
-use Rattle.line_editor.specs.Candidates.{only_text, only_completed, list_effect_with, candidate_at, turn_effect_with, several, is_ambiguous, modal_after_offer, tab_effect, cycle_at, cycle_back, cycle_effect, modal_after_ask}
-use Rattle.line_editor.specs.Completing.{begins_word, common_text_among, common_text, word_updated, complete_effect_with, complete_effect, candidates_given, candidates_asked}
+use Rattle.line_editor.specs.Candidates.{only_text, candidate_at, several, is_ambiguous, modal_after_offer, cycle_at, cycle_back, cycle_effect, modal_after_ask, offer_effect, list_shown, only_put}
+use Rattle.line_editor.specs.Completing.{begins_word, common_text_among, common_text, word_updated, complete_effect, candidates_given, candidates_asked, word_completed}
 use Rattle.line_editor.specs.Drawing.{refresh_effect, beep_effect, effect_if}
-use Rattle.line_editor.specs.History.{value_on_leaving, leave_effect}
+use Rattle.line_editor.specs.History.{leave_effect}
 use Rattle.line_editor.specs.ModalCommands.{meeting_effect, meeting_at_rest, meeting_in_prefixes, meeting_after_tab, meeting_anew, meeting_in_list, meeting_in_cycle, meeting_in, meeting_in_search}
 use Rattle.line_editor.specs.Modal.{Modal, modal_at_rest, pass_meeting, takes, goes, wish_of}
 use Rattle.line_editor.specs.Prefixes.{is_prefix, is_own, earlier, later, rises_if}
@@ -29,6 +29,7 @@ use Rattle.line_editor.specs.declared.modal_state.Standing.{Standing}
 use Rattle.line_editor.specs.declared.modal_state.Standing.TheVariants.{Off, Rests, Prefixes, Searches, Tabbed, Lists, Cycles}
 use Rattle.line_editor.specs.declared.modal_state.Wish.{Wish}
 use Rattle.line_editor.specs.declared.modal_state.Wish.TheVariants.{Search, Up, Down, Tab, TabBack, Leave, Again}
+use Rattle.std.specs.Option.{option_map_or}
 
 -- a fact of a line's text, whether it may grow, its record, the saved line and the place in the
 -- history
@@ -44,7 +45,7 @@ pub record KeptByEdits (fact : Fact) (s : Setting) : Type 0 where
   pub closed : (v : Value) → Holds fact v → Holds fact (close_groups s v).value
   pub put : (entry : List ℕ) (place : ℕ) (v : Value) → Holds fact v → Holds fact (edit_effect (update_group entry place) s v).value
   pub completed : (start : ℕ) (text : List ℕ) (v : Value) → start ≤ v.line.place → Holds fact v → Holds fact (word_updated start text s v).value
-  pub left : (v : Value) → Holds fact v → Holds fact (value_on_leaving s v)
+  pub left : (v : Value) → Holds fact v → Holds fact (leave_effect s v).value
 
 -- a text is for a word that begins before the cursor
 begun_before : (start : ℕ) (l : Line) (inside : Bool) (o : Option (List ℕ)) (text : List ℕ) → (if nat_le start l.place && inside then o else None) ≡ Some text → start ≤ l.place
@@ -103,29 +104,29 @@ module _ (fact : Fact) (s : Setting) (k : KeptByEdits fact s) where
 
   -- ---- candidates
 
-  completed : (start : ℕ) (o : Option (List ℕ)) (v : Value) → ((text : List ℕ) → o ≡ Some text → start ≤ v.line.place) → Holds fact v → Holds fact (complete_effect_with start o s v).value
+  completed : (start : ℕ) (o : Option (List ℕ)) (v : Value) → ((text : List ℕ) → o ≡ Some text → start ≤ v.line.place) → Holds fact v → Holds fact (option_map_or (word_completed start) o beep_effect s v).value
   completed start None v below h = h
   completed start (Some text) v below h = k.completed start text v (below text refl) h
 
-  word_completed : (o : Option (List ℕ)) (found : Completion) (v : Value) → Holds fact v → Holds fact (complete_effect_with found.start (if begins_word found.start v.line then o else None) s v).value
-  word_completed o found v h =
+  word_done : (o : Option (List ℕ)) (found : Completion) (v : Value) → Holds fact v → Holds fact (option_map_or (word_completed found.start) (if begins_word found.start v.line then o else None) beep_effect s v).value
+  word_done o found v h =
       completed found.start (if begins_word found.start v.line then o else None) v (λ text is. begun_before found.start v.line (not (is_inside_char v.line.text found.start)) o text is) h
 
   pub complete_keeps : (some : Bool) (v : Value) → Holds fact v → Holds fact (effect_if some (then_do candidates_asked (complete_effect (candidates_given (completion_reply s v)))) s v).value
   complete_keeps false v h = h
   complete_keeps true v h =
       let found = candidates_given (completion_reply s v) in
-      word_completed (common_text_among (v.line.place - found.start) (map (λ o. o.replacement) found.candidates)) found v h
+      word_done (common_text_among (v.line.place - found.start) (map (λ o. o.replacement) found.candidates)) found v h
 
-  turned_if : (start : ℕ) (o : Option (List ℕ)) (v : Value) → ((text : List ℕ) → o ≡ Some text → start ≤ v.line.place) → Holds fact v → Holds fact (turn_effect_with start o s v).value
+  turned_if : (start : ℕ) (o : Option (List ℕ)) (v : Value) → ((text : List ℕ) → o ≡ Some text → start ≤ v.line.place) → Holds fact v → Holds fact (option_map_or (word_completed start) o (then_do refresh_effect beep_effect) s v).value
   turned_if start None v below h = h
   turned_if start (Some text) v below h = k.completed start text v (below text refl) h
 
-  turned : (at : ℕ) (found : Completion) (v : Value) → Holds fact v → Holds fact (turn_effect_with found.start (candidate_at at found v.line) s v).value
+  turned : (at : ℕ) (found : Completion) (v : Value) → Holds fact v → Holds fact (option_map_or (word_completed found.start) (candidate_at at found v.line) (then_do refresh_effect beep_effect) s v).value
   turned at found v h =
       turned_if found.start (candidate_at at found v.line) v (λ text is. begun_before found.start v.line (not (is_inside_char v.line.text found.start)) (option_and_then (λ (p : Offered). unless_empty p.replacement) (slice_get found.candidates at)) text is) h
 
-  listed : (lists : Bool) (o : Option (List ℕ)) (limit : ℕ) (found : Completion) (v : Value) → Holds fact v → Holds fact (complete_effect_with found.start o s v).value → Holds fact (list_effect_with lists limit found o s v).value
+  listed : (lists : Bool) (o : Option (List ℕ)) (limit : ℕ) (found : Completion) (v : Value) → Holds fact v → Holds fact (option_map_or (word_completed found.start) o beep_effect s v).value → Holds fact (option_map_or (word_completed found.start) o (if lists then list_shown limit found.candidates else beep_effect) s v).value
   listed true (Some text) limit found v h done = done
   listed false (Some text) limit found v h done = done
   listed true None limit found v h done = h
@@ -134,14 +135,14 @@ module _ (fact : Fact) (s : Setting) (k : KeptByEdits fact s) where
   several_offered : (kind : CompletionType) (lists : Bool) (q : Modal) (found : Completion) (v : Value) → Holds fact v → Holds fact (several kind lists q found s v).value
   several_offered completion_type.Circular lists q found v h = turned 0 found (close_groups s v).value (k.closed v h)
   several_offered completion_type.List lists q found v h =
-      listed lists (common_text found v.line) q.limit found v h (word_completed (common_text_among (v.line.place - found.start) (map (λ o. o.replacement) found.candidates)) found v h)
+      listed lists (common_text found v.line) q.limit found v h (word_done (common_text_among (v.line.place - found.start) (map (λ o. o.replacement) found.candidates)) found v h)
 
-  offered : (ambiguous lists : Bool) (q : Modal) (found : Completion) (v : Value) → Holds fact v → Holds fact (if ambiguous then several q.completion_type lists q found s v else only_completed found s v).value
-  offered false lists q found v h = word_completed (only_text found.candidates) found v h
+  offered : (ambiguous lists : Bool) (q : Modal) (found : Completion) (v : Value) → Holds fact v → Holds fact (if ambiguous then several q.completion_type lists q found s v else option_map_or (word_completed found.start) (only_put found v.line) beep_effect s v).value
+  offered false lists q found v h = word_done (only_text found.candidates) found v h
   offered true lists q found v h = several_offered q.completion_type lists q found v h
 
   tabbed : (some lists : Bool) (q : Modal) (cmd : Cmd) (v : Value) → Holds fact v → (let found = candidates_given (completion_reply s v) in
-      Holds fact (if some then takes (tab_effect lists q found) (modal_after_offer lists found v.line q) s v else pass_meeting q cmd v).effect.value)
+      Holds fact (if some then takes (then_do candidates_asked (offer_effect lists q found)) (modal_after_offer lists found v.line q) s v else pass_meeting q cmd v).effect.value)
   tabbed false lists q cmd v h = h
   tabbed true lists q cmd v h = let found = candidates_given (completion_reply s v) in offered (is_ambiguous found v.line) lists q found v h
 

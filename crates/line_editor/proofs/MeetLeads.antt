@@ -12,15 +12,15 @@ use Rattle.line_keys.specs.Refreshing.Ask.{Line, Prompted}
 use Rattle.line_keys.specs.Replies.{Reply}
 use Rattle.line_keys.specs.declared.command.Cmd.{Cmd}
 use Rattle.line_keys.specs.declared.command.Cmd.TheVariants.{EndOfHistory, HistorySearchBackward, HistorySearchForward, Unknown}
-use Rattle.line_editor.specs.Candidates.{only_put, only_completed, list_effect_with, list_standing, candidate_at, turn_effect_with, cycle_begun, cycle_first, cycle_back, cycle_at, cycle_effect, ask_and_turn_effect, modal_after_ask, several, several_modal, offer_effect, modal_after_offer, tab_effect, is_ambiguous}
-use Rattle.line_editor.specs.Completing.{common_text, updates, word_updated, word_completed, complete_effect_with, candidates_given}
+use Rattle.line_editor.specs.Candidates.{only_put, candidate_at, cycle_begun, cycle_first, cycle_back, cycle_at, cycle_effect, ask_and_turn_effect, modal_after_ask, several, several_modal, offer_effect, modal_after_offer, is_ambiguous, list_shown}
+use Rattle.line_editor.specs.Completing.{common_text, updates, word_updated, word_completed, candidates_given, candidates_asked}
 use Rattle.line_edits.specs.Edits.{update_group}
 use Rattle.line_editor.specs.Drawing.{draw_effect_behind, ask_anew_effect, refresh_effect, refresh_effect_behind, beep_effect}
 use Rattle.line_editor.specs.Redraws.{Redraw}
 use Rattle.line_editor.specs.ModalCommands.{meeting_at_rest, meeting_in_prefixes, meeting_after_tab, meeting_anew, meeting_in_list, meeting_in_cycle, meeting_in, sight_in_mode, modal_seen, meeting_in_search}
 use Rattle.line_editor.specs.Modal.{Modal, Meeting, modal_first, first_standing, modal_at_rest, pass_meeting, takes, goes, wish_of}
 use Rattle.line_editor.specs.Prefixes.{is_prefix, is_own, earlier, later, rises_if}
-use Rattle.line_editor.specs.History.{with_saved_line, leave_effect}
+use Rattle.line_editor.specs.History.{with_saved_line, leave_effect, save_effect}
 use Rattle.line_editor.specs.Searching.{search_prompt, modal_with_query, modal_after_erase, search_for, modal_after_look, onward, hit_undo_effect, put_hit_effect, search_drawn, modal_with_char, looks, looks_typed, looks_again, modal_with_empty_query, empty_query_effect, place_effect, modal_at_search_start, begin_search, search_start_if, hit_again, search_again_meeting, act_of}
 use Rattle.line_editor.specs.Sights.{Sight, sight_with, sight_of, sight_all, FitsAll, info_after}
 use Rattle.line_editor.specs.Values.{Value, Setting, EditStep, no_effect, then_do, hint_reply, help_steps, shown_hint, shown_marks, completion_reply, update_reply, edit_effect, close_groups}
@@ -33,6 +33,7 @@ use Rattle.line_editor.specs.declared.modal_state.Wish.{Wish}
 use Rattle.line_editor.specs.declared.modal_state.Wish.TheVariants.{Search, Up, Down, Tab, TabBack, Leave, Again}
 use Rattle.line_editor.proofs.CommandsLead.{asks_lead}
 use Rattle.line_editor.proofs.LeadLemmas.{fits_both, sight_both, info_both, help_info}
+use Rattle.std.specs.Option.{option_map_or}
 
 -- with the hint that was asked for
 pub hint_stands : (s : Setting) (v : Value) (given : Bool) (prompt : List ℕ) (info : Option (List ℕ)) → (let w = (ask_anew_effect s v).value in
@@ -187,7 +188,7 @@ begun_met false dir q cmd s v info x rests from =
 
 -- another command is done, over steps that draw nothing
 saved_met : (ends : Bool) (q : Modal) (next : Cmd) (s : Setting) (v : Value) (info : Option (List ℕ)) (x : Sight) → shows_own q.standing ≡ true → x ≡ sight_of s v info
-    → Met s info x (record { effect = record { value = if ends then with_saved_line v else v; steps = if ends then Takes v ∷ [] else [] }; modal = q; next = next })
+    → Met s info x (record { effect = if ends then save_effect s v else no_effect s v; modal = q; next = next })
 saved_met true q next s v info x own from = record { fits = (tt, tt); leads = from ∙ sym (seen_resting q.standing q s (with_saved_line v) info own); next = inr own }
 saved_met false q next s v info x own from = passes_met q next s v info x own from
 
@@ -236,7 +237,7 @@ beep_behind v s own info x steps y shown h = record {
 }
 
 -- a candidate in its place, or the word as it was
-turned_drawn : (start : ℕ) (text : Option (List ℕ)) (s : Setting) (v : Value) (info : Option (List ℕ)) (x : Sight) → (let e = turn_effect_with start text s v in
+turned_drawn : (start : ℕ) (text : Option (List ℕ)) (s : Setting) (v : Value) (info : Option (List ℕ)) (x : Sight) → (let e = option_map_or (word_completed start) text (then_do refresh_effect beep_effect) s v in
     Drawn s.prompt info x e.steps (sight_of s e.value (shown_hint e.value)) (shown_hint e.value))
 turned_drawn start None s v info x = beep_behind (refresh_effect s v).value s s.prompt info x _ _ _ (own_drawn s v info x)
 turned_drawn start (Some text) s v info x = word_drawn start text s v info x
@@ -262,13 +263,13 @@ asked_met u (Some reply) s info x met h = record { fits = (tt, h.fits); leads = 
 
 -- the only candidate, or a beep
 only_met : (start : ℕ) (text : Option (List ℕ)) (q : Modal) (s : Setting) (v : Value) (info : Option (List ℕ)) (x : Sight) → shows_own q.standing ≡ true → x ≡ sight_of s v info
-    → Met s info x (takes (complete_effect_with start text) q s v)
+    → Met s info x (takes (option_map_or (word_completed start) text beep_effect) q s v)
 only_met start None q s v info x own from = beeped_met q s v info x own from
 only_met start (Some text) q s v info x own from = own_met s info x (takes (word_completed start text) q s v) _ (word_drawn start text s v info x) own
 
 -- the common prefix, a list, or a beep
 listed_met : (lists : Bool) (text : Option (List ℕ)) (found : Completion) (q : Modal) (s : Setting) (v : Value) (info : Option (List ℕ)) (x : Sight) → x ≡ sight_of s v info
-    → Met s info x (takes (list_effect_with lists q.limit found text) (record q { standing = list_standing lists text }) s v)
+    → Met s info x (takes (option_map_or (word_completed found.start) text (if lists then list_shown q.limit found.candidates else beep_effect)) (record q { standing = option_map_or (λ text. Tabbed) text (if lists then Lists else Tabbed) }) s v)
 listed_met true (Some text) found q s v info x from =
     own_met s info x (takes (word_completed found.start text) (record q { standing = Tabbed }) s v) _ (word_drawn found.start text s v info x) refl
 listed_met false (Some text) found q s v info x from =
@@ -284,13 +285,13 @@ several_met completion_type.Circular lists found q s v info x from =
 several_met completion_type.List lists found q s v info x from = listed_met lists (common_text found v.line) found q s v info x from
 
 offered_met : (ambiguous lists : Bool) (found : Completion) (q : Modal) (s : Setting) (v : Value) (info : Option (List ℕ)) (x : Sight) → x ≡ sight_of s v info
-    → Met s info x (takes (λ a w. if ambiguous then several q.completion_type lists q found a w else only_completed found a w)
+    → Met s info x (takes (λ a w. if ambiguous then several q.completion_type lists q found a w else option_map_or (word_completed found.start) (only_put found w.line) beep_effect a w)
     (if ambiguous then several_modal q.completion_type lists found v.line q else modal_at_rest q) s v)
 offered_met false lists found q s v info x from = only_met found.start (only_put found v.line) (modal_at_rest q) s v info x refl from
 offered_met true lists found q s v info x from = several_met q.completion_type lists found q s v info x from
 
 tab_met : (some lists : Bool) (q : Modal) (cmd : Cmd) (s : Setting) (v : Value) (info : Option (List ℕ)) (x : Sight) → shows_own q.standing ≡ true → x ≡ sight_of s v info
-    → (let found = candidates_given (completion_reply s v) in Met s info x (if some then takes (tab_effect lists q found) (modal_after_offer lists found v.line q) s v else pass_meeting q cmd v))
+    → (let found = candidates_given (completion_reply s v) in Met s info x (if some then takes (then_do candidates_asked (offer_effect lists q found)) (modal_after_offer lists found v.line q) s v else pass_meeting q cmd v))
 tab_met false lists q cmd s v info x own from = passes_met q cmd s v info x own from
 tab_met true lists q cmd s v info x own from =
     let found = candidates_given (completion_reply s v) in

@@ -5,7 +5,7 @@ use Rattle.script.specs.Scripts.{Ends, Asks}
 use Rattle.line_keys.specs.KeyFeeds.{item_at}
 use Rattle.line_keys.specs.PhraseScripts.{KeyScript, Needs, Shows, Reads, Becomes, Refuses}
 use Rattle.line_keys.specs.declared.command.Cmd.{Cmd}
-use Rattle.line_editor.specs.LineScripts.{Keys, Meets, LineAsk, LineState, script_of_keys, meet_script, obey_script, left_at, steps_along, played_from}
+use Rattle.line_editor.specs.LineScripts.{Keys, Meets, LineAsk, LineState, script_of_keys, meet_script, left_at, steps_along, played_from, Obeys}
 use Rattle.line_editor.specs.ModalCommands.{OffPasses, meeting_at_rest, meeting_in}
 use Rattle.line_editor.specs.Modal.{Modal, Meeting, pass_meeting, is_at_rest, first_standing, wish_of}
 use Rattle.line_editor.specs.Values.{Value, Setting}
@@ -42,9 +42,9 @@ pub off_passes : OffPasses
 off_passes q cmd s v is = ap (λ at. meeting_in at q cmd s v) is
 
 pub plays_past : (s : Setting) (cmd : Cmd) (k : LineState) → is_at_rest k.modal.standing ≡ true → begins_modal cmd ≡ false
-    → played_from s (meet_script cmd) k ≡ play_with_first_ask (Meets cmd) (played_from s (obey_script cmd) k)
+    → played_from s (meet_script cmd) k ≡ play_with_first_ask (Meets cmd) (played_from s (Asks (Obeys cmd) (λ status. Ends status)) k)
 plays_past s cmd k rests none =
-    ap (λ (m : Meeting). play_with_first_ask (Meets cmd) (played_from s (obey_script m.next) (record k { value = m.effect.value; modal = m.modal })))
+    ap (λ (m : Meeting). play_with_first_ask (Meets cmd) (played_from s (Asks (Obeys m.next) (λ status. Ends status)) (record k { value = m.effect.value; modal = m.modal })))
     (goes_past k.modal.standing k.modal cmd s k.value rests none)
 
 pub steps_past : (s : Setting) (cmd : Cmd) (k : LineState) (asks : List LineAsk) → is_at_rest k.modal.standing ≡ true → begins_modal cmd ≡ false

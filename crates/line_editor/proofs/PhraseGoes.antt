@@ -13,12 +13,12 @@ use Rattle.line_keys.specs.KeyFeeds.{behind}
 use Rattle.line_keys.specs.InputStates.{key_world, Stage as KeyStage}
 use Rattle.line_keys.specs.PhraseScripts.{KeyScript, Needs, Shows, Reads, Becomes, Refuses}
 use Rattle.line_record.specs.Ring.{Ring}
-use Rattle.line_editor.specs.Asks.{shown_in, ask_effect}
+use Rattle.line_editor.specs.Drawing.{shown_in, ask_effect}
 use Rattle.line_editor.specs.RenderCalls.{Canvas, Ruler, MadeIn}
-use Rattle.line_editor.specs.LineScripts.{LineAsk, LineAnswer, LineScript, script_of_keys, line_state, LineStage, DrawnBy, Answered, Stopped, line_world}
+use Rattle.line_editor.specs.LineScripts.{LineAsk, LineAnswer, LineScript, script_of_keys, line_state, LineStage, Answered, Stopped, line_world}
 use Rattle.line_editor.specs.Modal.{Modal}
 use Rattle.line_editor.specs.States.{value_of, setting_of, surface_of, display_of, Stays, Does}
-use Rattle.line_editor.specs.EditSteps.{calls_of_steps, CutEditSteps}
+use Rattle.line_editor.specs.EditSteps.{calls_of_steps, CutEditSteps, CallsMade}
 use Rattle.line_editor.specs.Turn.{stage_of, world_of}
 use Rattle.line_editor.specs.Values.{Setting, Transition}
 use Rattle.line_editor.specs.declared.renderer as renderers
@@ -58,7 +58,7 @@ module _ {Out H Hi K T : Type 0} {renderer : renderers.Renderer.Ghosts Out} {com
     abbrev u : Ruler
     u = renderer.canvas.ruler s.out
 
-    pub edit_drawn : {A : Type 0} (x : A) → Does edit m t (Ok x) → DrawnBy renderer.canvas u (edit (setting_of s) (value_of m)).steps (surface_of m) (surface_of t)
+    pub edit_drawn : {A : Type 0} (x : A) → Does edit m t (Ok x) → CallsMade renderer.canvas (calls_of_steps u (surface_of m).layout (edit (setting_of s) (value_of m)).steps) (surface_of m) (surface_of t)
     edit_drawn x h =
         let P : Ruler → Setting → Type 0 = λ r a. FoldsTo (MadeIn renderer.canvas) m.out (calls_of_steps r m.layout (edit a (value_of m)).steps).calls t.out × (t.layout ≡ (calls_of_steps r m.layout (edit a (value_of m)).steps).layout) in
         subst (λ r. P r (setting_of s)) stays.ruler (subst (λ a. P (renderer.canvas.ruler m.out) a) (setting_stays s m stays) (h.calls, h.layout))
@@ -114,7 +114,7 @@ module _ {Out H Hi K T : Type 0} {renderer : renderers.Renderer.Ghosts Out} {com
     phrase_goes_on {X} (Asks (Reads item) later) x y r stays (inr (e, inl (is, same), refused)) =
         subst (λ z. GoesOn (script_of_keys (Asks (Reads item) later)) (at x) r z) (sym same) (inr (e, inl (is, refl, (refl, refl)), refused), stays)
     phrase_goes_on {X} (Asks (Reads item) later) x y r stays (inr (e, inr (left, fault, same), refused)) =
-        subst (λ z. GoesOn (script_of_keys (Asks (Reads item) later)) (at x) r z) (sym same) (inr (e, inr (inr (left, fault, refl)), refused), stays)
+        subst (λ z. GoesOn (script_of_keys (Asks (Reads item) later)) (at x) r z) (sym same) (inr (e, inr (inr (item, left, refl, fault, refl)), refused), stays)
     phrase_goes_on {X} (Asks (Becomes input) later) x y r stays (inl (none, v, same, goes)) =
         let on : KeyStage (State Out H Hi K T renderer completer candidate hinter hint highlighter validator history) = record x { input = input } in
         let rest = subst (λ z. GoesOn (script_of_keys (later none)) (at z) r y) same (phrase_goes_on (later none) v y r (subst (λ z. Stays s z.wrt) (sym same) stays) goes) in

@@ -3,7 +3,7 @@ use Rattle.std.proofs.Common.{◌≡◌, ℕ, true, List, take, refl, sym, ap, �
 use Rattle.std.specs.Prelude.{⊤, Option, Some, length, Result, Err, Ok, IsErrAnd}
 use Rattle.line_config.specs.declared.errors.ReadlineError.{ReadlineError}
 use Rattle.line_config.specs.declared.errors.ReadlineError.TheVariants.{Memory}
-use Rattle.line_edits.specs.Edits.{update_group}
+use Rattle.line_edits.specs.Edits.{update_group, update_steps}
 use Rattle.line_edits.specs.WriteSteps.{Edits as EditsRecorded}
 use Rattle.line_record.specs.Items.{record_on}
 use Rattle.line_help.specs.Search.{Hit, entry_at, search_hit}
@@ -13,14 +13,19 @@ use Rattle.line_help.specs.declared.helpers.highlight as highlights
 use Rattle.line_help.specs.declared.helpers.validate as verdicts
 use Rattle.line_help.specs.declared.history as histories
 use Rattle.line_help.specs.declared.history.search.SearchDirection.{SearchDirection}
-use Rattle.line_editor.specs.Drawing.{refresh_effect}
-use Rattle.line_editor.specs.History.{at_place, leave_effect, restore_effect, come_back_effect, entry_shown, recall, recall_earlier_effect, hit_effect, search_from}
+use Rattle.line_editor.specs.Drawing.{refresh_effect, beep_effect}
+use Rattle.line_editor.specs.History.{at_place, leave_effect, come_back_effect, entry_shown, recall, recall_earlier_effect, search_from}
 use Rattle.line_editor.specs.States.{value_of, setting_of, surface_of, Stays, Does}
-use Rattle.line_editor.specs.Values.{Transition, then_do}
+use Rattle.line_editor.specs.Values.{Transition, then_do, edit_effect}
 use Rattle.line_editor.specs.declared.renderer as renderers
 use Rattle.line_editor.specs.declared.state.State.{State}
 use Rattle.line_editor.proofs.DoesLemmas.{does_as, does_both, does_cut_by, does_from, setting_stays}
 use Rattle.line_editor.proofs.EditLemmas.{edit_then, edit_refused}
+use Rattle.std.specs.Option.{option_map_or}
+
+-- the saved line restored
+abbrev restore_effect : Transition
+restore_effect s v = edit_effect (update_steps v.saved.text v.saved.place) s v
 
 module _ {Out H Hi K T : Type 0} {renderer : renderers.Renderer.Ghosts Out} {completer : completions.Completer.Ghosts H K} {candidate : completions.Candidate.Ghosts K}
     {hinter : hints.Hinter.Ghosts H T} {hint : hints.Hint.Ghosts T} {highlighter : highlights.Highlighter.Ghosts H} {validator : verdicts.Validator.Ghosts H} {history : histories.History.Ghosts Hi} where
@@ -57,7 +62,7 @@ module _ {Out H Hi K T : Type 0} {renderer : renderers.Renderer.Ghosts Out} {com
   found_shown dir place hit s m t result found value same stays h =
       let shown : Transition = entry_shown hit.idx hit.entry hit.pos in
       does_from shown (search_from dir place) s m t result
-      (from_place shown place s m value stays ∙ sym (ap (λ (o : Option Hit). hit_effect o (setting_of s) (at_place place (value_of s))) found)) same stays h
+      (from_place shown place s m value stays ∙ sym (ap (λ (o : Option Hit). option_map_or (λ (hit : Hit). entry_shown hit.idx hit.entry hit.pos) o beep_effect (setting_of s) (at_place place (value_of s))) found)) same stays h
 
   -- ---- an entry put in place of the line
 

@@ -15,14 +15,14 @@ use Rattle.line_keys.specs.Refreshing.Ask.{Line as LineAsked}
 use Rattle.line_keys.specs.declared.command.Cmd.{Cmd}
 use Rattle.line_keys.specs.declared.command.Cmd.TheVariants.{BeginningOfHistory, EndOfHistory, HistorySearchBackward, HistorySearchForward, NextHistory, PreviousHistory, LineUpOrPreviousHistory, LineDownOrNextHistory}
 use Rattle.line_record.specs.Held.{has_step}
-use Rattle.line_editor.specs.Asks.{ask_effect}
+use Rattle.line_editor.specs.Drawing.{ask_effect}
 use Rattle.line_editor.specs.Commands.{Means, effect}
 use Rattle.line_editor.specs.Moving.{to_found}
-use Rattle.line_editor.specs.History.{with_saved_line, value_on_leaving, recall, come_back_effect as back_at_end, history_step, history_end}
+use Rattle.line_editor.specs.History.{with_saved_line, recall, come_back_effect as back_at_end, history_step, history_end, leave_effect, save_effect}
 use Rattle.line_editor.specs.Returns.{ValueStep, value_after, searches, StaysAway, ComesBack}
 use Rattle.line_editor.specs.Returns.ValueStep.{Done, Asked, Met}
 use Rattle.line_editor.specs.ModalCommands.{meeting_effect}
-use Rattle.line_editor.specs.Values.{Value, Setting, Effect, Saved, line_and_record_of}
+use Rattle.line_editor.specs.Values.{Value, Setting, Effect, Saved, line_and_record_of, no_effect}
 use Rattle.line_editor.proofs.CommandKeeps.{KeptByCommands, either_holds, found_holds, command_keeps}
 use Rattle.line_editor.proofs.MeetKeeps.{Fact, Holds, KeptByEdits, meeting_keeps}
 use Rattle.line_editor.proofs.GrowthLemmas.{insert_grows, yank_grows, pop_grows, deletion_grows, kill_grows, indent_grows, word_grows, chars_grow, words_grow, over_grows, back_grows}
@@ -90,11 +90,11 @@ next_below : (a b : ℕ) → a < b → (a + 1 == b) ≡ false → a + 1 < b
 next_below a b h e = let other : a + 1 ≢ b = eqb-false (a + 1) b e in omega (arith, h, other)
 
 -- away from the history's end no line is saved
-stays_away : (s : Setting) (v : Value) → Away s v → value_on_leaving s v ≡ v
-stays_away s v away = cond-false (v.history == length s.entries) (with_saved_line v) v (ne_eqb v.history (length s.entries) (λ there. absurd (omega (arith, there, away))))
+stays_away : (s : Setting) (v : Value) → Away s v → (leave_effect s v).value ≡ v
+stays_away s v away = ap (λ (e : Effect). e.value) (cond-false (v.history == length s.entries) (save_effect s v) (no_effect s v) (ne_eqb v.history (length s.entries) (λ there. absurd (omega (arith, there, away)))))
 
 left_held : (place : ℕ) (o : Option Hit) (s : Setting) (text : List ℕ) (at : ℕ) (v : Value) → place < length s.entries → Held s text at v → Away s v
-    → Held s text at (recall place o s (value_on_leaving s v)).value
+    → Held s text at (recall place o s (leave_effect s v).value).value
 left_held place o s text at v below h away =
     subst (λ w. Held s text at (recall place o s w).value) (sym (stays_away s v away))
     (recall_held place o s text at v below h away)
@@ -183,9 +183,9 @@ start_held : (s : Setting) (v : Value) → v.history ≡ length s.entries → v.
 start_held s v there grows = record { saved = (λ h. absurd (omega (arith, there, h))); line = (λ h. (refl, refl)); grows = grows }
 
 leave_held : (place : ℕ) (o : Option Hit) (s : Setting) (v : Value) → v.history ≡ length s.entries → v.line.growth ≡ true → place < length s.entries
-    → Held s v.line.text v.line.place (recall place o s (value_on_leaving s v)).value
+    → Held s v.line.text v.line.place (recall place o s (leave_effect s v).value).value
 leave_held place o s v there grows below =
-    subst (λ w. Held s v.line.text v.line.place (recall place o s w).value) (sym (cond-true (v.history == length s.entries) (with_saved_line v) v (eq-eqb v.history (length s.entries) there))) (saved_held place o s v there grows below)
+    subst (λ w. Held s v.line.text v.line.place (recall place o s w).value) (sym (ap (λ (e : Effect). e.value) (cond-true (v.history == length s.entries) (save_effect s v) (no_effect s v) (eq-eqb v.history (length s.entries) there)))) (saved_held place o s v there grows below)
 
 by_leaving : (one : Bool) (m : Means) (s : Setting) (v : Value) → v.history ≡ length s.entries → v.line.growth ≡ true → Held s v.line.text v.line.place (effect m (if one then PreviousHistory else BeginningOfHistory) s v).value
 by_leaving true m s v there grows = either_held s v.line.text v.line.place (v.history == 0) _ _ (λ e. start_held s v there grows)

@@ -2,13 +2,14 @@
 use Rattle.std.proofs.Common.{◌≡◌, ℕ, ◌&&◌, Bool, true, false, not, is_some, List, [], Option, Some, None, refl, sym, ap, ◌∙◌, if◌then◌else◌}
 use Rattle.std.proofs.lemmas.Option.{cond_some}
 use Rattle.line_help.specs.declared.helpers.style.Style.{Style}
-use Rattle.line_editor.specs.Drawing.{Since, redraw_of, line_spans, kept_upto, may_begin_at, draw_effect_since, draw_effect_behind}
+use Rattle.line_editor.specs.Drawing.{Since, redraw_of, line_spans, kept_upto, draw_effect_since, draw_effect_behind}
 use Rattle.line_editor.specs.Redraws.{Redraw}
 use Rattle.line_editor.specs.Redraws.Redraw.{DrawnFrom}
 use Rattle.line_editor.specs.RenderCalls.{Marks}
 use Rattle.line_editor.specs.SharedStyles.{noted_styles, told_styles}
 use Rattle.line_editor.specs.Sights.{drawn_spans}
 use Rattle.line_editor.specs.Values.{Value, Setting, draw_effect, marks_seen, shown_hint}
+use Rattle.line_editor.specs.Characters.{begins_apart_at}
 
 -- a line that isn't marked has no styles
 pub unmarked_line : (marks : Option Marks) (told : Bool) (prompt text : List ℕ) (place : ℕ) (info : List ℕ) → (drawn_spans (marks_seen false told marks) true prompt text place info).line ≡ []
@@ -47,14 +48,14 @@ module _ (since : Option Since) (s : Setting) (v : Value) where
     abbrev by_test : Bool → Redraw
     by_test b = if b then drawn_at kept else redraw_of s v
 
-    pub drawn_noted : (from : ℕ) → Some from ≡ (if may_begin_at kept before v then Some kept else None) → draw_effect (drawn_at from) s v ≡ draw_effect_since since s v
+    pub drawn_noted : (from : ℕ) → Some from ≡ (if (begins_apart_at v.line.text before.from && begins_apart_at v.line.text kept) then Some kept else None) → draw_effect (drawn_at from) s v ≡ draw_effect_since since s v
     drawn_noted from place =
-        let found = cond_some (may_begin_at kept before v) kept from (sym place) in
+        let found = cond_some ((begins_apart_at v.line.text before.from && begins_apart_at v.line.text kept)) kept from (sym place) in
         ap (λ k. draw_effect (drawn_at k) s v) (sym found.1)
         ∙ ap (λ b. draw_effect (by_test b) s v) (sym found.0)
         ∙ ap (λ o. draw_effect_since o s v) (sym is)
 
-    pub whole_noted : None ≡ (if may_begin_at kept before v then Some kept else None) → draw_effect_behind s.prompt true s v ≡ draw_effect_since since s v
+    pub whole_noted : None ≡ (if (begins_apart_at v.line.text before.from && begins_apart_at v.line.text kept) then Some kept else None) → draw_effect_behind s.prompt true s v ≡ draw_effect_since since s v
     whole_noted none =
-        ap (λ b. draw_effect (by_test b) s v) (sym (no_place (may_begin_at kept before v) kept none))
+        ap (λ b. draw_effect (by_test b) s v) (sym (no_place ((begins_apart_at v.line.text before.from && begins_apart_at v.line.text kept)) kept none))
         ∙ ap (λ o. draw_effect_since o s v) (sym is)

@@ -12,7 +12,7 @@ use Rattle.line_editor.specs.RenderCalls.Call.{Help}
 use Rattle.line_editor.specs.Completing.{updates}
 use Rattle.line_editor.specs.Redraws.{Redraw, RedrawCalls, calls_of_redraw, then_asked}
 use Rattle.line_editor.specs.States.{fails_by, IsHelpFault}
-use Rattle.line_editor.specs.EditSteps.{one, calls_of_steps, Surface, surface, SameBeside, CutHelp, UndonePartly, StepMade, CutEditSteps}
+use Rattle.line_editor.specs.EditSteps.{one, calls_of_steps, Surface, surface, CutHelp, UndonePartly, CutEditSteps, CallsMade}
 use Rattle.line_editor.specs.Values.{Value, EditStep, line_and_record_of, value_with_edit, help_steps, shown_marks}
 use Rattle.line_editor.specs.Values.EditStep.{Draws, Edits, TakesBack, Takes}
 
@@ -88,7 +88,7 @@ module _ {R : Type 0} (canvas : Canvas R) (r : Ruler) where
 
   -- at an edit of the line
   pub stops_editing : (stands : Value) (edit : WriteSteps ⊤) (more : List EditStep) (old new : Surface R) (fault : ReadlineError) (v : Value)
-      → fault ≡ Memory → new ≡ old → SameBeside stands v → CutAlong edit.steps (line_and_record_of stands) (line_and_record_of v) → CutEditSteps canvas r (Edits stands edit ∷ more) old fault v new
+      → fault ≡ Memory → new ≡ old → v ≡ record stands { line = v.line; held = v.held } → CutAlong edit.steps (line_and_record_of stands) (line_and_record_of v) → CutEditSteps canvas r (Edits stands edit ∷ more) old fault v new
   unfolding CutEditSteps
   stops_editing stands edit more old new fault v is same value left = inr (is, same, value, left)
 
@@ -117,7 +117,7 @@ module _ {R : Type 0} (canvas : Canvas R) (r : Ruler) where
 
   -- behind a step that was made
   pub stops_after : (step : EditStep) (more : List EditStep) (old between new : Surface R) (fault : ReadlineError) (v : Value)
-      → StepMade canvas r old step between → CutEditSteps canvas r more between fault v new → CutEditSteps canvas r (step ∷ more) old fault v new
+      → CallsMade canvas (one r old.layout step) old between → CutEditSteps canvas r more between fault v new → CutEditSteps canvas r (step ∷ more) old fault v new
   unfolding CutEditSteps
   stops_after step more old between new fault v made h = inl (between, made, h)
 

@@ -8,12 +8,12 @@ use Rattle.script.specs.Scripts.{Script, Ends, Asks, Goes, then}
 use Rattle.line_config.specs.declared.errors.ReadlineError.{ReadlineError}
 use Rattle.line_config.specs.declared.errors.ReadlineError.TheVariants.{Display, Helper, Memory}
 use Rattle.line_keys.specs.KeyFeeds.{InputItem, Paste, IsReadFault}
-use Rattle.line_keys.specs.PhraseScripts.{steps, Reads}
+use Rattle.line_keys.specs.PhraseScripts.{steps}
 use Rattle.line_editor.specs.RenderCalls.{Canvas, Ruler, MadeIn}
-use Rattle.line_editor.specs.LineScripts.{LineAsk, LineAnswer, LineScript, Keys, LineState, effect_at, answer_at, left_at, line_plan, steps_along, played_from, LineStage, DrawnBy, Stopped, line_world}
+use Rattle.line_editor.specs.LineScripts.{LineAsk, LineAnswer, LineScript, LineState, effect_at, answer_at, left_at, line_plan, steps_along, played_from, LineStage, Stopped, line_world}
 use Rattle.line_editor.specs.Redraws.{RedrawCalls}
 use Rattle.line_editor.specs.States.{reason_of}
-use Rattle.line_editor.specs.EditSteps.{calls_of_steps, Surface, CutHelp, CutStep, CutEditSteps}
+use Rattle.line_editor.specs.EditSteps.{calls_of_steps, Surface, CutHelp, CutStep, CutEditSteps, CallsMade}
 use Rattle.line_editor.specs.Values.{Value, Setting, EditStep}
 use Rattle.line_editor.specs.Values.EditStep.{Draws, Helped}
 use Rattle.line_editor.proofs.StopsLemmas.{asked_both, folds_both}
@@ -79,7 +79,7 @@ module _ (a : Setting) where
 -- ---- what goes is all of it, or a fault stopped a beginning of it
 
 module _ {R : Type 0} (canvas : Canvas R) (u : Ruler) where
-  pub drawn_both : (xs ys : List EditStep) (a b c : Surface R) → DrawnBy canvas u xs a b → DrawnBy canvas u ys b c → DrawnBy canvas u (xs ++ ys) a c
+  pub drawn_both : (xs ys : List EditStep) (a b c : Surface R) → CallsMade canvas (calls_of_steps u a.layout xs) a b → CallsMade canvas (calls_of_steps u b.layout ys) b c → CallsMade canvas (calls_of_steps u a.layout (xs ++ ys)) a c
   drawn_both xs ys a b c h k =
       let first = calls_of_steps u a.layout xs in
       let Q : RedrawCalls → Type 0 = λ q. FoldsTo (MadeIn canvas) a.out q.calls c.out × (c.layout ≡ q.layout) in
@@ -93,7 +93,7 @@ module _ {R : Type 0} (canvas : Canvas R) (u : Ruler) (a : Setting) where
   pub record AllDone {X : Type 0} (p : PlayedOf a X) (x y : LineStage R) (result : Result X ReadlineError) : Type 0 where
     pub answer_is : p.answer ≡ result
     pub rest_is : p.rest ≡ y.kept
-    pub drawn : DrawnBy canvas u (steps_along a x.kept p.asks) x.drawn y.drawn
+    pub drawn : CallsMade canvas (calls_of_steps u x.drawn.layout (steps_along a x.kept p.asks)) x.drawn y.drawn
 
   -- the first asks of it were answered, and a fault stopped the next one
   pub record StoppedIn {X : Type 0} (p : PlayedOf a X) (x y : LineStage R) (result : Result X ReadlineError) : Type 0 where
@@ -103,7 +103,7 @@ module _ {R : Type 0} (canvas : Canvas R) (u : Ruler) (a : Setting) where
     pub first : p.asks ≡ done ++ (ask ∷ others)
     pub at : LineStage R
     pub kept_is : at.kept ≡ left_along a x.kept done
-    pub drawn : DrawnBy canvas u (steps_along a x.kept done) x.drawn at.drawn
+    pub drawn : CallsMade canvas (calls_of_steps u x.drawn.layout (steps_along a x.kept done)) x.drawn at.drawn
     pub fault : ReadlineError
     pub result_is : result ≡ Err fault
     pub stopped : Stopped canvas u a at ask fault y
@@ -117,11 +117,11 @@ module _ {R : Type 0} (canvas : Canvas R) (u : Ruler) (a : Setting) where
 
   module _ {X : Type 0} (ask : LineAsk) (x v y : LineStage R) (result : Result X ReadlineError) (p : PlayedOf a X) where
     -- after an ask that was answered
-    went_on : (kept_is : v.kept ≡ left_at a x.kept ask) → DrawnBy canvas u (effect_at a x.kept ask).steps x.drawn v.drawn → Went p v y result → Went (play_with_first_ask ask p) x y result
+    went_on : (kept_is : v.kept ≡ left_at a x.kept ask) → CallsMade canvas (calls_of_steps u x.drawn.layout (effect_at a x.kept ask).steps) x.drawn v.drawn → Went p v y result → Went (play_with_first_ask ask p) x y result
     went_on kept_is drawn (inl h) = inl (record {
       answer_is = h.answer_is;
       rest_is = h.rest_is;
-      drawn = drawn_both canvas u (effect_at a x.kept ask).steps _ x.drawn v.drawn y.drawn drawn (subst (λ k. DrawnBy canvas u (steps_along a k p.asks) v.drawn y.drawn) kept_is h.drawn);
+      drawn = drawn_both canvas u (effect_at a x.kept ask).steps _ x.drawn v.drawn y.drawn drawn (subst (λ k. CallsMade canvas (calls_of_steps u v.drawn.layout (steps_along a k p.asks)) v.drawn y.drawn) kept_is h.drawn);
     })
     went_on kept_is drawn (inr h) = inr (record {
       done = ask ∷ h.done;
@@ -130,7 +130,7 @@ module _ {R : Type 0} (canvas : Canvas R) (u : Ruler) (a : Setting) where
       first = ap (λ (asks : List LineAsk). ask ∷ asks) h.first;
       at = h.at;
       kept_is = h.kept_is ∙ ap (λ k. left_along a k h.done) kept_is;
-      drawn = drawn_both canvas u (effect_at a x.kept ask).steps _ x.drawn v.drawn h.at.drawn drawn (subst (λ k. DrawnBy canvas u (steps_along a k h.done) v.drawn h.at.drawn) kept_is h.drawn);
+      drawn = drawn_both canvas u (effect_at a x.kept ask).steps _ x.drawn v.drawn h.at.drawn drawn (subst (λ k. CallsMade canvas (calls_of_steps u v.drawn.layout (steps_along a k h.done)) v.drawn h.at.drawn) kept_is h.drawn);
       fault = h.fault;
       result_is = h.result_is;
       stopped = h.stopped;
@@ -151,7 +151,7 @@ module _ {R : Type 0} (canvas : Canvas R) (u : Ruler) (a : Setting) where
       (inl (record {
         answer_is = sym result_is;
         rest_is = sym kept_is;
-        drawn = subst (λ steps. DrawnBy canvas u steps x.drawn y.drawn) (sym (append-nil (effect_at a x.kept ask).steps)) drawn;
+        drawn = subst (λ steps. CallsMade canvas (calls_of_steps u x.drawn.layout steps) x.drawn y.drawn) (sym (append-nil (effect_at a x.kept ask).steps)) drawn;
       }))
   went {X} (Asks ask later) x y result (inr (e, inr stopped, is)) =
       let left = left_at a x.kept ask in
@@ -197,5 +197,4 @@ module _ {R : Type 0} (canvas : Canvas R) (r : Ruler) where
 
   pub stopped_cause : (a : Setting) (ask : LineAsk) (x y : LineStage R) (e : ReadlineError) → Stopped canvas r a x ask e y → reason_of true ⊤ e
   stopped_cause a ask x y e (inl (stops, leaves)) = steps_cause (effect_at a x.kept ask).steps e y.kept.value x.drawn y.drawn stops
-  stopped_cause a (Keys (Reads item)) x y e (inr (left, unread, same)) = unread_cause item e unread
-  stopped_cause a _ x y e (inr (left, unread, same)) = absurd unread
+  stopped_cause a ask x y e (inr (item, left, is, unread, same)) = unread_cause item e unread

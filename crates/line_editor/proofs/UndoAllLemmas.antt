@@ -25,20 +25,21 @@ use Rattle.line_keys.specs.Refreshing.{Ask}
 use Rattle.line_keys.specs.Refreshing.Ask.{DoingInsert, DoneInserting}
 use Rattle.line_keys.specs.declared.command.Cmd.{Cmd}
 use Rattle.line_keys.specs.declared.command.Cmd.TheVariants.{BeginningOfHistory, EndOfHistory, HistorySearchBackward, HistorySearchForward, NextHistory, PreviousHistory, LineUpOrPreviousHistory, LineDownOrNextHistory}
-use Rattle.line_editor.specs.Asks.{ask_effect}
 use Rattle.line_editor.specs.Commands.{Means, effect}
 use Rattle.line_editor.specs.Completing.{word_put}
 use Rattle.line_editor.specs.Leads.{Reaches, Sound}
-use Rattle.line_editor.specs.History.{with_saved_line, at_place, value_on_leaving, recall, hit_effect, history_step, history_end, history_search}
+use Rattle.line_editor.specs.History.{at_place, recall, history_step, history_end, history_search, entry_shown, leave_effect, save_effect}
 use Rattle.line_editor.specs.Returns.{ValueStep, value_after, BegunSound, UndoesAll}
 use Rattle.line_editor.specs.Returns.ValueStep.{Done, Asked, Met}
-use Rattle.line_editor.specs.Values.{Value, Setting, value_with_edit, line_and_record_of}
+use Rattle.line_editor.specs.Values.{Value, Setting, value_with_edit, line_and_record_of, no_effect}
 use Rattle.line_editor.proofs.CommandKeeps.{KeptByCommands, either_holds, found_holds, command_keeps}
 use Rattle.line_editor.proofs.MeetKeeps.{Fact, KeptByEdits, meeting_keeps}
 use Rattle.line_editor.proofs.ReachLemmas.{undo_reached, ended_reaches, edit_reaches, group_reaches, typing_reaches, yanking_reaches, updating_reaches, indenting_reaches, killing_reaches, transposing_reaches}
 use Rattle.line_editor.proofs.ReplaysLemmas.{transpose_words_replays, edit_word_replays}
 use Rattle.line_editor.proofs.UndoLemmas.{undo_reaches, unmade_reached}
 use Rattle.line_edits.specs.WriteSteps.{with_answer, steps_of_edit, Written, group_opened}
+use Rattle.std.specs.Option.{option_map_or}
+use Rattle.line_editor.specs.Drawing.{beep_effect, ask_effect}
 
 -- ---- edits of a line with its record
 
@@ -108,23 +109,23 @@ recall_reached : (place : ℕ) (o : Option Hit) (s : Setting) (v : Value) (first
 recall_reached place None s v first r = r
 recall_reached place (Some hit) s v first r = recalled_reached hit.entry (length hit.entry) (at_place place v) first r
 
-leaving_reached : (s : Setting) (v : Value) (first : List ℕ) → Reached first v → Reached first (value_on_leaving s v)
+leaving_reached : (s : Setting) (v : Value) (first : List ℕ) → Reached first v → Reached first (leave_effect s v).value
 leaving_reached s v first r = left_by (v.history == length s.entries)
   where
-    left_by : (b : Bool) → Reached first (if b then with_saved_line v else v)
+    left_by : (b : Bool) → Reached first (if b then save_effect s v else no_effect s v).value
     left_by true = r
     left_by false = r
 
 history_reached : (back : Bool) (s : Setting) (v : Value) (first : List ℕ) → Reached first v → Reached first (history_step back s v).value
-history_reached true s v first r = either_holds (reaching first) (v.history == 0) _ _ r (recall_reached (v.history - 1) _ s (value_on_leaving s v) first (leaving_reached s v first r))
+history_reached true s v first r = either_holds (reaching first) (v.history == 0) _ _ r (recall_reached (v.history - 1) _ s (leave_effect s v).value first (leaving_reached s v first r))
 history_reached false s v first r =
     either_holds (reaching first) (v.history == length s.entries) _ _ r (either_holds (reaching first) (v.history + 1 == length s.entries) _ _ (restored_reached (at_place (length s.entries) v) first r) (recall_reached (v.history + 1) _ s v first r))
 
 ends_reached : (start : Bool) (s : Setting) (v : Value) (first : List ℕ) → Reached first v → Reached first (history_end start s v).value
-ends_reached true s v first r = either_holds (reaching first) (v.history == 0) _ _ r (recall_reached 0 _ s (value_on_leaving s v) first (leaving_reached s v first r))
+ends_reached true s v first r = either_holds (reaching first) (v.history == 0) _ _ r (recall_reached 0 _ s (leave_effect s v).value first (leaving_reached s v first r))
 ends_reached false s v first r = either_holds (reaching first) (v.history == length s.entries) _ _ r (restored_reached (at_place (length s.entries) v) first r)
 
-hit_reached : (o : Option Hit) (s : Setting) (v : Value) (first : List ℕ) → Reached first v → Reached first (hit_effect o s v).value
+hit_reached : (o : Option Hit) (s : Setting) (v : Value) (first : List ℕ) → Reached first v → Reached first (option_map_or (λ (hit : Hit). entry_shown hit.idx hit.entry hit.pos) o beep_effect s v).value
 hit_reached None s v first r = r
 hit_reached (Some hit) s v first r = recalled_reached hit.entry hit.pos (at_place hit.idx v) first r
 

@@ -17,7 +17,6 @@ use Rattle.line_help.specs.declared.helpers.validate as verdicts
 use Rattle.line_help.specs.declared.history as histories
 use Rattle.line_editor.specs.Drawing.{Since, since, refresh_effect_since}
 use Rattle.line_editor.specs.States.{value_of, setting_of, surface_of, Stays, Does}
-use Rattle.line_editor.specs.EditSteps.{SameBeside}
 use Rattle.line_editor.specs.Values.{Value, Setting, Effect, Transition, then_do, no_effect, value_with_edit, line_and_record_of, at_line}
 use Rattle.line_editor.specs.Values.EditStep.{Edits}
 use Rattle.line_editor.specs.Yanking.{line_at_anchor, steps_over, behind_yank, value_after_yank, yank_effect, yank_text}
@@ -108,7 +107,7 @@ module _ {Out H Hi K T : Type 0} {renderer : renderers.Renderer.Ghosts Out} {com
   pub yank_refused : {A E : Type 0} (vi : Bool) (text : List ℕ) (anchor : Anchor) (n : ℕ) (s t : State Out H Hi K T renderer completer candidate hinter hint highlighter validator history) (old : RecordedLine)
       (result : Result A ReadlineError) (fault : E) → IsErrAnd result (λ x. x ≡ Memory) → line_and_record_in old ≡ line_and_record_of (there anchor (value_of s))
       → EditsRecorded {A = Option Bool} (yank_steps text n old.line) old t.recorded (Err fault) → is_some (yanked_in text n old.line).answer ≡ true
-      → SameBeside (there anchor (value_of s)) (value_of t) → surface_of t ≡ surface_of s → Stays s t → Does (yank_text vi text anchor n) s t result
+      → value_of t ≡ record (there anchor (value_of s)) { line = (value_of t).line; held = (value_of t).held } → surface_of t ≡ surface_of s → Stays s t → Does (yank_text vi text anchor n) s t result
   yank_refused vi text anchor n s t old result fault failed same wrote put rest surface stays =
       let v = there anchor (value_of s) in
       edit_refused (yank_text vi text anchor n) (λ a u. refresh_effect_since (up_to anchor (setting_of s) (value_of s)) a (value_after_yank vi text n v)) (yank_steps text n) v s t old result fault failed

@@ -1,5 +1,5 @@
 -- What Tab makes of a line: its only candidate, one of several in turn, or a list of them.
-use Rattle.std.specs.Prelude.{ℕ, ◌+◌, ◌-◌, ◌==◌, ◌&&◌, nat_lt, min, Bool, true, false, if◌then◌else◌, List, [], ◌∷◌, ◌++◌, flat_map, take, length, codes, decimal, slice_get, is_some, Option, Some, None, option_and_then}
+use Rattle.std.specs.Prelude.{ℕ, ◌+◌, ◌-◌, ◌==◌, ◌&&◌, nat_lt, min, Bool, if◌then◌else◌, List, [], ◌∷◌, ◌++◌, flat_map, take, length, codes, decimal, slice_get, is_some, Option, Some, None, option_and_then}
 use Rattle.line_buffer.specs.Line.{Line}
 use Rattle.line_config.specs.declared.settings.CompletionType.{CompletionType}
 use Rattle.line_config.specs.declared.settings.CompletionType.TheVariants as completion_type
@@ -8,13 +8,13 @@ use Rattle.line_help.specs.declared.history.search.SearchDirection.{SearchDirect
 use Rattle.line_help.specs.declared.history.search.SearchDirection.TheVariants.{Forward, Reverse}
 use Rattle.line_keys.specs.declared.command.Cmd.{Cmd}
 use Rattle.line_keys.specs.declared.command.CmdKind.TheVariants.{Other}
-use Rattle.line_editor.specs.Completing.{begins_word, common_text, word_completed, complete_effect_with, candidates_given, candidates_asked}
+use Rattle.line_editor.specs.Completing.{begins_word, common_text, word_completed, candidates_given, candidates_asked}
 use Rattle.line_editor.specs.Drawing.{beep_effect, refresh_effect, message_effect}
 use Rattle.line_editor.specs.Modal.{Modal, modal_at_rest, Meeting, pass_meeting, takes}
 use Rattle.line_editor.specs.Searching.{hit_undo_effect, place_effect}
 use Rattle.line_editor.specs.Values.{Value, Setting, Transition, memory_effect, then_do, close_groups, completion_reply}
-use Rattle.line_editor.specs.declared.modal_state.Standing.{Standing}
 use Rattle.line_editor.specs.declared.modal_state.Standing.TheVariants.{Tabbed, Lists, Cycles}
+use Rattle.std.specs.Option.{option_map_or}
 
 -- ---- a single candidate: with what ends it, if it is a whole word
 
@@ -24,9 +24,6 @@ only_text candidates = None
 
 abbrev pub only_put : Completion → Line → Option (List ℕ)
 only_put found l = if begins_word found.start l then only_text found.candidates else None
-
-abbrev pub only_completed : Completion → Transition
-only_completed found s v = complete_effect_with found.start (only_put found v.line) s v
 
 -- ---- a list of candidates: each on a row of its own, at most so many, and how many more there are
 
@@ -46,18 +43,10 @@ list_shown limit candidates = then_do memory_effect
     (message_effect (Some (list_text limit candidates)) Other)
 
 -- the common prefix, if it adds something. Otherwise they are listed, or it beeps
-abbrev pub list_effect_with : Bool → ℕ → Completion → Option (List ℕ) → Transition
-list_effect_with lists limit found (Some text) = word_completed found.start text
-list_effect_with true limit found None = list_shown limit found.candidates
-list_effect_with false limit found None = beep_effect
-
 abbrev pub list_effect : Bool → ℕ → Completion → Transition
-list_effect lists limit found s v = list_effect_with lists limit found
-    (common_text found v.line) s v
-
-abbrev pub list_standing : Bool → Option (List ℕ) → Standing
-list_standing true None = Lists
-list_standing lists text = Tabbed
+list_effect lists limit found s v =
+    option_map_or (word_completed found.start) (common_text found v.line)
+    (if lists then list_shown limit found.candidates else beep_effect) s v
 
 -- ---- candidates in turn
 
@@ -72,12 +61,9 @@ candidate_at at found l = if begins_word found.start l
     then option_and_then (λ o. unless_empty o.replacement) (slice_get found.candidates at) else None
 
 -- put in place of the word; or the word as it was, and a beep
-abbrev pub turn_effect_with : ℕ → Option (List ℕ) → Transition
-turn_effect_with start None = then_do refresh_effect beep_effect
-turn_effect_with start (Some text) = word_completed start text
-
 abbrev pub turn_effect : ℕ → Completion → Transition
-turn_effect at found s v = turn_effect_with found.start (candidate_at at found v.line) s v
+turn_effect at found s v = option_map_or (word_completed found.start)
+    (candidate_at at found v.line) (then_do refresh_effect beep_effect) s v
 
 abbrev pub modal_after_turn : ℕ → Completion → Line → Modal → Modal
 modal_after_turn at found l x = record x { candidate = at; put = is_some (candidate_at at found l) }
@@ -94,22 +80,17 @@ abbrev pub cycle_back : Modal → Transition
 cycle_back x = then_do (hit_undo_effect x.put) (place_effect x.place)
 
 -- the helper is asked anew for that line, and the next candidate is put
-abbrev pub next_turned : SearchDirection → Modal → Completion → Transition
-next_turned dir x found = turn_effect (cycle_at dir x.candidate (length found.candidates)) found
-
-abbrev pub next_modal : SearchDirection → Completion → Line → Modal → Modal
-next_modal dir found l x = modal_after_turn
-    (cycle_at dir x.candidate (length found.candidates)) found l x
-
 abbrev pub ask_and_turn_effect : SearchDirection → Modal → Transition
-ask_and_turn_effect dir x s v =
-    then_do candidates_asked (next_turned dir x (candidates_given (completion_reply s v))) s v
+ask_and_turn_effect dir x s v = let found = candidates_given (completion_reply s v) in
+    let at = cycle_at dir x.candidate (length found.candidates) in
+    then_do candidates_asked (turn_effect at found) s v
 
 abbrev pub cycle_effect : SearchDirection → Modal → Transition
 cycle_effect dir x = then_do (cycle_back x) (ask_and_turn_effect dir x)
 
 abbrev pub modal_after_ask : SearchDirection → Modal → Setting → Value → Modal
-modal_after_ask dir x s v = next_modal dir (candidates_given (completion_reply s v)) v.line x
+modal_after_ask dir x s v = let found = candidates_given (completion_reply s v) in
+    modal_after_turn (cycle_at dir x.candidate (length found.candidates)) found v.line x
 
 -- ---- what it makes of a command
 
@@ -120,8 +101,9 @@ several completion_type.List lists x found = list_effect lists x.limit found
 
 abbrev pub several_modal : CompletionType → Bool → Completion → Line → Modal → Modal
 several_modal completion_type.Circular lists found l x = cycle_first found l x
-several_modal completion_type.List lists found l x =
-    record x { standing = list_standing lists (common_text found l) }
+several_modal completion_type.List lists found l x = record x {
+  standing = option_map_or (λ text. Tabbed) (common_text found l) (if lists then Lists else Tabbed);
+}
 
 abbrev pub is_ambiguous : Completion → Line → Bool
 is_ambiguous found l = nat_lt 1 (length found.candidates) && begins_word found.start l
@@ -129,22 +111,20 @@ is_ambiguous found l = nat_lt 1 (length found.candidates) && begins_word found.s
 abbrev pub offer_effect : Bool → Modal → Completion → Transition
 offer_effect lists x found s v =
     if is_ambiguous found v.line then several x.completion_type lists x found s v
-    else only_completed found s v
+    else option_map_or (word_completed found.start) (only_put found v.line) beep_effect s v
 
 abbrev pub modal_after_offer : Bool → Completion → Line → Modal → Modal
 modal_after_offer lists found l x =
     if is_ambiguous found l then several_modal x.completion_type lists found l x
     else modal_at_rest x
 
-abbrev pub tab_effect : Bool → Modal → Completion → Transition
-tab_effect lists x found = then_do candidates_asked (offer_effect lists x found)
-
 -- without a helper a completion does nothing, as ever
 abbrev pub tab : Bool → Modal → Cmd → Setting → Value → Meeting
 tab lists x cmd s v =
     let found = candidates_given (completion_reply s v) in
     if is_some s.hooks
-    then takes (tab_effect lists x found) (modal_after_offer lists found v.line x) s v
+    then takes (then_do candidates_asked (offer_effect lists x found))
+    (modal_after_offer lists found v.line x) s v
     else pass_meeting x cmd v
 
 abbrev pub cycle : SearchDirection → Modal → Cmd → Setting → Value → Meeting

@@ -11,14 +11,13 @@ use Rattle.line_keys.specs.PhraseScripts.{Input, is_emacs, is_vi_command}
 use Rattle.line_keys.specs.declared.command.Cmd.{Cmd}
 use Rattle.line_keys.specs.declared.command.Cmd.TheVariants.{AcceptLine, BeginningOfHistory, CapitalizeWord, ClearScreen, Complete, CompleteHint, Dedent, DowncaseWord, EndOfFile, EndOfHistory, HistorySearchBackward, HistorySearchForward, Indent, Insert, Interrupt, Kill, Move, NextHistory, Repaint, Overwrite, PreviousHistory, ReplaceChar, Replace, SelfInsert, TransposeChars, TransposeWords, Undo, UpcaseWord, ViYankTo, Yank, YankPop, LineUpOrPreviousHistory, LineDownOrNextHistory, Newline, AcceptOrInsertLine}
 use Rattle.line_keys.specs.declared.command.InputMode.{InputMode}
-use Rattle.line_record.specs.Ring.{Ring, ring_after_yank, ring_after_turn, yank_exchange}
-use Rattle.line_edits.specs.Edits.{ring_without_kill}
-use Rattle.line_editor.specs.Accepting.{bare, newline, accept, accepts, accept_or_insert}
-use Rattle.line_editor.specs.Completing.{complete}
+use Rattle.line_record.specs.Ring.{Ring, ring_after_yank, ring_after_turn, yank_exchange, ring_all, ring_with_kill}
+use Rattle.line_edits.specs.Edits.{ring_without_kill, replace_group_if_any, overwrite_steps}
+use Rattle.line_editor.specs.Accepting.{bare, newline, accept, accepts, accept_or_insert, verdict}
+use Rattle.line_editor.specs.Completing.{complete, complete_hint}
 use Rattle.line_editor.specs.Drawing.{refresh_effect, clear_and_draw_effect, cursor_end_effect}
-use Rattle.line_editor.specs.Hinting.{complete_hint}
-use Rattle.line_editor.specs.Inserting.{insert_char, replace_char, overwrite_char}
-use Rattle.line_editor.specs.Killing.{kill_effect, replace, ring_with_kill_of, copy_effect, ring_with_copy}
+use Rattle.line_editor.specs.Inserting.{insert_char, clusters_replaced}
+use Rattle.line_editor.specs.Killing.{kill_effect, replace, copy_effect}
 use Rattle.line_editor.specs.Moving.{move_by, move_line_up, move_line_down}
 use Rattle.line_editor.specs.History.{history_step, history_end, history_search}
 use Rattle.line_editor.specs.Transforms.{transpose_chars_effect, transpose_words_effect, edit_word_effect, indent_by_setting, undo}
@@ -26,6 +25,9 @@ use Rattle.line_editor.specs.Values.{Value, Setting, Transition, no_effect}
 use Rattle.line_editor.specs.Yanking.{yank_text, yank_lent, pop_lent}
 use Rattle.line_editor.specs.declared.commands.Status.{Status}
 use Rattle.line_editor.specs.declared.commands.Status.TheVariants.{Proceed, Submit}
+use Rattle.std.specs.Option.{option_map_or}
+use Rattle.line_buffer.specs.Range.{copied_range, span_text, kill_events}
+use Rattle.line_buffer.specs.declared.types.Mode.TheVariants.{Append}
 
 -- what a command uses beside the state
 pub record Means : Type 0 where
@@ -60,8 +62,8 @@ effect m YankPop = pop_lent (yank_exchange m.ring)
 effect m (Move movement) = move_by movement
 effect m (Kill movement) = kill_effect movement
 effect m (Replace movement text) = replace movement text
-effect m (ReplaceChar n c) = replace_char c n
-effect m (Overwrite c) = overwrite_char c
+effect m (ReplaceChar n c) = clusters_replaced n (replace_group_if_any c n)
+effect m (Overwrite c) = clusters_replaced 1 (overwrite_steps c)
 effect m EndOfFile = bare
 effect m ClearScreen = clear_and_draw_effect
 effect m Repaint = refresh_effect
@@ -90,9 +92,10 @@ effect m (ViYankTo movement) = copy_effect movement
 effect m cmd = no_effect
 
 abbrev pub ring_after_command : Cmd → Value → Ring → Ring
-ring_after_command (Kill movement) v r = ring_with_kill_of movement v r
-ring_after_command (Replace movement text) v r = ring_with_kill_of movement v r
-ring_after_command (ViYankTo movement) v r = ring_with_copy movement v r
+ring_after_command (Kill movement) v r = ring_all (kill_events movement v.line) r
+ring_after_command (Replace movement text) v r = ring_all (kill_events movement v.line) r
+ring_after_command (ViYankTo movement) v r = option_map_or
+    (λ span. ring_with_kill (span_text span v.line) Append r) (copied_range movement v.line) r
 ring_after_command (Yank n anchor) v r = ring_after_yank r
 ring_after_command YankPop v r = ring_after_turn r
 ring_after_command cmd v r = r
@@ -117,6 +120,7 @@ end_of_file emacs v =
 abbrev pub outcome : Means → Cmd → Setting → Value → Result Status ReadlineError
 outcome m EndOfFile s v = end_of_file (is_emacs m.mode) v
 outcome m AcceptLine s v = Ok Submit
-outcome m (AcceptOrInsertLine middle) s v = if accepts middle s v then Ok Submit else Ok Proceed
+outcome m (AcceptOrInsertLine middle) s v =
+    if accepts middle (verdict s v) v.line then Ok Submit else Ok Proceed
 outcome m Interrupt s v = Err Interrupted
 outcome m cmd s v = Ok Proceed

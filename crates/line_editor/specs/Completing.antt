@@ -1,6 +1,7 @@
--- Completion: the word before the cursor replaced by the common prefix of its candidates.
+-- Completion: the word before the cursor replaced by the common prefix of its candidates; and a
+-- hint accepted.
 use Rattle.std.specs.Prelude.{◌≡◌, ◌⊎◌, ⊤, ℕ, Bool, ◌-◌, ◌==◌, ◌&&◌, ◌||◌, not, nat_le, nat_lt, if◌then◌else◌, List, [], ◌∷◌, map, length, Option, Some, None, is_some, unwrap_or, option_and_then}
-use Rattle.line_buffer.specs.Insertions.{is_inside_char}
+use Rattle.line_buffer.specs.Insertions.{is_inside_char, yank as yanked_in}
 use Rattle.line_buffer.specs.Line.{Line, with_replacement}
 use Rattle.line_buffer.specs.Event.{replacement}
 use Rattle.line_config.specs.declared.errors.HookFault.{HookFault}
@@ -10,7 +11,10 @@ use Rattle.line_help.specs.Completion.{longest_common_prefix, Offered, Completio
 use Rattle.line_keys.specs.Replies.{Reply, IsFaultOf}
 use Rattle.line_editor.specs.Drawing.{beep_effect, refresh_effect, effect_if}
 use Rattle.line_editor.specs.Values.EditStep.{Takes}
-use Rattle.line_editor.specs.Values.{Value, EditStep, Transition, then_do, value_with_edit, help_steps, completion_reply, update_reply}
+use Rattle.line_editor.specs.Values.{Value, EditStep, Transition, then_do, value_with_edit, help_steps, completion_reply, update_reply, no_effect, edit_effect, at_line}
+use Rattle.std.specs.Option.{option_map_or}
+use Rattle.line_buffer.specs.Rows.{row_end}
+use Rattle.line_edits.specs.Edits.{yank_steps, by}
 
 -- candidates for the word from a start on, by what each offers
 abbrev pub completion_from : {C : Type 0} → (C → Offered) → ℕ → List C → Completion
@@ -67,12 +71,9 @@ abbrev pub word_completed : ℕ → List ℕ → Transition
 word_completed start text = then_do (word_updated start text) refresh_effect
 
 -- a completion that adds nothing beeps
-abbrev pub complete_effect_with : ℕ → Option (List ℕ) → Transition
-complete_effect_with start None = beep_effect
-complete_effect_with start (Some text) = word_completed start text
-
 abbrev pub complete_effect : Completion → Transition
-complete_effect found s v = complete_effect_with found.start (common_text found v.line) s v
+complete_effect found s v =
+    option_map_or (word_completed found.start) (common_text found v.line) beep_effect s v
 
 -- the helper's candidates; none if it fails
 abbrev pub candidates_given : Option (Reply Completion) → Completion
@@ -87,3 +88,21 @@ candidates_asked s v = record { value = v; steps = help_steps v (completion_repl
 abbrev pub complete : Transition
 complete s v = effect_if (is_some s.hooks)
     (then_do candidates_asked (complete_effect (candidates_given (completion_reply s v)))) s v
+
+-- ---- a hint accepted
+
+-- at the row's end
+abbrev pub at_row_end : Value → Value
+at_row_end v = at_line (record v.line { place = row_end v.line.text v.line.place }) v
+
+-- a hint that adds nothing beeps
+abbrev pub complete_hint_effect : Option (List ℕ) → Transition
+complete_hint_effect None s v = then_do beep_effect refresh_effect s v
+complete_hint_effect (Some text) s v =
+    if is_some (yanked_in text 1 v.line).answer
+    then then_do (edit_effect (yank_steps text 1)) refresh_effect s v
+    else then_do beep_effect refresh_effect s (value_with_edit (by (yank_steps text 1)) v)
+
+abbrev pub complete_hint : Transition
+complete_hint s v =
+    option_map_or (λ h. complete_hint_effect h.completion s (at_row_end v)) v.hint (no_effect s v)

@@ -1,5 +1,5 @@
 -- The drawings of a value.
-use Rattle.std.specs.Prelude.{◌≡◌, ℕ, ◌&&◌, ◌||◌, Bool, true, false, if◌then◌else◌, List, [], Option, None, Some, option_copied}
+use Rattle.std.specs.Prelude.{◌≡◌, ℕ, ◌&&◌, ◌||◌, Bool, true, false, if◌then◌else◌, List, [], Option, None, Some, option_copied, is_some, option_and_then}
 use Rattle.std.specs.Borrow.{Bor}
 use Rattle.line_help.specs.declared.helpers.style.Span.{Span}
 use Rattle.line_help.specs.declared.helpers.style.Style.{Style}
@@ -10,7 +10,10 @@ use Rattle.line_editor.specs.Redraws.{Redraw}
 use Rattle.line_editor.specs.Redraws.Redraw.{Drawn, DrawnFrom, Moved, ToEnd, Beeped, Cleared}
 use Rattle.line_editor.specs.SharedStyles.{told_styles, noted_styles, shared_styles}
 use Rattle.line_editor.specs.Sights.{drawn_spans}
-use Rattle.line_editor.specs.Values.{Value, Setting, Transition, no_effect, then_do, draw_effect, shown_marks, hint_reply, help_steps, with_hint, without_hint, with_mark, shown_hint}
+use Rattle.line_editor.specs.Values.{Value, Setting, Transition, no_effect, then_do, draw_effect, shown_marks, hint_reply, help_steps, with_hint, without_hint, with_mark, shown_hint, open_group, close_groups}
+use Rattle.line_keys.specs.Refreshing.{Shown, Ask}
+use Rattle.line_keys.specs.Refreshing.Ask.{Line, Message, Prompted, DoingInsert, DoneInserting}
+use Rattle.line_record.specs.Held.{last_inserted}
 
 -- the line with its hint after the session's own prompt
 abbrev pub redraw_of : Setting → Value → Redraw
@@ -41,17 +44,12 @@ since s from v = if s.config.partial_redraw && begins_apart_at v.line.text from
 abbrev pub kept_upto : Since → Setting → Value → ℕ
 kept_upto before s v = shared_styles before.styles (told_styles before.from (line_spans s v))
 
--- whether the line may be drawn from there on: no cluster lies over either place in it
-abbrev pub may_begin_at : ℕ → Since → Value → Bool
-may_begin_at kept before v =
-    begins_apart_at v.line.text before.from && begins_apart_at v.line.text kept
-
--- the line with its hint, drawn from such a place on, if it may be
+-- the line with its hint, drawn from there on, if no cluster lies over either place in it
 abbrev pub redraw_since : Option Since → Setting → Value → Redraw
 redraw_since None s v = redraw_of s v
 redraw_since (Some before) s v =
     let kept = kept_upto before s v in
-    if may_begin_at kept before v
+    if begins_apart_at v.line.text before.from && begins_apart_at v.line.text kept
     then DrawnFrom s.prompt kept v.line.text v.line.place (shown_hint v) else redraw_of s v
 
 abbrev pub draw_effect_since : Option Since → Transition
@@ -62,16 +60,9 @@ abbrev pub draw_effect_behind : List ℕ → Bool → Transition
 draw_effect_behind prompt given s v =
     draw_effect (Drawn prompt given v.line.text v.line.place (shown_hint v)) s v
 
-abbrev pub repaint_effect : Transition
-repaint_effect s v = draw_effect_behind s.prompt true s v
-
 -- drawn with other information in place of the hint
 abbrev pub draw_effect_with : Option (List ℕ) → Transition
 draw_effect_with info s v = draw_effect (Drawn s.prompt true v.line.text v.line.place info) s v
-
--- the display's cursor moved to the text's cursor
-abbrev pub cursor_shown : Transition
-cursor_shown s v = draw_effect (Moved v.line.text v.line.place) s v
 
 -- the helper called for a hint; nothing is drawn
 abbrev pub hint_asked : Transition
@@ -81,12 +72,12 @@ hint_asked s v = record { value = with_hint s v; steps = help_steps v (hint_repl
 abbrev pub ask_anew_effect : Transition
 ask_anew_effect s v = record (hint_asked s v) { value = with_mark Other s (with_hint s v) }
 
-abbrev pub refresh_effect : Transition
-refresh_effect = then_do ask_anew_effect repaint_effect
-
--- the same after a change that leaves the line up to a place
+-- then the line is drawn, after a change that leaves it up to a place, if one is known
 abbrev pub refresh_effect_since : Option Since → Transition
 refresh_effect_since from = then_do ask_anew_effect (draw_effect_since from)
+
+abbrev pub refresh_effect : Transition
+refresh_effect = refresh_effect_since None
 
 -- an effect if a test holds, and none otherwise
 abbrev pub effect_if : Bool → Transition → Transition
@@ -112,8 +103,24 @@ cursor_end_effect = draw_effect ToEnd
 abbrev pub beep_effect : Transition
 beep_effect = draw_effect Beeped
 
-abbrev pub clear_effect : Transition
-clear_effect = draw_effect Cleared
-
 abbrev pub clear_and_draw_effect : Transition
-clear_and_draw_effect = then_do clear_effect refresh_effect
+clear_and_draw_effect = then_do (draw_effect Cleared) refresh_effect
+
+-- ---- the value as the key tables see it, and the effect of their calls on it
+
+abbrev pub shown_in : Value → Shown
+shown_in v = record {
+  line = v.line.text;
+  place = v.line.place;
+  hinted = is_some v.hint;
+  completion = option_and_then (λ h. h.completion) v.hint;
+  last_insert = last_inserted v.held;
+}
+
+-- the effect of a phrase's call
+abbrev pub ask_effect : Ask → Transition
+ask_effect Line = refresh_effect
+ask_effect (Prompted prompt) = refresh_effect_behind prompt
+ask_effect (Message text kind) = message_effect text kind
+ask_effect DoingInsert = open_group
+ask_effect DoneInserting = close_groups

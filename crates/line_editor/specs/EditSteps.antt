@@ -37,10 +37,6 @@ CutHelp fails takes Helper = IsTrue fails
 CutHelp fails takes Memory = IsTrue takes
 CutHelp fails takes why = ⊥
 
--- what a failed edit of line and record leaves: all else is as it was
-abbrev pub SameBeside : Value → Value → Type 0
-SameBeside v w = w ≡ record v { line = w.line; held = w.held }
-
 -- what a failed undo of the last items leaves: the line with the newest of their changes undone, at
 -- least one not, and an empty record. The changes are those of items that hold the record's texts
 pub record UndonePartly (count : ℕ) (v w : Value) : Type 0 where
@@ -50,10 +46,9 @@ pub record UndonePartly (count : ℕ) (v w : Value) : Type 0 where
   pub line : CutUndo (last_changes count items) v.line w.line
   pub beside : w ≡ record v { line = w.line; held = [] }
 
--- a step is made by its calls
-abbrev pub StepMade : {R : Type 0} → Canvas R → Ruler → Surface R → EditStep → Surface R → Type 0
-StepMade canvas r s step t = FoldsTo (MadeIn canvas) s.out (one r s.layout step).calls t.out
-    × (t.layout ≡ (one r s.layout step).layout)
+-- these calls were made
+abbrev pub CallsMade : {R : Type 0} → Canvas R → RedrawCalls → Surface R → Surface R → Type 0
+CallsMade canvas x s t = FoldsTo (MadeIn canvas) s.out x.calls t.out × (t.layout ≡ x.layout)
 
 -- a step that fails leaves the value as it says, and the stored layout. The display fails only in
 -- drawings, and has their first calls. Memory runs out only in edits, and in steps that take some
@@ -64,7 +59,8 @@ CutStep canvas r s (Draws v marks x) fault value t = (fault ≡ Display)
     × (t.layout ≡ s.layout) × (value ≡ v)
 CutStep canvas r s (Helped v fails takes) fault value t =
     CutHelp fails takes fault × (t ≡ s) × (value ≡ v)
-CutStep canvas r s (Edits v edit) fault value t = (fault ≡ Memory) × (t ≡ s) × SameBeside v value
+CutStep canvas r s (Edits v edit) fault value t = (fault ≡ Memory) × (t ≡ s)
+    × (value ≡ record v { line = value.line; held = value.held })
     × CutAlong edit.steps (line_and_record_of v) (line_and_record_of value)
 CutStep canvas r s (TakesBack v count) fault value t =
     (fault ≡ Memory) × (t ≡ s) × UndonePartly count v value
@@ -75,6 +71,6 @@ unfoldable pub CutEditSteps : {R : Type 0} → Canvas R → Ruler → List EditS
     → ReadlineError → Value → Surface R → Type 0
 CutEditSteps canvas r [] old fault value new = ⊥
 CutEditSteps {R} canvas r (step ∷ steps) old fault value new =
-    ((between : Surface R) × StepMade canvas r old step between
+    ((between : Surface R) × CallsMade canvas (one r old.layout step) old between
     × CutEditSteps canvas r steps between fault value new)
     ⊎ CutStep canvas r old step fault value new

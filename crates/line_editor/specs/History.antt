@@ -4,9 +4,10 @@ use Rattle.line_edits.specs.Edits.{update_steps, update_group}
 use Rattle.line_help.specs.Search.{Hit, entry_at, search_hit}
 use Rattle.line_help.specs.declared.history.search.SearchDirection.{SearchDirection}
 use Rattle.line_help.specs.declared.history.search.SearchDirection.TheVariants.{Forward, Reverse}
-use Rattle.line_editor.specs.Drawing.{refresh_effect, beep_effect}
-use Rattle.line_editor.specs.Values.{Value, Setting, Transition, no_effect, then_do, edit_effect}
+use Rattle.line_editor.specs.Drawing.{refresh_effect, beep_effect, effect_if}
+use Rattle.line_editor.specs.Values.{Value, Transition, no_effect, then_do, edit_effect}
 use Rattle.line_editor.specs.Values.EditStep.{Takes}
+use Rattle.std.specs.Option.{option_map_or}
 
 -- the line saved, to come back to it
 abbrev pub with_saved_line : Value → Value
@@ -15,22 +16,12 @@ with_saved_line v = record v { saved = record { text = v.line.text; place = v.li
 abbrev pub save_effect : Transition
 save_effect s v = record { value = with_saved_line v; steps = Takes v ∷ [] }
 
--- the saved line restored
-abbrev pub restore_effect : Transition
-restore_effect s v = edit_effect (update_steps v.saved.text v.saved.place) s v
-
 abbrev pub at_place : ℕ → Value → Value
 at_place place v = record v { history = place }
 
 -- the line is saved when it leaves the history's end
-abbrev pub value_on_leaving : Setting → Value → Value
-value_on_leaving s v = if v.history == length s.entries then with_saved_line v else v
-
 abbrev pub leave_effect : Transition
-leave_effect s v = record {
-  value = value_on_leaving s v;
-  steps = if v.history == length s.entries then Takes v ∷ [] else [];
-}
+leave_effect s v = effect_if (v.history == length s.entries) save_effect s v
 
 -- an entry in place of the line, the cursor at a place of it
 abbrev pub entry_shown : ℕ → List ℕ → ℕ → Transition
@@ -42,46 +33,34 @@ abbrev pub recall : ℕ → Option Hit → Transition
 recall index None s v = no_effect s v
 recall index (Some hit) s v = entry_shown index hit.entry (length hit.entry) s v
 
+-- the saved line restored
 abbrev pub come_back_effect : Transition
-come_back_effect s v = then_do restore_effect refresh_effect s (at_place (length s.entries) v)
+come_back_effect s v = then_do (edit_effect (update_steps v.saved.text v.saved.place))
+    refresh_effect s (at_place (length s.entries) v)
 
 -- an entry before the current one
 abbrev pub recall_earlier_effect : ℕ → Transition
 recall_earlier_effect index s v = then_do leave_effect (recall index (entry_at index s.entries)) s v
 
-abbrev pub previous_entry : Transition
-previous_entry s v =
+-- to the previous entry or to the next one, and to the first one or to the line
+abbrev pub history_step : Bool → Transition
+history_step true s v =
     if v.history == 0 then no_effect s v else recall_earlier_effect (v.history - 1) s v
-
-abbrev pub next_entry : Transition
-next_entry s v = if v.history == length s.entries then no_effect s v
+history_step false s v = if v.history == length s.entries then no_effect s v
     else if v.history + 1 == length s.entries then come_back_effect s v
     else recall (v.history + 1) (entry_at (v.history + 1) s.entries) s v
 
-abbrev pub first_entry : Transition
-first_entry s v = if v.history == 0 then no_effect s v else recall_earlier_effect 0 s v
-
-abbrev pub last_line : Transition
-last_line s v = if v.history == length s.entries then no_effect s v else come_back_effect s v
-
-abbrev pub history_step : Bool → Transition
-history_step true = previous_entry
-history_step false = next_entry
-
 abbrev pub history_end : Bool → Transition
-history_end true = first_entry
-history_end false = last_line
+history_end true s v = if v.history == 0 then no_effect s v else recall_earlier_effect 0 s v
+history_end false s v =
+    if v.history == length s.entries then no_effect s v else come_back_effect s v
 
 -- ---- entries that begin with the text before the cursor
 
-abbrev pub hit_effect : Option Hit → Transition
-hit_effect None s v = beep_effect s v
-hit_effect (Some hit) s v = entry_shown hit.idx hit.entry hit.pos s v
-
 -- the place moves even if nothing is found
 abbrev pub search_from : SearchDirection → ℕ → Transition
-search_from dir place s v =
-    hit_effect (search_hit true (take v.line.place v.line.text) place dir s.entries) s
+search_from dir place s v = option_map_or (λ hit. entry_shown hit.idx hit.entry hit.pos)
+    (search_hit true (take v.line.place v.line.text) place dir s.entries) beep_effect s
     (at_place place v)
 
 abbrev pub history_search : SearchDirection → Transition

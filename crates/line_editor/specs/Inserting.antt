@@ -4,7 +4,7 @@ use Rattle.std.specs.List.{list_all}
 use Rattle.line_buffer.specs.Clusters.{place_forward}
 use Rattle.line_buffer.specs.Insertions.{insert as insertion}
 use Rattle.line_buffer.specs.Line.{Line}
-use Rattle.line_edits.specs.Edits.{char_steps, text_steps, replace_group_if_any, overwrite_steps, by}
+use Rattle.line_edits.specs.Edits.{char_steps, text_steps, by}
 use Rattle.line_buffer.specs.Printable.{is_printable, is_plain, is_typed_at_end}
 use Rattle.line_editor.specs.Characters.{stands_apart}
 use Rattle.line_editor.specs.Drawing.{Since, since, redraw_since, ask_anew_effect, refresh_effect_since, effect_if}
@@ -13,6 +13,7 @@ use Rattle.line_editor.specs.Redraws.Redraw.{Typed, Appended, PutIn}
 use Rattle.line_editor.specs.Values.{Value, Setting, Transition, no_effect, then_do, draw_effect, value_with_edit, edit_effect}
 use Rattle.line_editor.specs.declared.way.Way.{Way}
 use Rattle.line_editor.specs.declared.way.Way.TheVariants.{AtEnd, Alone, Inside, Whole}
+use Rattle.line_edits.specs.WriteSteps.{WriteSteps}
 
 -- neither a hint nor a highlighted character
 abbrev pub is_bare : Value → Bool
@@ -58,12 +59,10 @@ put_redraw Alone c from s v = Appended s.prompt c v.line.text v.line.place
 put_redraw Inside c from s v = PutIn s.prompt c v.line.text v.line.place
 put_redraw way c from s v = redraw_since from s v
 
-abbrev pub show_char_effect : ℕ → Way → Option Since → Transition
-show_char_effect c way from s v = draw_effect (put_redraw (way_if_bare way v) c from s v) s v
-
 -- with a new hint
 abbrev pub show_inserted_effect : ℕ → Way → Option Since → Transition
-show_inserted_effect c way from = then_do ask_anew_effect (show_char_effect c way from)
+show_inserted_effect c way from = then_do ask_anew_effect
+    (λ s v. draw_effect (put_redraw (way_if_bare way v) c from s v) s v)
 
 abbrev pub insert_char : ℕ → ℕ → Transition
 insert_char c n s v =
@@ -78,13 +77,8 @@ insert_text text s v =
     if length text == 0 then no_effect s v
     else then_do (edit_effect (text_steps text)) (refresh_effect_since (since s v.line.place v)) s v
 
--- drawn if there is a cluster after the cursor
-abbrev pub replace_char : ℕ → ℕ → Transition
-replace_char c n s v = then_do (edit_effect (replace_group_if_any c n))
+-- an edit that replaces `n` clusters, drawn if there are so many after the cursor
+abbrev pub clusters_replaced : {A : Type 0} → ℕ → (Line → WriteSteps A) → Transition
+clusters_replaced n edit s v = then_do (edit_effect edit)
     (effect_if (is_some (place_forward n v.line))
-    (refresh_effect_since (since s v.line.place v))) s v
-
-abbrev pub overwrite_char : ℕ → Transition
-overwrite_char c s v = then_do (edit_effect (overwrite_steps c))
-    (effect_if (is_some (place_forward 1 v.line))
     (refresh_effect_since (since s v.line.place v))) s v

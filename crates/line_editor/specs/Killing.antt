@@ -4,10 +4,8 @@ use Rattle.std.specs.List.{list_all, last_or}
 use Rattle.std.specs.Option.{option_map_or}
 use Rattle.std.specs.Str.{is_utf8}
 use Rattle.line_buffer.specs.Line.{Line}
-use Rattle.line_buffer.specs.Range.{range_of, copied_range, span_text, kill_events}
-use Rattle.line_buffer.specs.declared.types.Mode.TheVariants.{Append}
+use Rattle.line_buffer.specs.Range.{range_of, copied_range}
 use Rattle.line_buffer.specs.declared.types.Movement.{Movement}
-use Rattle.line_record.specs.Ring.{Ring, ring_all, ring_with_kill}
 use Rattle.line_edits.specs.Edits.{kill_steps, by}
 use Rattle.line_buffer.specs.Printable.{is_printable, is_plain, at_plain_end}
 use Rattle.line_editor.specs.Characters.{stands_apart}
@@ -43,15 +41,13 @@ abbrev pub last_of_bare : Bool → Value → Option ℕ
 last_of_bare partial v =
     if partial && (is_bare v && is_utf8 v.line.text) then last_or None (chars v.line.text) else None
 
--- `count` bytes are gone from the line's end: this character, which is apart from what is left
-abbrev pub is_erased : ℕ → ℕ → Line → Bool
-is_erased c count l =
-    (l.place == length l.text) && ((count == length (encode_utf8 c)) && stands_apart l.text c)
-
--- whether erasing the cells of the line's last character may show it
+-- whether erasing the cells of the line's last character may show it: the `count` bytes that are
+-- gone from its end are this character, which is apart from what is left
 abbrev pub way_erased : ℕ → Line → Option ℕ → Way
 way_erased count l None = Whole
-way_erased count l (Some c) = if is_erased c count l then Back c else Whole
+way_erased count l (Some c) =
+    if (l.place == length l.text) && ((count == length (encode_utf8 c)) && stands_apart l.text c)
+    then Back c else Whole
 
 -- from the line before to this one: at the end of a plain line, before the end of what is left, or
 -- at the end by one character
@@ -72,13 +68,10 @@ taken_redraw Inside count from s v = TakenOut s.prompt count v.line.text v.line.
 taken_redraw (Back c) count from s v = Erased s.prompt c v.line.text v.line.place
 taken_redraw way count from s v = redraw_since from s v
 
-abbrev pub show_taken_effect : ℕ → Way → Option Since → Transition
-show_taken_effect count way from s v =
-    draw_effect (taken_redraw (way_if_bare way v) count from s v) s v
-
 -- with a new hint
 abbrev pub show_killed_effect : ℕ → Way → Option Since → Transition
-show_killed_effect count way from = then_do ask_anew_effect (show_taken_effect count way from)
+show_killed_effect count way from = then_do ask_anew_effect
+    (λ s v. draw_effect (taken_redraw (way_if_bare way v) count from s v) s v)
 
 -- the same for a deletion from a value, which leaves the cursor where it was
 abbrev pub show_taken : Value → Transition
@@ -92,23 +85,10 @@ kill_effect movement s v =
     then then_do (edit_effect (kill_steps movement)) (show_taken v) s v
     else no_effect s (value_with_edit (by (kill_steps movement)) v)
 
-abbrev pub insert_text_if : Option (List ℕ) → Transition
-insert_text_if None = no_effect
-insert_text_if (Some text) = insert_text text
-
 -- killed, and a text inserted there
 abbrev pub replace : Movement → Option (List ℕ) → Transition
-replace movement text = then_do (kill_effect movement) (insert_text_if text)
-
--- ---- the ring
-
-abbrev pub ring_with_kill_of : Movement → Value → Ring → Ring
-ring_with_kill_of movement v r = ring_all (kill_events movement v.line) r
+replace movement text = then_do (kill_effect movement) (option_map_or insert_text text no_effect)
 
 -- a copy takes memory; nothing is drawn
 abbrev pub copy_effect : Movement → Transition
 copy_effect movement s v = effect_if (is_some (copied_range movement v.line)) memory_effect s v
-
-abbrev pub ring_with_copy : Movement → Value → Ring → Ring
-ring_with_copy movement v r = option_map_or
-    (λ span. ring_with_kill (span_text span v.line) Append r) (copied_range movement v.line) r

@@ -14,7 +14,7 @@ use Rattle.line_keys.specs.KeyFeeds.{Coming}
 use Rattle.line_keys.specs.PhraseScripts.{Input}
 use Rattle.line_record.specs.Ring.{Ring}
 use Rattle.line_editor.specs.Accepting.{submit_effect}
-use Rattle.line_editor.specs.Asks.{ask_effect}
+use Rattle.line_editor.specs.Drawing.{ask_effect}
 use Rattle.line_editor.specs.Commands.{Means, effect}
 use Rattle.line_editor.specs.LineScripts.{Begins, LineAsk, LineState, effect_at, line_state, left_at, line_script, made_from, played_from, turn_script}
 use Rattle.line_editor.specs.ModalCommands.{modal_seen, sight_behind}

@@ -1,15 +1,12 @@
 pub mod Accepting
-pub mod Asks
 pub mod RenderCalls
 pub mod Candidates
 pub mod Characters
 pub mod Commands
 pub mod Completing
 pub mod Drawing
-pub mod Hinting
 pub mod Inserting
 pub mod Killing
-pub mod KnownPlaces
 pub mod Leads
 pub mod NextCommand
 pub mod LineScripts

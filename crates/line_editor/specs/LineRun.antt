@@ -1,8 +1,7 @@
 -- A whole line: what is passed in for it, what is returned, and what was read and drawn.
-use Rattle.std.specs.Prelude.{◌≡◌, ◌⊎◌, ℕ, Bool, true, false, ◌<◌, ◌≤◌, List, Option, Some, None, Result, Ok, Err, string_bytes, IsTrue, IfErr, OnOk}
+use Rattle.std.specs.Prelude.{◌≡◌, ◌⊎◌, ℕ, Bool, true, false, ◌<◌, ◌≤◌, List, Option, Some, None, Result, Ok, Err, string_bytes, IsTrue, IfErr, OnOk, length}
 use Rattle.line_buffer.specs.Line.{Line}
 use Rattle.line_buffer.specs.declared.layout.Layout.{Layout}
-use Rattle.script.specs.Played.{Played}
 use Rattle.script.specs.Scripts.{Goes}
 use Rattle.line_config.specs.declared.config.Config.{Config}
 use Rattle.line_config.specs.declared.errors.ReadlineError.{ReadlineError}
@@ -13,12 +12,12 @@ use Rattle.line_keys.specs.InputStates.{new_input}
 use Rattle.line_keys.specs.PhraseScripts.{Input}
 use Rattle.line_record.specs.Ring.{Ring}
 use Rattle.line_editor.specs.RenderCalls.{Canvas, Ruler}
-use Rattle.line_editor.specs.LineScripts.{LineState, LineAsk, LineStage, line_state, line_script, line_world, played_from, line_stage}
+use Rattle.line_editor.specs.LineScripts.{LineState, LineStage, line_state, line_script, line_world, line_stage}
 use Rattle.line_editor.specs.Modal.{Modal, modal_first}
 use Rattle.line_editor.specs.Redraws.{fresh}
 use Rattle.line_editor.specs.EditSteps.{surface}
 use Rattle.line_editor.specs.Turn.{cause_of}
-use Rattle.line_editor.specs.Values.{Value, Setting, first_value, IsFailing}
+use Rattle.line_editor.specs.Values.{Value, Setting, first_value, IsFailing, empty_at}
 pub use Rattle.line_editor.specs.Values.{Helping, setting_by, helper_from_hooks}
 use Rattle.line_editor.specs.declared.line_run.Ran.{Ran}
 
@@ -30,12 +29,6 @@ first_line_state s ring query coming =
 abbrev pub stage_first : {R : Type 0} → R → Ruler → Setting → Ring → List ℕ → Coming → LineStage R
 stage_first out r s ring query coming =
     line_stage (surface out (fresh r.mode)) (first_line_state s ring query coming)
-
--- its script, without faults
-abbrev pub line_played : ℕ → Setting → Custom → Ring → List ℕ → Coming
-    → Played LineAsk LineState ReadlineError (List ℕ)
-line_played n s custom ring query c =
-    played_from s (line_script n custom) (first_line_state s ring query c)
 
 -- a line that isn't accepted
 abbrev pub open_or : {A : Type 0} → Result A ReadlineError → Line → Option Line
@@ -61,10 +54,9 @@ breaks_after why = false
 -- the relation of `run`: a line goes as its script says. More fuel than the reader has keys and
 -- pastes is enough
 pub record Runs {R H K T : Type 0} (canvas : Canvas R) (helps : Option H → Helping)
-    (custom : Custom)
-    (prompt : List ℕ) (helper : Option H) (entries : List (List ℕ)) (config : Config) (out : R)
-    (ring : Ring) (query : List ℕ) (feed : KeyFeed) (ran : Ran R H K T) (ring' : Ring)
-    (query' : List ℕ) (feed' : KeyFeed) : Type 0 where
+    (custom : Custom) (prompt : List ℕ) (helper : Option H) (entries : List (List ℕ))
+    (config : Config) (out : R) (ring : Ring) (query : List ℕ) (feed : KeyFeed)
+    (ran : Ran R H K T) (ring' : Ring) (query' : List ℕ) (feed' : KeyFeed) : Type 0 where
   -- its value at its end
   pub value : Value
   pub input : Input
@@ -80,9 +72,7 @@ pub record Runs {R H K T : Type 0} (canvas : Canvas R) (helps : Option H → Hel
   pub told : IsTrue feed'.told → IsTrue feed.told
   pub keeps : feed'.bound ≤ feed.bound
   pub falls : OnOk ran.outcome (feed'.bound < feed.bound)
-  pub line_is :
-      let setting = setting_by (canvas.ruler out) prompt (helps helper) entries config in
-      IsOpen ran.outcome (first_value setting) value ran.open_line
+  pub line_is : IsOpen ran.outcome (empty_at (length entries)) value ran.open_line
   -- the helper's replies and the measures stay
   pub helper_stays : IsTrue feed'.told → helps ran.helper ≡ helps helper
   pub ruler_stays : IsTrue feed'.told → canvas.ruler ran.out ≡ canvas.ruler out

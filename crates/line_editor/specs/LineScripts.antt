@@ -1,25 +1,23 @@
 -- A line as a script: its requests in order, depending on the input, and where a fault stops it.
 use Rattle.std.specs.Prelude.{◌≡◌, ◌⊎◌, ℕ, zero, suc, List, [], ◌∷◌, ◌++◌, Result, Ok, Err}
-use Rattle.std.specs.List.{FoldsTo}
 use Rattle.script.specs.Played.{Plan, Played, play_of}
 use Rattle.script.specs.Scripts.{Script, Ends, Asks, World, then}
 use Rattle.line_config.specs.declared.errors.ReadlineError.{ReadlineError}
 use Rattle.line_config.specs.declared.errors.ReadlineError.TheVariants.{Memory}
 use Rattle.line_keys.specs.CustomBindings.{Custom}
-use Rattle.line_keys.specs.KeyFeeds.{IsReadFault, item_at, behind, Coming, coming_after_error}
+use Rattle.line_keys.specs.KeyFeeds.{IsReadFault, item_at, behind, Coming, coming_after_error, InputItem}
 use Rattle.line_keys.specs.Refreshing.{Shown}
 use Rattle.line_keys.specs.PhraseScripts.{Input, KeyAsk, Answer, KeyScript, steps, Needs, Shows, Reads, Becomes, Refuses}
 use Rattle.line_keys.specs.declared.command.Cmd.{Cmd}
 use Rattle.line_record.specs.Ring.{Ring}
 use Rattle.line_editor.specs.Accepting.{submit_effect}
-use Rattle.line_editor.specs.Asks.{shown_in, ask_effect}
-use Rattle.line_editor.specs.RenderCalls.{Canvas, Ruler, MadeIn}
+use Rattle.line_editor.specs.RenderCalls.{Canvas, Ruler}
 use Rattle.line_editor.specs.Commands.{means_of, effect, ring_after_command, CutRing, outcome}
-use Rattle.line_editor.specs.Drawing.{refresh_effect}
+use Rattle.line_editor.specs.Drawing.{refresh_effect, shown_in, ask_effect}
 use Rattle.line_editor.specs.ModalCommands.{meeting, meeting_effect}
 use Rattle.line_editor.specs.Modal.{Modal}
 use Rattle.line_editor.specs.NextCommand.{line_phrase, ring_after_reset}
-use Rattle.line_editor.specs.EditSteps.{calls_of_steps, Surface, CutEditSteps}
+use Rattle.line_editor.specs.EditSteps.{calls_of_steps, Surface, CutEditSteps, CallsMade}
 use Rattle.line_editor.specs.Values.{Value, Setting, EditStep, Effect, Transition, no_effect, memory_effect, then_do}
 use Rattle.line_editor.specs.declared.commands.Status.{Status}
 use Rattle.line_editor.specs.declared.commands.Status.TheVariants.{Proceed, Submit}
@@ -75,12 +73,9 @@ script_of_keys (Asks ask later) = Asks (Keys ask) (λ x. script_of_keys (later x
 abbrev pub phrase_script : ℕ → Custom → TurnStart → LineScript Cmd
 phrase_script n custom at = script_of_keys (steps (line_phrase custom at.input at.shown) n)
 
-abbrev pub obey_script : Cmd → LineScript Status
-obey_script cmd = Asks (Obeys cmd) (λ status. Ends status)
-
 -- a command, or what is left of it
 abbrev pub meet_script : Cmd → LineScript Status
-meet_script cmd = Asks (Meets cmd) (λ next. obey_script next)
+meet_script cmd = Asks (Meets cmd) (λ next. Asks (Obeys next) (λ status. Ends status))
 
 -- a phrase, and the command that it gives
 unfoldable pub turn_script : ℕ → Custom → LineScript Status
@@ -98,11 +93,9 @@ turns_script (suc n) custom = then (turn_script (suc n) custom)
     (line_script_after (turns_script n custom))
 
 -- drawn once memory has been taken for a line
-abbrev pub line_begun : Transition
-line_begun = then_do memory_effect refresh_effect
-
 unfoldable pub line_script : ℕ → Custom → LineScript (List ℕ)
-line_script n custom = Asks (Makes line_begun) (λ v. turns_script n custom)
+line_script n custom =
+    Asks (Makes (then_do memory_effect refresh_effect)) (λ v. turns_script n custom)
 
 -- ---- the meaning of each request
 
@@ -166,11 +159,6 @@ CutLineAsk (Obeys cmd) k e l = (l ≡ record k { value = l.value; ring = l.ring 
     × CutRing cmd k.value (ring_after_reset cmd k.ring) l.ring e
 CutLineAsk ask k e l = l ≡ record k { value = l.value }
 
--- a pasted text finds no memory
-abbrev pub IsUnreadText : LineAsk → ReadlineError → Type 0
-IsUnreadText (Keys (Reads item)) e = IsReadFault item e
-IsUnreadText ask e = ⊥
-
 -- a renderer with the stored layout, and the state that is passed on
 pub record LineStage (R : Type 0) : Type 0 where
   pub drawn : Surface R
@@ -179,26 +167,20 @@ pub record LineStage (R : Type 0) : Type 0 where
 abbrev pub line_stage : {R : Type 0} → Surface R → LineState → LineStage R
 line_stage drawn kept = record { drawn = drawn; kept = kept }
 
--- an edit's steps were made by their calls
-abbrev pub DrawnBy : {R : Type 0} → Canvas R → Ruler → List EditStep → Surface R → Surface R
-    → Type 0
-DrawnBy canvas r steps old new =
-    FoldsTo (MadeIn canvas) old.out (calls_of_steps r old.layout steps).calls new.out
-    × (new.layout ≡ (calls_of_steps r old.layout steps).layout)
-
 module _ {R : Type 0} (canvas : Canvas R) (r : Ruler) (s : Setting) where
   -- the edit was made whole, and the answer is its own
   abbrev pub Answered : LineStage R → (ask : LineAsk) → Result (LineAnswer ask) ReadlineError
       → LineStage R → Type 0
   Answered x ask result y = (answer_at s x.kept ask ≡ result) × (y.kept ≡ left_at s x.kept ask)
-      × DrawnBy canvas r (effect_at s x.kept ask).steps x.drawn y.drawn
+      × CallsMade canvas (calls_of_steps r x.drawn.layout (effect_at s x.kept ask).steps) x.drawn
+      y.drawn
 
-  -- a fault stopped the edit, or a read, after which every read fails
+  -- a fault stopped the edit, or the read of a text, after which every read fails
   abbrev pub Stopped : LineStage R → LineAsk → ReadlineError → LineStage R → Type 0
   Stopped x ask e y =
       (CutEditSteps canvas r (effect_at s x.kept ask).steps x.drawn e y.kept.value y.drawn
       × CutLineAsk ask x.kept e y.kept)
-      ⊎ ((left : List ℕ) × IsUnreadText ask e
+      ⊎ ((item : InputItem) × (left : List ℕ) × (ask ≡ Keys (Reads item)) × IsReadFault item e
       × (y ≡ line_stage x.drawn (record x.kept { coming = coming_after_error e left })))
 
   abbrev pub line_world : World LineAsk LineAnswer (LineStage R) ReadlineError

@@ -1,5 +1,5 @@
 -- The calls of a renderer and of the helper, and what is known of a renderer.
-use Rattle.std.specs.Prelude.{◌≡◌, ◌⊎◌, ℕ, Bool, List, [], ◌∷◌, Option, Result, OnOk, OnErr, IfErr, IsTrue, IsFalse}
+use Rattle.std.specs.Prelude.{◌≡◌, ◌⊎◌, ℕ, Bool, List, [], ◌∷◌, Option, Result, OnOk, OnErr, IfErr, IsTrue, IsFalse, ◌≤◌, nat_le, if◌then◌else◌, take, length, None, Some}
 use Rattle.line_buffer.specs.declared.layout.GraphemeClusterMode.{GraphemeClusterMode}
 use Rattle.line_buffer.specs.declared.layout.Layout.{Layout}
 use Rattle.line_buffer.specs.declared.layout.Position.{Position}
@@ -7,6 +7,8 @@ use Rattle.line_buffer.specs.declared.layout.TabStops.{TabStops}
 use Rattle.line_config.specs.declared.errors.ReadlineError.{ReadlineError}
 use Rattle.line_config.specs.declared.errors.ReadlineError.TheVariants.{Display}
 use Rattle.line_help.specs.Paints as help
+use Rattle.std.specs.Option.{ForSome}
+use Rattle.std.proofs.Props.{props}
 
 -- what a highlighter marks, and the styles of each text
 abbrev pub Marks : Type 0
@@ -89,3 +91,19 @@ pub record Idles {R A : Type 0} (canvas : Canvas R) (old new : R)
   pub stays : new ≡ old
   pub fault : IfErr result (λ e. e ≡ Display)
   pub failed : OnErr result (IsTrue (canvas.failed new))
+
+-- what is known of a place, if there is one: it is in the text, and the drawing of the text before
+-- it, from a start on, ends there
+pub record IsKnown (measure : List ℕ → Position → Position) (start : Position) (text : List ℕ)
+    (known : Option (ℕ × Position)) : Type 0 where
+  pub inside : ForSome known (λ k. k.0 ≤ length text)
+  pub at : ForSome known (λ k. k.1 ≡ measure (take k.0 text) start)
+
+pub IsKnown-prop : {measure : List ℕ → Position → Position} {start : Position} {text : List ℕ}
+    {known : Option (ℕ × Position)} → IsProp (IsKnown measure start text known)
+IsKnown-prop = Prim.hlevel props
+
+-- the known place, if it isn't past another one
+abbrev pub known_within : ℕ → Option (ℕ × Position) → Option (ℕ × Position)
+known_within place None = None
+known_within place (Some known) = if nat_le known.0 place then Some known else None

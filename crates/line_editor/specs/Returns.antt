@@ -6,7 +6,7 @@ use Rattle.line_keys.specs.Refreshing.{Ask}
 use Rattle.line_keys.specs.declared.command.Cmd.{Cmd}
 use Rattle.line_keys.specs.declared.command.Cmd.TheVariants.{Abort, BeginningOfHistory, Complete, HistorySearchBackward, HistorySearchForward, PreviousHistory, Undo}
 use Rattle.line_record.specs.Held.{record_after_close}
-use Rattle.line_editor.specs.Asks.{ask_effect}
+use Rattle.line_editor.specs.Drawing.{ask_effect}
 use Rattle.line_editor.specs.Candidates.{cycle_begun, cycle_first, cycle}
 use Rattle.line_editor.specs.Commands.{Means, effect}
 use Rattle.line_editor.specs.ModalCommands.{meeting_effect, meeting_in_search}

@@ -16,7 +16,7 @@ use Rattle.line_help.specs.declared.helpers.highlight.Highlighter as highlighter
 use Rattle.line_help.specs.declared.helpers.validate.Validator as validators
 use Rattle.line_help.specs.declared.history.History as histories
 use Rattle.line_record.specs.Items.{record_on}
-use Rattle.line_editor.specs.Asks.{shown_in, ask_effect}
+use Rattle.line_editor.specs.Drawing.{shown_in, ask_effect}
 use Rattle.line_editor.specs.RenderCalls.{MadeIn}
 use Rattle.line_editor.specs.Redraws.{fresh}
 use Rattle.line_editor.specs.EditSteps.{calls_of_steps, Surface, surface, CutHelp, CutEditSteps}

@@ -1,5 +1,6 @@
 //! Accepts lines.
-ghost use Rattle.std.specs.Prelude.{◌≡◌, IfOk, OnOk, option_copied};
+ghost use Rattle.std.specs.Prelude.{◌≡◌, IfOk, OnOk, option_copied, is_some};
+ghost use Rattle.line_editor.specs.Drawing.{effect_if, message_effect};
 
 use crate::faults::error_of;
 use crate::renderer::Renderer;
@@ -11,7 +12,7 @@ use line_keys::{CmdKind, Text};
 impl<'p, 'h, Out: Renderer, H: Helper + Drop, Hi: History> State<'p, 'h, Out, H, Hi> {
     ghost use Rattle.line_editor.specs.States.{value_of, setting_of, Does, Renders, Helps, Stays};
     ghost use Rattle.line_editor.specs.Values.{verdict_reply};
-    ghost use Rattle.line_editor.specs.Accepting.{bare, verdict, message_effect_if, verdict_told, verdict_effect, group_and_verdict_effect, validate, accepts_found, newline, accept, accepts, newline_if, accept_or_insert, submit_effect};
+    ghost use Rattle.line_editor.specs.Accepting.{bare, verdict, verdict_told, verdict_effect, group_and_verdict_effect, validate, accepts, newline, accept, newline_if, accept_or_insert, submit_effect};
 
     /// Draws the line as it was typed, without hint and highlighted character. Draws nothing if
     /// there is neither and the session's own prompt is shown.
@@ -62,7 +63,8 @@ impl<'p, 'h, Out: Renderer, H: Helper + Drop, Hi: History> State<'p, 'h, Out, H,
         text: &Option<Text>,
         kind: CmdKind,
     ) -> Result<(), ReadlineError>
-        ensures { Renders (message_effect_if draws text.now kind) self.old self.new result }
+        ensures { Renders (effect_if (draws || is_some text.now) (message_effect text.now kind))
+            self.old self.new result }
     {
         if draws || text.is_some() {
             self.tell(text_of(text), kind)
@@ -123,7 +125,7 @@ impl<'p, 'h, Out: Renderer, H: Helper + Drop, Hi: History> State<'p, 'h, Out, H,
 
     /// Whether a line with this verdict is accepted.
     fn accepts_line(&self, found: &ValidationResult, middle: bool) -> bool
-        ensures { result ≡ accepts_found middle found.now self.now.recorded.line }
+        ensures { result ≡ accepts middle found.now self.now.recorded.line }
     {
         found.is_valid() && (middle || self.recorded.line.is_end_of_input())
     }
@@ -148,7 +150,8 @@ impl<'p, 'h, Out: Renderer, H: Helper + Drop, Hi: History> State<'p, 'h, Out, H,
     pub(crate) fn accept_or_insert(&mut self, middle: bool) -> Result<bool, ReadlineError>
         ensures does { Does (accept_or_insert middle) self.old self.new result }
         ensures accepted { IfOk result
-            (λ b. b ≡ accepts middle (setting_of self.old) (value_of self.old)) }
+            (λ b. b ≡ accepts middle (verdict (setting_of self.old) (value_of self.old))
+            self.old.recorded.line) }
     {
         let found = self.accept()?;
         let accepted = self.accepts_line(&found, middle);

@@ -1,10 +1,12 @@
 //! What Tab makes of a line: its only candidate, one of several in turn, or a list of them.
-ghost use Rattle.std.specs.Prelude.{◌≡◌, ◌≤◌, ◌++◌, true, is_some, map, take, option_copied, string_bytes, IfErr, IfSome, OnOk, IsCharBoundary};
+ghost use Rattle.std.specs.Prelude.{◌≡◌, ◌≤◌, ◌++◌, true, is_some, map, take, option_copied, string_bytes, IfErr, IfSome, OnOk, IsCharBoundary, length, if◌then◌else◌};
+ghost use Rattle.std.specs.Option.{option_map_or};
 ghost use Rattle.line_config.specs.Refusals.{OrMemory};
 ghost use Rattle.line_config.specs.declared.errors.ReadlineError.TheVariants.{Memory};
-ghost use Rattle.line_editor.specs.Candidates.{only_put, only_completed, rows_of, more_row, list_text, list_shown, list_effect, list_standing, candidate_at, turn_effect, modal_after_turn, cycle_begun, cycle_first, cycle_back, next_turned, next_modal, ask_and_turn_effect, modal_after_ask, cycle_effect, cycle, several, several_modal, offer_effect, modal_after_offer, tab_effect, tab};
-ghost use Rattle.line_editor.specs.Completing.{common_text, completion_from};
+ghost use Rattle.line_editor.specs.Candidates.{only_put, rows_of, more_row, list_text, list_shown, list_effect, candidate_at, turn_effect, modal_after_turn, cycle_begun, cycle_first, cycle_back, ask_and_turn_effect, modal_after_ask, cycle_effect, cycle, several, several_modal, offer_effect, modal_after_offer, tab, cycle_at};
+ghost use Rattle.line_editor.specs.Completing.{common_text, completion_from, candidates_asked, word_completed};
 ghost use Rattle.line_editor.specs.Modal.{modal_of, next_of};
+ghost use Rattle.line_editor.specs.declared.modal_state.Standing.TheVariants.{Tabbed, Lists};
 
 use crate::completing::{begins_word, elected};
 use crate::modal_state::{ModalState, Next, Standing, cycle_at};
@@ -125,8 +127,8 @@ impl<'p, 'h, Out: Renderer, H: Helper + Drop, Hi: History> State<'p, 'h, Out, H,
         candidates: &[H::Candidate],
     ) -> Result<(), ReadlineError>
         requires { is_some self.old.helper ≡ true }
-        ensures { Does (only_completed
-            (completion_from H.Candidate.offers start candidates.now))
+        ensures { Does (λ s v. option_map_or (word_completed start) (only_put
+            (completion_from H.Candidate.offers start candidates.now) v.line) beep_effect s v)
             self.old self.new result }
     {
         match only_put(&self.recorded.line, start, candidates) {
@@ -158,9 +160,9 @@ impl<'p, 'h, Out: Renderer, H: Helper + Drop, Hi: History> State<'p, 'h, Out, H,
             (completion_from H.Candidate.offers start candidates.now))
             self.old self.new result }
         ensures modal { OnOk result (modal_of modal.new ≡ record (modal_of modal.old) {
-          standing = list_standing lists (common_text
+          standing = option_map_or (λ text. Tabbed) (common_text
               (completion_from H.Candidate.offers start candidates.now)
-              self.old.recorded.line);
+              self.old.recorded.line) (if lists then Lists else Tabbed);
         }) }
     {
         match elected(&self.recorded.line, start, candidates) {
@@ -286,8 +288,9 @@ impl<'p, 'h, Out: Renderer, H: Helper + Drop, Hi: History> State<'p, 'h, Out, H,
     /// Asks the helper for candidates, and shows what becomes of them.
     fn ask_and_offer(&mut self, modal: &mut ModalState, lists: bool) -> Result<(), ReadlineError>
         requires { is_some self.old.helper ≡ true }
-        ensures does { Does (λ s v. tab_effect lists (modal_of modal.old)
-            (candidates_given (completion_reply s v)) s v) self.old self.new result }
+        ensures does { Does (λ s v. then_do candidates_asked (offer_effect lists
+            (modal_of modal.old) (candidates_given (completion_reply s v))) s v)
+            self.old self.new result }
         ensures modal { OnOk result (modal_of modal.new ≡ modal_after_offer lists
             (candidates_given (completion_reply (setting_of self.old) (value_of self.old)))
             self.old.recorded.line (modal_of modal.old)) }
@@ -331,11 +334,13 @@ impl<'p, 'h, Out: Renderer, H: Helper + Drop, Hi: History> State<'p, 'h, Out, H,
         candidates: &[H::Candidate],
     ) -> Result<(), ReadlineError>
         requires { is_some self.old.helper ≡ true }
-        ensures does { Does (next_turned dir (modal_of modal.old)
-            (completion_from H.Candidate.offers start candidates.now))
+        ensures does { let found = completion_from H.Candidate.offers start candidates.now in
+            Does (turn_effect (cycle_at dir modal.old.candidate (length found.candidates)) found)
             self.old self.new result }
-        ensures modal { OnOk result (modal_of modal.new ≡ next_modal dir
-            (completion_from H.Candidate.offers start candidates.now)
+        ensures modal { OnOk result (
+            let found = completion_from H.Candidate.offers start candidates.now in
+            modal_of modal.new ≡ modal_after_turn
+            (cycle_at dir modal.old.candidate (length found.candidates)) found
             self.old.recorded.line (modal_of modal.old)) }
     {
         let at = cycle_at(dir, modal.candidate, candidates.len());

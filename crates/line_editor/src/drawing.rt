@@ -219,11 +219,11 @@ fn draw_over<Out: Renderer, H: Highlighter, T: Hint>(
 impl<'p, 'h, Out: Renderer, H: Helper + Drop, Hi: History> State<'p, 'h, Out, H, Hi> {
     ghost use Rattle.line_editor.specs.States.{value_of, setting_of, Stays, Does, Renders, Helps};
     ghost use Rattle.line_editor.specs.Values.{hint_reply, with_hint, with_mark};
-    ghost use Rattle.line_editor.specs.Drawing.{draw_effect_behind, draw_effect_with, repaint_effect, refresh_effect, refresh_effect_behind, message_effect, cursor_shown, cursor_moved, cursor_end_effect, beep_effect, clear_effect, clear_and_draw_effect};
+    ghost use Rattle.line_editor.specs.Drawing.{draw_effect_behind, draw_effect_with, refresh_effect, refresh_effect_behind, message_effect, cursor_moved, cursor_end_effect, beep_effect, clear_and_draw_effect, draw_effect_since};
     ghost use Rattle.line_editor.specs.Drawing.{hint_asked, ask_anew_effect};
     ghost use Rattle.line_editor.specs.Inserting.{is_bare};
     ghost use Rattle.line_editor.specs.Values.{draw_effect};
-    ghost use Rattle.line_editor.specs.Redraws.Redraw.{Typed, Appended, Taken, Erased, PutIn, TakenOut, Rewritten, Bared};
+    ghost use Rattle.line_editor.specs.Redraws.Redraw.{Typed, Appended, Taken, Erased, PutIn, TakenOut, Rewritten, Bared, Moved, Cleared};
     ghost use Rattle.line_editor.specs.RenderCalls.Call.{ToLeftmost};
     ghost use Rattle.line_keys.specs.declared.command.CmdKind.TheVariants.{Other};
 
@@ -315,7 +315,7 @@ impl<'p, 'h, Out: Renderer, H: Helper + Drop, Hi: History> State<'p, 'h, Out, H,
 
     /// Draws the line with the current hint. Everything is redrawn, whatever the kind.
     pub fn repaint(&mut self, _kind: RefreshKind) -> Result<(), ReadlineError>
-        ensures { Renders repaint_effect self.old self.new result }
+        ensures { Renders (draw_effect_since None) self.old self.new result }
     {
         let prompt = self.prompt;
         self.draw(prompt, true)
@@ -358,7 +358,7 @@ impl<'p, 'h, Out: Renderer, H: Helper + Drop, Hi: History> State<'p, 'h, Out, H,
 
     /// Moves the display's cursor to the text's cursor.
     pub(crate) fn show_cursor(&mut self) -> Result<(), ReadlineError>
-        ensures { Renders cursor_shown self.old self.new result }
+        ensures { Renders (λ s v. draw_effect (Moved v.line.text v.line.place) s v) self.old self.new result }
     {
         let pos = self.recorded.line.pos();
         let cursor = self.position_at(pos);
@@ -416,7 +416,7 @@ impl<'p, 'h, Out: Renderer, H: Helper + Drop, Hi: History> State<'p, 'h, Out, H,
 
     /// Erases the display. The stored layout is as before the first drawing.
     pub fn clear_screen(&mut self) -> Result<(), ReadlineError>
-        ensures { Renders clear_effect self.old self.new result }
+        ensures { Renders (draw_effect Cleared) self.old self.new result }
     {
         self.known = None;
         self.out.clear_screen()?;

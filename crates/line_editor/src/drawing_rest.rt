@@ -1,5 +1,6 @@
 //! Draws a line from a place on.
-ghost use Rattle.std.specs.Prelude.{◌≡◌, IfSome, None, Some, if◌then◌else◌, IsCharBoundary};
+ghost use Rattle.std.specs.Prelude.{◌≡◌, IfSome, None, Some, if◌then◌else◌, IsCharBoundary, ◌&&◌};
+ghost use Rattle.line_editor.specs.Characters.{begins_apart_at};
 
 use crate::characters::begins_apart_at;
 use crate::drawing::{display_of, highlighter_of, tells};
@@ -11,7 +12,7 @@ use line_help::{Helper, History, Part};
 
 impl<'p, 'h, Out: Renderer, H: Helper + Drop, Hi: History> State<'p, 'h, Out, H, Hi> {
     ghost use Rattle.line_editor.specs.States.{value_of, setting_of, Does, Renders};
-    ghost use Rattle.line_editor.specs.Drawing.{AreNoted, kept_upto, line_spans, may_begin_at, since, draw_effect_since, refresh_effect_since};
+    ghost use Rattle.line_editor.specs.Drawing.{AreNoted, kept_upto, line_spans, since, draw_effect_since, refresh_effect_since};
     ghost use Rattle.line_editor.specs.Redraws.Redraw.{DrawnFrom};
     ghost use Rattle.line_editor.specs.SharedStyles.{noted_styles, told_styles};
     ghost use Rattle.line_editor.specs.Values.{draw_effect, shown_hint};
@@ -66,7 +67,9 @@ impl<'p, 'h, Out: Renderer, H: Helper + Drop, Hi: History> State<'p, 'h, Out, H,
     /// The same place, if the line may be drawn from there on.
     fn place_since(&self, since: &Since<'_>) -> Option<usize>
         ensures place { let kept = kept_upto since.now (setting_of self.now) (value_of self.now) in
-            result ≡ (if may_begin_at kept since.now (value_of self.now) then Some kept else None) }
+            let text = self.now.recorded.line.text in
+            result ≡ (if begins_apart_at text since.now.from && begins_apart_at text kept
+            then Some kept else None) }
         ensures boundary { IfSome result (IsCharBoundary self.now.recorded.line.text) }
     {
         let text = self.recorded.line.as_str();

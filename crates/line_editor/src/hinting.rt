@@ -9,7 +9,7 @@ use line_help::{Helper, Hint, History};
 impl<'p, 'h, Out: Renderer, H: Helper + Drop, Hi: History> State<'p, 'h, Out, H, Hi> {
     ghost use Rattle.line_editor.specs.States.{value_of, setting_of, Does};
     ghost use Rattle.line_editor.specs.Drawing.{beep_effect, refresh_effect};
-    ghost use Rattle.line_editor.specs.Hinting.{complete_hint};
+    ghost use Rattle.line_editor.specs.Completing.{complete_hint};
     ghost use Rattle.line_editor.specs.Values.{then_do};
 
     /// Beeps, and draws the line with a new hint.

@@ -1,5 +1,5 @@
 //! Shows history entries in place of the line.
-ghost use Rattle.std.specs.Prelude.{◌≡◌, ◌<◌, ◌≤◌, length, IsCharBoundary};
+ghost use Rattle.std.specs.Prelude.{◌≡◌, ◌<◌, ◌≤◌, length, IsCharBoundary, true, false};
 
 use crate::renderer::Renderer;
 use crate::saved::SavedLine;
@@ -10,7 +10,9 @@ use line_help::{Helper, History, SearchDirection};
 #[tactic(auto, using(crate::proofs::StopsLemmas::recalls_stop))]
 impl<'p, 'h, Out: Renderer, H: Helper + Drop, Hi: History> State<'p, 'h, Out, H, Hi> {
     ghost use Rattle.line_editor.specs.States.{setting_of, Does};
-    ghost use Rattle.line_editor.specs.History.{save_effect, restore_effect, come_back_effect, previous_entry, next_entry, first_entry, last_line, history_step, history_end, entry_shown, recall_earlier_effect, leave_effect, search_from, history_search};
+    ghost use Rattle.line_edits.specs.Edits.{update_steps};
+    ghost use Rattle.line_editor.specs.Values.{edit_effect};
+    ghost use Rattle.line_editor.specs.History.{save_effect, come_back_effect, history_step, history_end, entry_shown, recall_earlier_effect, leave_effect, search_from, history_search};
 
     /// Saves the line to come back to it.
     pub fn backup(&mut self) -> Result<(), ReadlineError>
@@ -23,7 +25,8 @@ impl<'p, 'h, Out: Renderer, H: Helper + Drop, Hi: History> State<'p, 'h, Out, H,
 
     /// Restores the saved line, as one change.
     pub fn restore(&mut self) -> Result<(), ReadlineError>
-        ensures does { Does restore_effect self.old self.new result }
+        ensures does { Does (λ s v. edit_effect (update_steps v.saved.text v.saved.place) s v)
+            self.old self.new result }
     {
         self.known = None;
         self.recorded
@@ -77,7 +80,7 @@ impl<'p, 'h, Out: Renderer, H: Helper + Drop, Hi: History> State<'p, 'h, Out, H,
     }
 
     fn edit_previous_entry(&mut self) -> Result<(), ReadlineError>
-        ensures does { Does previous_entry self.old self.new result }
+        ensures does { Does (history_step true) self.old self.new result }
     {
         let place = self.ctx.history_index();
         if place == 0 {
@@ -87,7 +90,7 @@ impl<'p, 'h, Out: Renderer, H: Helper + Drop, Hi: History> State<'p, 'h, Out, H,
     }
 
     fn edit_next_entry(&mut self) -> Result<(), ReadlineError>
-        ensures does { Does next_entry self.old self.new result }
+        ensures does { Does (history_step false) self.old self.new result }
     {
         let history = self.ctx.history();
         let place = self.ctx.history_index();
@@ -116,7 +119,7 @@ impl<'p, 'h, Out: Renderer, H: Helper + Drop, Hi: History> State<'p, 'h, Out, H,
     }
 
     fn edit_first_entry(&mut self) -> Result<(), ReadlineError>
-        ensures does { Does first_entry self.old self.new result }
+        ensures does { Does (history_end true) self.old self.new result }
     {
         let place = self.ctx.history_index();
         if place == 0 {
@@ -126,7 +129,7 @@ impl<'p, 'h, Out: Renderer, H: Helper + Drop, Hi: History> State<'p, 'h, Out, H,
     }
 
     fn edit_last_line(&mut self) -> Result<(), ReadlineError>
-        ensures does { Does last_line self.old self.new result }
+        ensures does { Does (history_end false) self.old self.new result }
     {
         if self.ctx.history_index() == self.ctx.history().len() {
             return Ok(());

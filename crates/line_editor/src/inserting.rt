@@ -2,6 +2,7 @@
 ghost use Rattle.std.specs.Prelude.{◌≡◌, is_some};
 ghost use Rattle.line_buffer.specs.Printable.{at_plain_end, at_simple_end};
 ghost use Rattle.line_editor.specs.Characters.{stands_apart};
+ghost use Rattle.line_edits.specs.Edits.{replace_group_if_any, overwrite_steps};
 
 use crate::characters::stands_apart;
 use crate::measured::known_within;
@@ -16,7 +17,7 @@ use line_help::{Helper, History};
 impl<'p, 'h, Out: Renderer, H: Helper + Drop, Hi: History> State<'p, 'h, Out, H, Hi> {
     ghost use Rattle.line_editor.specs.States.{value_of, setting_of, Does};
     ghost use Rattle.line_editor.specs.Drawing.{AreNoted};
-    ghost use Rattle.line_editor.specs.Inserting.{is_bare, has_printable_rest, may_be_typed, may_be_appended, may_be_put_in, insertion_way, way_if_bare, show_inserted_effect, insert_char, insert_text, replace_char, overwrite_char};
+    ghost use Rattle.line_editor.specs.Inserting.{is_bare, has_printable_rest, may_be_typed, may_be_appended, may_be_put_in, insertion_way, way_if_bare, show_inserted_effect, insert_char, insert_text, clusters_replaced};
 
     /// Whether neither a hint nor a highlighted character is shown.
     pub(crate) fn is_bare(&self) -> bool
@@ -227,7 +228,8 @@ impl<'p, 'h, Out: Renderer, H: Helper + Drop, Hi: History> State<'p, 'h, Out, H,
 
     /// Replaces up to `n` clusters after the cursor by a character each.
     pub fn edit_replace_char(&mut self, ch: char, n: RepeatCount) -> Result<(), ReadlineError>
-        ensures does { Does (replace_char ch n) self.old self.new result }
+        ensures does { Does (clusters_replaced n (replace_group_if_any ch n)) self.old self.new
+            result }
     {
         if self.highlight_char {
             return self.replace_char_in_styles(ch, n);
@@ -239,7 +241,8 @@ impl<'p, 'h, Out: Renderer, H: Helper + Drop, Hi: History> State<'p, 'h, Out, H,
     /// lines need no frame for them.
     #[inline(never)]
     fn replace_char_in_styles(&mut self, ch: char, n: RepeatCount) -> Result<(), ReadlineError>
-        ensures does { Does (replace_char ch n) self.old self.new result }
+        ensures does { Does (clusters_replaced n (replace_group_if_any ch n)) self.old self.new
+            result }
     {
         let noted = self.line_spans(self.recorded.line.pos());
         self.replace_char_noted(ch, n, noted.as_ref())
@@ -255,7 +258,8 @@ impl<'p, 'h, Out: Renderer, H: Helper + Drop, Hi: History> State<'p, 'h, Out, H,
     ) -> Result<(), ReadlineError>
         requires noted { AreNoted (setting_of self.old) self.old.recorded.line.place
             (value_of self.old) noted }
-        ensures does { Does (replace_char ch n) self.old self.new result }
+        ensures does { Does (clusters_replaced n (replace_group_if_any ch n)) self.old self.new
+            result }
     {
         let pos = self.recorded.line.pos();
         let since = self.since(pos, noted);
@@ -272,7 +276,7 @@ impl<'p, 'h, Out: Renderer, H: Helper + Drop, Hi: History> State<'p, 'h, Out, H,
 
     /// Overwrites the cluster at the cursor with a character.
     pub fn edit_overwrite_char(&mut self, ch: char) -> Result<(), ReadlineError>
-        ensures does { Does (overwrite_char ch) self.old self.new result }
+        ensures does { Does (clusters_replaced 1 (overwrite_steps ch)) self.old self.new result }
     {
         if self.highlight_char {
             return self.overwrite_char_in_styles(ch);
@@ -284,7 +288,7 @@ impl<'p, 'h, Out: Renderer, H: Helper + Drop, Hi: History> State<'p, 'h, Out, H,
     /// lines need no frame for them.
     #[inline(never)]
     fn overwrite_char_in_styles(&mut self, ch: char) -> Result<(), ReadlineError>
-        ensures does { Does (overwrite_char ch) self.old self.new result }
+        ensures does { Does (clusters_replaced 1 (overwrite_steps ch)) self.old self.new result }
     {
         let noted = self.line_spans(self.recorded.line.pos());
         self.overwrite_char_noted(ch, noted.as_ref())
@@ -299,7 +303,7 @@ impl<'p, 'h, Out: Renderer, H: Helper + Drop, Hi: History> State<'p, 'h, Out, H,
     ) -> Result<(), ReadlineError>
         requires noted { AreNoted (setting_of self.old) self.old.recorded.line.place
             (value_of self.old) noted }
-        ensures does { Does (overwrite_char ch) self.old self.new result }
+        ensures does { Does (clusters_replaced 1 (overwrite_steps ch)) self.old self.new result }
     {
         let pos = self.recorded.line.pos();
         let since = self.since(pos, noted);

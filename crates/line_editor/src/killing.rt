@@ -4,8 +4,10 @@ ghost use Rattle.line_buffer.specs.Range.{FindsSpan, IsSpanOf, copied_range, del
 ghost use Rattle.line_config.specs.declared.errors.ReadlineError.{ReadlineError};
 ghost use Rattle.line_buffer.specs.Printable.{at_plain_end, is_printable};
 ghost use Rattle.std.specs.List.{list_all};
+ghost use Rattle.std.specs.Option.{option_map_or};
 ghost use Rattle.line_editor.specs.declared.way.Way.TheVariants.{AtEnd, Inside};
-ghost use Rattle.line_keys.specs.declared.command.Cmd.TheVariants.{Kill};
+ghost use Rattle.line_keys.specs.declared.command.Cmd.TheVariants.{Kill, ViYankTo};
+ghost use Rattle.line_editor.specs.Values.{no_effect};
 
 use crate::characters::{last_char, stands_apart};
 use crate::measured::known_within;
@@ -22,9 +24,9 @@ use line_record::KillRing;
 impl<'p, 'h, Out: Renderer, H: Helper + Drop, Hi: History> State<'p, 'h, Out, H, Hi> {
     ghost use Rattle.line_editor.specs.States.{value_of, setting_of, Does, Stays};
     ghost use Rattle.line_editor.specs.Drawing.{AreNoted};
-    ghost use Rattle.line_editor.specs.Inserting.{has_printable_rest};
-    ghost use Rattle.line_editor.specs.Killing.{may_be_taken, may_be_taken_out, text_gone, last_of_bare, way_erased, show_killed_effect, kill_way, kill_effect, insert_text_if, replace, ring_with_kill_of, ring_with_copy};
-    ghost use Rattle.line_editor.specs.Commands.{CutRing};
+    ghost use Rattle.line_editor.specs.Inserting.{has_printable_rest, insert_text};
+    ghost use Rattle.line_editor.specs.Killing.{may_be_taken, may_be_taken_out, text_gone, last_of_bare, way_erased, show_killed_effect, kill_way, kill_effect, replace};
+    ghost use Rattle.line_editor.specs.Commands.{ring_after_command, CutRing};
 
     /// Whether erasing the rest of the row may show the kill of a range: printable characters,
     /// deleted from a bare line.
@@ -166,7 +168,7 @@ impl<'p, 'h, Out: Renderer, H: Helper + Drop, Hi: History> State<'p, 'h, Out, H,
     ) -> Result<(), ReadlineError>
         ensures does { Does (kill_effect movement.now) self.old self.new result }
         ensures ring { OnOk result
-            (ring.new ≡ ring_with_kill_of movement.now (value_of self.old) ring.old) }
+            (ring.new ≡ ring_after_command (Kill movement.now) (value_of self.old) ring.old) }
         ensures refused_ring { IfErr result
             (CutRing (Kill movement.now) (value_of self.old) ring.old ring.new) }
     {
@@ -190,7 +192,7 @@ impl<'p, 'h, Out: Renderer, H: Helper + Drop, Hi: History> State<'p, 'h, Out, H,
             FindsSpan (range_of movement.now line) line.text span }
         ensures does { Does (kill_effect movement.now) self.old self.new result }
         ensures ring { OnOk result
-            (ring.new ≡ ring_with_kill_of movement.now (value_of self.old) ring.old) }
+            (ring.new ≡ ring_after_command (Kill movement.now) (value_of self.old) ring.old) }
         ensures refused_ring { IfErr result
             (CutRing (Kill movement.now) (value_of self.old) ring.old ring.new) }
     {
@@ -213,7 +215,7 @@ impl<'p, 'h, Out: Renderer, H: Helper + Drop, Hi: History> State<'p, 'h, Out, H,
             AreNoted (setting_of self.old) line.place (value_of self.old) noted }
         ensures does { Does (kill_effect movement.now) self.old self.new result }
         ensures ring { OnOk result
-            (ring.new ≡ ring_with_kill_of movement.now (value_of self.old) ring.old) }
+            (ring.new ≡ ring_after_command (Kill movement.now) (value_of self.old) ring.old) }
         ensures refused_ring { IfErr result
             (CutRing (Kill movement.now) (value_of self.old) ring.old ring.new) }
     {
@@ -238,7 +240,8 @@ impl<'p, 'h, Out: Renderer, H: Helper + Drop, Hi: History> State<'p, 'h, Out, H,
 
     /// Inserts a text at the cursor, if there is one.
     fn insert_some(&mut self, text: &Option<Text>) -> Result<(), ReadlineError>
-        ensures does { Does (insert_text_if text.now) self.old self.new result }
+        ensures does { Does (option_map_or insert_text text.now no_effect) self.old self.new
+            result }
     {
         if let Some(text) = text {
             self.edit_insert_text(text.as_str())
@@ -256,7 +259,7 @@ impl<'p, 'h, Out: Renderer, H: Helper + Drop, Hi: History> State<'p, 'h, Out, H,
     ) -> Result<(), ReadlineError>
         ensures does { Does (replace movement.now text.now) self.old self.new result }
         ensures ring { OnOk result
-            (ring.new ≡ ring_with_kill_of movement.now (value_of self.old) ring.old) }
+            (ring.new ≡ ring_after_command (Kill movement.now) (value_of self.old) ring.old) }
         ensures refused_ring { IfErr result
             (CutRing (Kill movement.now) (value_of self.old) ring.old ring.new) }
     {
@@ -271,7 +274,7 @@ impl<'p, 'h, Out: Renderer, H: Helper + Drop, Hi: History> State<'p, 'h, Out, H,
         ring: &mut KillRing,
     ) -> Result<(), ReadlineError>
         ensures ring { OnOk result
-            (ring.new ≡ ring_with_copy movement.now (value_of self.now) ring.old) }
+            (ring.new ≡ ring_after_command (ViYankTo movement.now) (value_of self.now) ring.old) }
         ensures refused { IfErr result (λ e. (e ≡ ReadlineError.Memory) × (ring.new ≡ ring.old)
             × IsTrue (is_some (copied_range movement.now (value_of self.now).line))) }
     {

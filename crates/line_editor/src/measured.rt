@@ -1,6 +1,6 @@
 //! Where the drawing of the line up to a place ends, computed from a place for which this is known.
 ghost use Rattle.std.specs.Prelude.{◌≡◌, take, IsCharBoundary, IsTrue, None, Some, true, if◌then◌else◌, option_map};
-ghost use Rattle.line_editor.specs.KnownPlaces.{IsKnownOn, known_within};
+ghost use Rattle.line_editor.specs.RenderCalls.{IsKnown, known_within};
 ghost use Rattle.line_editor.specs.Redraws.{layout_of};
 
 use crate::drawing::display_of;
@@ -42,7 +42,7 @@ impl<'p, 'h, Out: Renderer, H: Helper + Drop, Hi: History> State<'p, 'h, Out, H,
 
     /// The layout of the line with its hint, computed from a known place.
     pub(crate) fn layout_from(&self, known: (usize, Position)) -> Layout
-        requires known { IsKnownOn (Out.canvas.ruler self.now.out) self.now.layout
+        requires known { IsKnown (Out.canvas.ruler self.now.out).measure self.now.layout.prompt_size
             self.now.recorded.line.text (Some known) }
         ensures { let line = self.now.recorded.line in
             result ≡ layout_of (Out.canvas.ruler self.now.out) self.now.layout.prompt_size true
@@ -88,7 +88,7 @@ impl<'p, 'h, Out: Renderer, H: Helper + Drop, Hi: History> State<'p, 'h, Out, H,
     /// The known place, or an earlier one in its stead, if it is to `follow` a deletion back there.
     pub(crate) fn known_before(&self, follow: bool, earlier: usize) -> Option<(usize, Position)>
         requires boundary { IsCharBoundary self.now.recorded.line.text earlier }
-        ensures { IsKnownOn (Out.canvas.ruler self.now.out) self.now.layout
+        ensures { IsKnown (Out.canvas.ruler self.now.out).measure self.now.layout.prompt_size
             self.now.recorded.line.text result }
     {
         match self.known {

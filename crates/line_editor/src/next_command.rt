@@ -28,7 +28,7 @@ pub(crate) fn reset_for(ring: &mut KillRing, cmd: &Cmd)
 }
 
 impl<'p, 'h, Out: Renderer, H: Helper + Drop, Hi: History> State<'p, 'h, Out, H, Hi> {
-    ghost use Rattle.line_editor.specs.Asks.{shown_in};
+    ghost use Rattle.line_editor.specs.Drawing.{shown_in};
     ghost use Rattle.line_editor.specs.States.{value_of, display_of};
 
     /// The next command. Only its own keys and pastes are read. A group begins if the command

@@ -1,9 +1,8 @@
 //! The trait of renderers.
 ghost use Rattle.std.specs.Prelude.{◌≡◌, ◌+◌, ◌<◌, ◌≤◌, true, false, take, Some, OnErr, IfOk, IfErr, IsTrue, IsCharBoundary, option_copied, option_map, length};
 ghost use Rattle.line_buffer.specs.Printable.{is_plain};
-ghost use Rattle.line_editor.specs.KnownPlaces.{IsKnown};
 ghost use Rattle.line_config.specs.declared.errors.ReadlineError.TheVariants.{Display};
-ghost use Rattle.line_editor.specs.RenderCalls.{Canvas, Makes, Idles};
+ghost use Rattle.line_editor.specs.RenderCalls.{Canvas, Makes, Idles, IsKnown};
 ghost use Rattle.line_editor.specs.RenderCalls.Call.{Draw, Move, Write, Beep, ClearScreen, ClearRows, ClearToEol, MoveAndClearToEol, InsertChar, MoveAndDelete, Append, DrawRest, ToLeftmost, WriteOver};
 ghost use Rattle.line_editor.specs.Redraws.{layout_of};
 ghost use Rattle.line_editor.specs.Values.{marks_seen};

@@ -1,5 +1,5 @@
 //! The state of an edited line.
-ghost use Rattle.line_editor.specs.KnownPlaces.{IsKnown-prop, IsKnownOn};
+ghost use Rattle.line_editor.specs.RenderCalls.{IsKnown-prop, IsKnown};
 
 use crate::renderer::Renderer;
 use crate::saved::SavedLine;
@@ -32,6 +32,6 @@ pub struct State<'p, 'h, Out: Renderer, H: Helper + Drop, Hi: History> {
     /// one.
     pub(crate) known: Option<(usize, Position)>,
     pub(crate) alloc: Global,
-    ghost is_known: { IsKnownOn (Out.canvas.ruler out) layout recorded.line.text
+    ghost is_known: { IsKnown (Out.canvas.ruler out).measure layout.prompt_size recorded.line.text
         known } by { IsKnown-prop },
 }

@@ -1,5 +1,5 @@
 use Rattle.std.proofs.Common.{sym, ◌∙◌}
-use Rattle.line_editor.specs.Drawing.{draw_effect_since, repaint_effect}
+use Rattle.line_editor.specs.Drawing.{draw_effect_since}
 use Rattle.line_editor.specs.Redraws.Redraw.{DrawnFrom}
 use Rattle.line_editor.specs.States.{value_of, setting_of}
 use Rattle.line_editor.specs.Values.{Transition, draw_effect, shown_hint}
@@ -7,6 +7,7 @@ use Rattle.line_editor.proofs.DoesLemmas.{does_as}
 use Rattle.line_editor.proofs.SinceLemmas.{drawn_noted, whole_noted, whole_unnoted}
 use Rattle.line_editor.proofs.state.State.draw_since.Goals as goal
 use Rattle.line_editor.proofs.state.State.draw_since.Goals.{in-Some+in_default-place_since, in_default}
+use Rattle.std.specs.Prelude.{None}
 
 pub returns-in-Some-place_since : goal.returns-in-Some-place_since
 returns-in-Some-place_since g c =
@@ -25,7 +26,7 @@ returns g c =
     let s = c.args.self.now in
     let since = c.args.since.now in
     record {
-      does = does_as repaint_effect (draw_effect_since since) s _ _
+      does = does_as (draw_effect_since None) (draw_effect_since since) s _ _
           (elim c.match-since.branch [
             | in-Some+in_default-place_since w ↦ whole_noted since (setting_of s) (value_of s) w.in-Some.since w.in-Some.is (sym w.in_default-place_since.is ∙ w.place_since.ensures.place)
             | in_default w ↦ whole_unnoted since (setting_of s) (value_of s) w.in_default.is

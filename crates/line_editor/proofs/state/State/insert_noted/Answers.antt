@@ -4,7 +4,7 @@ use Rattle.line_edits.specs.Edits.{char_steps}
 use Rattle.line_editor.specs.Drawing.{since}
 use Rattle.line_editor.specs.Inserting.{insertion_way, show_inserted_effect, insert_char}
 use Rattle.line_editor.specs.States.{value_of, setting_of}
-use Rattle.line_editor.specs.KnownPlaces.{known_within}
+use Rattle.line_editor.specs.RenderCalls.{known_within}
 use Rattle.line_editor.proofs.EditLemmas.{char_put, char_put_by, nothing_typed, edit_then, edit_refused}
 use Rattle.line_editor.proofs.KnownLemmas.{typed_known}
 use Rattle.line_editor.proofs.state.State.insert_noted.Goals as goal

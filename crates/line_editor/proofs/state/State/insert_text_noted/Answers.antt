@@ -5,7 +5,7 @@ use Rattle.line_editor.specs.Inserting.{insert_text}
 use Rattle.line_editor.specs.States.{value_of, setting_of}
 use Rattle.line_editor.proofs.EditLemmas.{edit_then, edit_refused, text_put, text_put_by}
 use Rattle.line_buffer.specs.Line.{Line}
-use Rattle.line_editor.specs.KnownPlaces.{known_within}
+use Rattle.line_editor.specs.RenderCalls.{known_within}
 use Rattle.line_editor.proofs.KnownLemmas.{Begins, left_known, text_begins}
 use Rattle.line_editor.proofs.state.State.insert_text_noted.Goals as goal
 

@@ -5,7 +5,7 @@ use Rattle.line_editor.specs.States.{value_of, setting_of}
 use Rattle.line_editor.specs.Yanking.{pop_text}
 use Rattle.line_editor.proofs.EditLemmas.{text_popped, edit_then, edit_refused}
 use Rattle.line_buffer.specs.Line.{Line}
-use Rattle.line_editor.specs.KnownPlaces.{known_within}
+use Rattle.line_editor.specs.RenderCalls.{known_within}
 use Rattle.line_editor.proofs.KnownLemmas.{Begins, left_known, pop_begins}
 use Rattle.line_editor.proofs.state.State.yank_pop_noted.Goals as goal
 
