@@ -21,7 +21,8 @@ use Rattle.line_buffer.specs.Cells.{same_cell, origin}
 use Rattle.line_buffer.specs.declared.layout.Layout.{Layout}
 use Rattle.line_buffer.specs.declared.layout.Position.{Position}
 use Rattle.line_editor.specs.RenderCalls.Call.{Draw, Move, Write, Beep, ClearScreen, MoveAndClearToEol, InsertChar, MoveAndDelete, Append, DrawRest, Help, WriteOver}
-use Rattle.line_editor.specs.Redraws.{RedrawCalls, info_text, fresh, layout_of, full, nothing_asked, move_call, column_on, column_back, cell_on, char_call, append_call, erase_call, put_in_short, taken_out_short, rest_call, fits_in_row, may_type, may_take, may_erase, may_put_in, may_take_out, write_over_call, may_write_over}
+use Rattle.line_editor.specs.Redraws.{RedrawCalls, info_text, fresh, layout_of, full, nothing_asked, column_on, column_back, cell_on, erase_call, rest_call, may_write_over, may_take, may_erase, may_put_in, may_take_out}
+use Rattle.line_editor.proofs.ShortCalls.{move_call, char_call, append_call, put_in_short, taken_out_short, write_over_call}
 use Rattle.line_editor.specs.Redraws.Redraw.{Drawn, Moved, Typed, Appended, Taken, Erased, PutIn, TakenOut, DrawnFrom, Bared, ToEnd, Beeped, Cleared, Rewritten}
 use Rattle.line_editor.specs.EditSteps.{one}
 use Rattle.line_editor.specs.Values.{shown_marks, EditStep}
@@ -423,7 +424,7 @@ module _ (s : Screen) (low : 2 ≤ s.columns) (high : s.columns ≤ 1000) where
 
       -- ---- a character at the line's end
 
-      typed_holds : (c : ℕ) → x.ended ≡ false → TypedFits x c text at → may_type (ruler_of s) l ≡ true → Shows (char_call l c)
+      typed_holds : (c : ℕ) → x.ended ≡ false → TypedFits x c text at → may_write_over (ruler_of s) l l.cursor 1 ≡ true → Shows (char_call l c)
       typed_holds c unended t e =
           let letter = and_parts (is_printable c) (at_simple_end true x.line x.place) t.typed in
           let last : x.place ≡ length x.line = eqb-true x.place (length x.line) (and_parts (x.place == length x.line) _ letter.1).0 in
@@ -434,7 +435,7 @@ module _ (s : Screen) (low : 2 ≤ s.columns) (high : s.columns ≤ 1000) where
           let cursor_is : to ≡ cursor_of s.columns (widths s) (picture y) = typed_place old (record { shown = picture y; top = top; place = to }) c leads in
           let end : y.place ≡ length line = let count = length-append x.line (c ∷ []) in omega arith in
           subst (λ xs. DisplayHolds s (bytes ++ flat_map (bytes_of s) (Write xs ∷ [])) over top (char_call l c).layout now) (sym (encode_ascii c (small c letter.0)))
-          (short_holds line (x.place + 1) (Write (c ∷ [])) to to (and_parts (not l.has_info) (fits_in_row s.columns l.cursor) e).0 t.text_is t.behind leads (λ e. cc) cursor_is (cursor_is ∙ sym (end_is_cursor (picture y) refl end)))
+          (short_holds line (x.place + 1) (Write (c ∷ [])) to to (and_parts (not l.has_info) (nat_lt (l.cursor.col + 1) s.columns) e).0 t.text_is t.behind leads (λ e. cc) cursor_is (cursor_is ∙ sym (end_is_cursor (picture y) refl end)))
 
       -- apart from the line's end
       appended_holds : (c : ℕ) → x.ended ≡ false → AppendedFits x c text at → Low s now → not l.has_info ≡ true → Shows (append_call (ruler_of s) l c)
@@ -582,7 +583,7 @@ module _ (s : Screen) (low : 2 ≤ s.columns) (high : s.columns ≤ 1000) where
       goes_if bytes over top l x at false cursor (same_cell l.cursor cursor) h is (inside_cursor y rows) refl
   step own bytes over top l x (Draws v m (Typed prompt c text at)) h fits rows =
       let marks = shown_marks v m in
-      short_or bytes over top marks l x h prompt text at (char_call l c) (may_type (ruler_of s) l) rows (typed_holds bytes over top marks l x h prompt text at fits.0 c fits.1 fits.2)
+      short_or bytes over top marks l x h prompt text at (char_call l c) (may_write_over (ruler_of s) l l.cursor 1) rows (typed_holds bytes over top marks l x h prompt text at fits.0 c fits.1 fits.2)
   step own bytes over top l x (Draws v m (Appended prompt c text at)) h fits rows =
       let marks = shown_marks v m in
       let short = append_call (ruler_of s) l c in

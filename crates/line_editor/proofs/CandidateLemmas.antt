@@ -20,8 +20,7 @@ use Rattle.line_editor.specs.Completing.{begins_word, completion_from, candidate
 use Rattle.line_editor.specs.Drawing.{message_effect}
 use Rattle.line_editor.specs.ModalCommands.{then_meets}
 use Rattle.line_editor.specs.Modal.{Modal, Meeting, next_of}
-use Rattle.line_editor.specs.States.{value_of, setting_of, fails_by, IsHelpFault, Does}
-use Rattle.line_editor.specs.Turn.{Meets}
+use Rattle.line_editor.specs.States.{value_of, setting_of, fails_by, IsHelpFault, Does, Meets}
 use Rattle.line_editor.specs.Values.{Value, Setting, Transition, then_do, completion_reply}
 use Rattle.line_editor.specs.declared.modal_state.Next.{Next}
 use Rattle.line_editor.specs.declared.renderer as renderers

@@ -357,8 +357,8 @@ motion_leads (BackwardChar n) s v = found_leads (place_backward n v.line) s v
 motion_leads (ForwardChar n) s v = found_leads (place_forward n v.line) s v
 motion_leads (LineUp n) s v = found_leads (line_up s.mode s.tabs s.column n v.line) s v
 motion_leads (LineDown n) s v = found_leads (line_down s.mode s.tabs s.column n v.line) s v
-motion_leads BeginningOfBuffer s v = step_leads MoveCursor (not (v.line.place == 0)) (record v.line { place = 0 }) s v refl
-motion_leads EndOfBuffer s v = step_leads MoveCursor (not (v.line.place == length v.line.text)) (record v.line { place = length v.line.text }) s v refl
+motion_leads BeginningOfBuffer s v = place_leads MoveCursor 0 s v
+motion_leads EndOfBuffer s v = place_leads MoveCursor (length v.line.text) s v
 motion_leads m s v = rest_leads s v v (refl, refl, refl)
 
 -- ---- a typed character

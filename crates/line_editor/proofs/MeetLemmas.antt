@@ -16,10 +16,9 @@ use Rattle.line_edits.specs.Edits.{CutUndoItems}
 use Rattle.line_record.specs.Items.{record_on}
 use Rattle.line_editor.specs.Drawing.{refresh_effect_behind}
 use Rattle.line_editor.specs.Modal.{Modal, Meeting, next_of}
-use Rattle.line_editor.specs.Searching.{search_prompt, search_drawn, hit_undo_effect, put_hit_effect, search_shown_effect, look, modal_after_look, search_for, modal_with_char, type_effect, looks_again, modal_after_erase, act_of}
+use Rattle.line_editor.specs.Searching.{search_prompt, search_drawn, hit_undo_effect, put_hit_effect, search_shown_effect, look, modal_after_look, search_for, modal_with_char, looks_again, modal_after_erase, act_of, looks_typed}
 use Rattle.line_editor.specs.ModalCommands.{meeting_in, meeting, meeting_effect, meeting_in_search}
-use Rattle.line_editor.specs.States.{value_of, setting_of, surface_of, Stays, Does}
-use Rattle.line_editor.specs.Turn.{Meets}
+use Rattle.line_editor.specs.States.{value_of, setting_of, surface_of, Stays, Does, Meets}
 use Rattle.line_editor.specs.Values.{Value, Setting, Transition, memory_effect, then_do}
 use Rattle.line_editor.specs.declared.modal_state.Act.TheVariants.{Erases}
 use Rattle.line_editor.specs.declared.modal_state.Next.TheVariants.{Nothing}
@@ -90,7 +89,7 @@ module _ {Out H Hi K T : Type 0} {renderer : renderers.Renderer.Ghosts Out} {com
 
   -- a character more
   pub typed_shown : {A : Type 0} (c : ℕ) (q z : Modal) (s t : State Out H Hi K T renderer completer candidate hinter hint highlighter validator history) (result : Result A ReadlineError)
-      → z ≡ modal_with_char c q → Does (look z.dir (Some z.at) z) s t result → Does (type_effect c q) s t result
+      → z ≡ modal_with_char c q → Does (look z.dir (Some z.at) z) s t result → Does (λ a v. (looks_typed c q a v).effect) s t result
   typed_shown {A} c q z s t result is h =
       taken_then (look q.dir (Some q.at) (modal_with_char c q)) s t result (subst (λ (y : Modal). Does {A = A} (look y.dir (Some y.at) y) s t result) is h)
 

@@ -17,9 +17,8 @@ use Rattle.line_editor.specs.Asks.{shown_in, ask_effect}
 use Rattle.line_editor.specs.RenderCalls.{Canvas, Ruler, MadeIn}
 use Rattle.line_editor.specs.LineScripts.{LineAsk, LineAnswer, LineScript, script_of_keys, line_state, LineStage, DrawnBy, Answered, Stopped, line_world}
 use Rattle.line_editor.specs.Modal.{Modal}
-use Rattle.line_editor.specs.States.{value_of, setting_of, surface_of, display_of, Stays, Does}
+use Rattle.line_editor.specs.States.{value_of, setting_of, surface_of, display_of, Stays, Does, stage_of, world_of}
 use Rattle.line_editor.specs.EditSteps.{calls_of_steps, CutEditSteps}
-use Rattle.line_editor.specs.Turn.{stage_of, world_of}
 use Rattle.line_editor.specs.Values.{Setting, Transition}
 use Rattle.line_editor.specs.declared.renderer as renderers
 use Rattle.line_editor.specs.declared.state.State.{State}
