@@ -27,7 +27,7 @@ use Rattle.line_editor.specs.EditSteps.{calls_of_steps}
 use Rattle.line_editor.specs.declared.way.Way.{Way}
 use Rattle.line_editor.specs.declared.way.Way.TheVariants.{Alone, Back, Whole}
 use Rattle.line_editor.specs.Redraws.Redraw.{Rewritten}
-use Rattle.line_editor.specs.Rewriting.{has_letters, show_rewritten_effect, refresh_over_effect}
+use Rattle.line_editor.specs.Transforms.{has_letters, show_rewritten_effect, refresh_over_effect}
 use Rattle.line_editor.specs.States.{hooks_of, value_of, setting_of, IsHelpFault, error_of, reason_of, surface_of, Stays, Does}
 use Rattle.line_editor.specs.Values.{Value, Setting, Hooks, Effect, draw_effect, then_do, hint_reply, verdict_reply, help_steps, IsFailing, with_mark, value_with_edit}
 use Rattle.line_editor.specs.Values.EditStep.{Takes}

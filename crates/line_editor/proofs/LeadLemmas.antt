@@ -42,7 +42,7 @@ use Rattle.line_editor.specs.RenderCalls.{Marks}
 use Rattle.line_editor.specs.Redraws.{Redraw, info_text}
 use Rattle.line_editor.specs.Redraws.Redraw.{Drawn, DrawnFrom, Moved, Typed, Appended, Taken, Erased, PutIn, TakenOut, Cleared}
 use Rattle.line_editor.specs.SharedStyles.{styles_to, told_styles}
-use Rattle.line_editor.specs.Sights.{PartSpans, drawn_spans, Sight, InPart, sight_as, sight, sight_all, Fits, FitsAll, Turns, info_one, info_after, sight_of}
+use Rattle.line_editor.specs.Sights.{PartSpans, drawn_spans, Sight, InPart, sight_as, sight, sight_all, Fits, FitsAll, Turns, no_sight, info_after, sight_of}
 use Rattle.line_editor.specs.Values.{Value, Setting, EditStep, Effect, Transition, no_effect, then_do, hint_reply, help_steps, value_with_edit, edit_effect, at_line, with_mark, marks_seen, shown_marks, shown_hint, line_and_record_of}
 use Rattle.line_editor.specs.Values.EditStep.{Draws, Edits, TakesBack, Takes}
 use Rattle.line_editor.proofs.ApartLemmas.{apart_before}
@@ -65,7 +65,7 @@ sight_both x (r ∷ rs) ss = sight_both (sight x r) rs ss
 
 pub info_both : (rs ss : List EditStep) (info : Option (List ℕ)) → info_after (rs ++ ss) info ≡ info_after ss (info_after rs info)
 info_both [] ss info = refl
-info_both (r ∷ rs) ss info = info_both rs ss (info_one info r)
+info_both (r ∷ rs) ss info = info_both rs ss (sight (record no_sight { info = info }) r).info
 
 pub turns_both : (own : List ℕ) (x y z : Sight) (rs ss : List EditStep) → Turns own x rs y → Turns own y ss z → Turns own x (rs ++ ss) z
 turns_both own x y z rs ss h k = record {
@@ -475,11 +475,12 @@ module _ (s : Setting) (c n : ℕ) (v w : Value) (put : (n == 1) ≡ true → w.
               rest = drop at text;
               whole = sym (take-append-drop at text);
               text_is = new ∙ append_assoc (take at text) (encode_utf8 c) (drop at text) ∙ ap (λ x. take at text ++ (x ++ drop at text)) one;
-              at = sym size;
-              behind = place ∙ ap (λ x. at + length x) one ∙ ap (λ n. n + 1) (sym size);
+              from_is = sym size;
               plain = kept.0;
-              printable = e.0;
+              gone_printable = refl;
+              printable = ap (λ b. b && true) e.0;
             },
+            place ∙ ap (λ x. at + length x) one,
           ),
           tt,
         );
@@ -605,19 +606,20 @@ module _ (s : Setting) (v w : Value) (from upto : ℕ) (text : w.line.text ≡ r
         fits = (
           (
             bare_styles s v w info d.0 bare,
+            killed,
             record {
               before = take from before;
-              killed = killed;
               rest = drop upto before;
               whole = sym (take-append-drop from before)
                   ∙ ap (λ xs. take from before ++ xs) (sym (take-append-drop (upto - from) (drop from before))
                   ∙ ap (λ xs. killed ++ xs) (drop-drop (upto - from) from before ∙ ap (λ n. drop n before) up));
               text_is = whole;
-              count_is = count_is;
-              at = at;
+              from_is = at;
               plain = p.0;
-              printable = ap (λ n. list_all is_printable (take n (drop from before))) many ∙ ap (λ n. list_all is_printable (take count (drop n before))) (sym place) ∙ p.1;
+              gone_printable = ap (λ n. list_all is_printable (take n (drop from before))) many ∙ ap (λ n. list_all is_printable (take count (drop n before))) (sym place) ∙ p.1;
+              printable = refl;
             },
+            count_is,
           ),
           tt,
         );

@@ -94,12 +94,9 @@ put_hit_effect put (Some hit) =
 abbrev pub search_drawn : Modal → Transition
 search_drawn x = then_do memory_effect (refresh_effect_behind (search_prompt x))
 
-abbrev pub search_shown_effect : SearchDirection → Option Hit → Modal → Transition
-search_shown_effect dir hit x = then_do (put_hit_effect x.put hit)
-    (search_drawn (modal_after_look dir hit x))
-
 abbrev pub look : SearchDirection → Option ℕ → Modal → Transition
-look dir from x s v = search_shown_effect dir (search_for x.query dir from s.entries) x s v
+look dir from x s v = let hit = search_for x.query dir from s.entries in
+    then_do (put_hit_effect x.put hit) (search_drawn (modal_after_look dir hit x)) s v
 
 -- the line and its cursor as they were before the search
 abbrev pub is_place : ℕ → Line → Bool
