@@ -28,12 +28,12 @@ use Rattle.line_editor.specs.declared.way.Way.{Way}
 use Rattle.line_editor.specs.declared.way.Way.TheVariants.{Alone, Back, Whole}
 use Rattle.line_editor.specs.Redraws.Redraw.{Rewritten}
 use Rattle.line_editor.specs.Transforms.{has_letters, show_rewritten_effect, refresh_over_effect}
-use Rattle.line_editor.specs.States.{hooks_of, value_of, setting_of, IsHelpFault, error_of, reason_of, surface_of, Stays, Does}
+use Rattle.line_editor.specs.States.{hooks_of, value_of, setting_of, error_of, reason_of, surface_of, Stays, Does}
 use Rattle.line_editor.specs.Values.{Value, Setting, Hooks, Effect, draw_effect, then_do, hint_reply, verdict_reply, help_steps, IsFailing, with_mark, value_with_edit}
 use Rattle.line_editor.specs.Values.EditStep.{Takes}
 use Rattle.line_editor.specs.declared.renderer as renderers
 use Rattle.line_editor.specs.declared.state.State.{State}
-use Rattle.line_editor.proofs.StopsLemmas.{stops_asking, stops_after}
+use Rattle.line_editor.proofs.StopsLemmas.{stops_asking, stops_after, IsHelpFault}
 use Rattle.line_editor.proofs.DoesLemmas.{is_err, does_as, does_both, does_both_by, does_cut_by, does_refused, setting_stays, stays_same, stays_both}
 
 -- ---- a hook that fails at what it is shown fails at something

@@ -42,13 +42,10 @@ abbrev pub fails_by : {A : Type 0} → Option (Reply A) → Bool
 fails_by None = false
 fails_by (Some reply) = fails reply
 
-abbrev pub IsHelpFault : {A : Type 0} → Option (Reply A) → ReadlineError → Type 0
-IsHelpFault reply why = IsSomeAnd reply (λ r. CutHelp (fails r) r.takes why)
-
 pub record Helps {A B : Type 0} (reply : Option (Reply A)) (result : Result B ReadlineError)
     : Type 0 where
   pub works : OnOk result (IsFalse (fails_by reply))
-  pub fault : IfErr result (IsHelpFault reply)
+  pub fault : IfErr result (λ why. IsSomeAnd reply (λ r. CutHelp (fails r) r.takes why))
 
 -- the error of a hook's fault
 abbrev pub error_of : HookFault → ReadlineError

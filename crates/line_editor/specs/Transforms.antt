@@ -62,17 +62,13 @@ indent_effect movement amount dedent =
 abbrev pub indent_by_setting : Movement → Bool → Transition
 indent_by_setting movement dedent s v = indent_effect movement s.config.indent_size dedent s v
 
--- undone marks, which leave the line
-abbrev pub unmark_effect : ℕ → Transition
-unmark_effect n s v = record
-    { value = record v { held = drop (max n 1) v.held }; steps = TakesBack v (max n 1) ∷ [] }
-
 abbrev pub undo_effect : ℕ → Transition
 undo_effect n s v = record
     { value = value_with_edit (after_undo n) v; steps = TakesBack v (max n 1) ∷ [] }
 
--- if no undone item is a step, nothing is drawn
+-- if no undone item is a step, the marks leave the line, and nothing is drawn
 abbrev pub undo : ℕ → Transition
 undo n s v =
     if has_step (max n 1) v.held then then_do (undo_effect n) refresh_effect s v
-    else unmark_effect n s v
+    else record
+    { value = record v { held = drop (max n 1) v.held }; steps = TakesBack v (max n 1) ∷ [] }
