@@ -606,20 +606,22 @@ module _ (s : Setting) (v w : Value) (from upto : ℕ) (text : w.line.text ≡ r
         fits = (
           (
             bare_styles s v w info d.0 bare,
-            killed,
-            record {
-              before = take from before;
-              rest = drop upto before;
-              whole = sym (take-append-drop from before)
-                  ∙ ap (λ xs. take from before ++ xs) (sym (take-append-drop (upto - from) (drop from before))
-                  ∙ ap (λ xs. killed ++ xs) (drop-drop (upto - from) from before ∙ ap (λ n. drop n before) up));
-              text_is = whole;
-              from_is = at;
-              plain = p.0;
-              gone_printable = ap (λ n. list_all is_printable (take n (drop from before))) many ∙ ap (λ n. list_all is_printable (take count (drop n before))) (sym place) ∙ p.1;
-              printable = refl;
-            },
-            count_is,
+            (
+              killed,
+              record {
+                before = take from before;
+                rest = drop upto before;
+                whole = sym (take-append-drop from before)
+                    ∙ ap (λ xs. take from before ++ xs) (sym (take-append-drop (upto - from) (drop from before))
+                    ∙ ap (λ xs. killed ++ xs) (drop-drop (upto - from) from before ∙ ap (λ n. drop n before) up));
+                text_is = whole;
+                from_is = at;
+                plain = p.0;
+                gone_printable = ap (λ n. list_all is_printable (take n (drop from before))) many ∙ ap (λ n. list_all is_printable (take count (drop n before))) (sym place) ∙ p.1;
+                printable = refl;
+              },
+              count_is,
+            ),
           ),
           tt,
         );

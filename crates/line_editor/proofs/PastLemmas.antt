@@ -1,5 +1,5 @@
 -- If nothing stands, a command that begins nothing is done as it comes.
-use Rattle.std.proofs.Common.{◌≡◌, Bool, true, false, List, ◌∷◌, ◌++◌, refl, ap}
+use Rattle.std.proofs.Common.{◌≡◌, Bool, true, false, List, ◌∷◌, ◌++◌, refl, ap, if◌then◌else◌}
 use Rattle.script.specs.Played.{play_with_first_ask}
 use Rattle.script.specs.Scripts.{Ends, Asks}
 use Rattle.line_keys.specs.KeyFeeds.{item_at}

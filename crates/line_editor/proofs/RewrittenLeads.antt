@@ -39,20 +39,22 @@ module _ (s : Setting) (v w : Value) (from upto : ℕ) (letters : List ℕ) (tex
         fits = (
           (
             bare_styles s v w info b.0 (and_parts (is_bare w) _ has).0,
-            gone,
-            letters,
-            record {
-              before = take from old;
-              rest = drop upto old;
-              whole = sym (take-append-drop from old) ∙ ap (λ x. take from old ++ x) (drop_split old from upto (omega arith));
-              text_is = text ∙ append_assoc (take from old) letters (drop upto old);
-              from_is = sym front;
-              plain = d.0;
-              gone_printable = e.1;
-              printable = printable e.1;
-            },
-            omega arith,
-            omega arith,
+            (
+              gone,
+              letters,
+              record {
+                before = take from old;
+                rest = drop upto old;
+                whole = sym (take-append-drop from old) ∙ ap (λ x. take from old ++ x) (drop_split old from upto (omega arith));
+                text_is = text ∙ append_assoc (take from old) letters (drop upto old);
+                from_is = sym front;
+                plain = d.0;
+                gone_printable = e.1;
+                printable = printable e.1;
+              },
+              omega arith,
+              omega arith,
+            ),
           ),
           tt,
         );
