@@ -13,9 +13,8 @@ use Rattle.line_keys.specs.KeyFeeds.{KeyFeed, Coming, answer_map}
 use Rattle.line_record.specs.Ring.{Ring}
 use Rattle.line_editor.specs.LineScripts.{LineState, LineStage, line_state, line_script, line_stage}
 use Rattle.line_editor.specs.LineRun.{Helping, Runs, outcome_of, setting_by, stage_first, breaks_after}
-use Rattle.line_editor.specs.States.{reason_of}
+use Rattle.line_editor.specs.States.{reason_of, cause_of}
 use Rattle.line_editor.specs.EditSteps.{surface}
-use Rattle.line_editor.specs.Turn.{cause_of}
 use Rattle.line_editor.specs.Values.{Setting}
 use Rattle.line_editor.specs.declared.line_run.Ran.{Ran}
 use Rattle.line_screen.specs.ScreenCalls.{canvas_of, screen_of, sink_of, ruler_of}

@@ -1,6 +1,6 @@
 -- The count of one byte.
 use Rattle.std.proofs.Common.{◌≡◌, ℕ, ◌+◌, ◌==◌, not, Bool, true, false, List, [], ◌∷◌, ◌++◌, take, drop, Option, Some, None, is_some, encode_utf8, refl, ap, ap₂, ◌∙◌, append-nil, arith, if◌then◌else◌}
-use Rattle.std.specs.Prelude.{length, slice_range}
+use Rattle.std.specs.Prelude.{length, slice_range, nat_lt}
 use Rattle.std.specs.List.{flat_map}
 use Rattle.std.proofs.lemmas.Bool.{and_parts, and_from, not-true, lt-ltb, ltb-true}
 use Rattle.std.proofs.lemmas.Bool.Decides.{nat_tests}
@@ -24,7 +24,8 @@ use Rattle.line_editor.specs.declared.way.Way.TheVariants.{AtEnd, Alone, Inside,
 use Rattle.line_editor.specs.LineScripts.{turn_start, Meets, LineState, line_plan, made_from, meet_script, phrase_script, played_from, steps_along, turn_script, Obeys}
 use Rattle.line_editor.specs.Modal.{Modal, is_at_rest}
 use Rattle.line_editor.specs.NextCommand.{line_phrase}
-use Rattle.line_editor.specs.Redraws.{RedrawCalls, full, rest_call, nothing_asked, move_call, char_call, append_call, erase_call, put_in_short, taken_out_short, fits_in_row, may_type, may_take, may_erase, may_put_in, may_take_out, write_over_call, may_write_over}
+use Rattle.line_editor.specs.Redraws.{RedrawCalls, full, rest_call, nothing_asked, erase_call, may_write_over, may_take, may_erase, may_put_in, may_take_out}
+use Rattle.line_editor.proofs.ShortCalls.{move_call, char_call, append_call, put_in_short, taken_out_short, write_over_call}
 use Rattle.line_editor.specs.Redraws.Redraw.{Drawn, Moved, Typed, Appended, Taken, Erased, PutIn, TakenOut, DrawnFrom, Bared, ToEnd, Cleared, Rewritten}
 use Rattle.line_editor.specs.Sights.{Sight, sight, Fits}
 use Rattle.line_editor.specs.EditSteps.{one}
@@ -67,7 +68,7 @@ one_told : (s : Screen) (own : List ℕ) (l : Layout) (x : Sight) (r : EditStep)
 one_told s own l x (Draws v m (Drawn prompt given text at info)) h fits = refl
 one_told s own l x (Draws v m (Moved text at)) h fits = let to = (ruler_of s).measure (take at text) l.prompt_size in moved_told l to (same_cell l.cursor to) ∙ h
 one_told s own l x (Draws v m (Typed prompt c text at)) h fits =
-    short_told l (char_call l c) (full (ruler_of s) (shown_marks v m) l prompt true text at None) (may_type (ruler_of s) l) refl refl (λ e. (and_parts (not l.has_info) _ e).0) (ap (λ t. t.1) h ∙ fits.0.given)
+    short_told l (char_call l c) (full (ruler_of s) (shown_marks v m) l prompt true text at None) (may_write_over (ruler_of s) l l.cursor 1) refl refl (λ e. (and_parts (not l.has_info) _ e).0) (ap (λ t. t.1) h ∙ fits.0.given)
 one_told s own l x (Draws v m (Appended prompt c text at)) h fits =
     let drawn = full (ruler_of s) (shown_marks v m) l prompt true text at None in
     let short = append_call (ruler_of s) l c in
@@ -146,29 +147,29 @@ typed_bytes s l a v c t =
     sent_short s l a _ _ c (is_some (insertion c 1 v.line).answer) (insertion_way a c 1 v) (since a v.line.place v) t.room t.after refl
     ∙ ap (λ way. bytes_for s l (Draws e.value a.marks (put_redraw way c (since a v.line.place v) a e.value) ∷ [])) (typed_way a v c t)
 
-short_bytes : (s : Screen) (l : Layout) (v : Value) (m : Option Marks) (prompt : List ℕ) (c : ℕ) (text : List ℕ) (at : ℕ) → is_printable c ≡ true → may_type (ruler_of s) l ≡ true → bytes_for s l (Draws v m (Typed prompt c text at) ∷ []) ≡ c ∷ []
+short_bytes : (s : Screen) (l : Layout) (v : Value) (m : Option Marks) (prompt : List ℕ) (c : ℕ) (text : List ℕ) (at : ℕ) → is_printable c ≡ true → may_write_over (ruler_of s) l l.cursor 1 ≡ true → bytes_for s l (Draws v m (Typed prompt c text at) ∷ []) ≡ c ∷ []
 short_bytes s l v m prompt c text at printable may = rw may (append-nil (encode_utf8 c) ∙ encode_ascii c (small c printable))
 
 -- a letter that doesn't fill its row is drawn by its byte
-here_in_row : (columns : ℕ) (at : Position) → fits_in_row columns at ≡ true → in_row columns at ≡ at
+here_in_row : (columns : ℕ) (at : Position) → nat_lt (at.col + 1) columns ≡ true → in_row columns at ≡ at
 here_in_row columns at h = let room = ltb-true (at.col + 1) columns h in ap (λ b. if b then at else next_row at) (lt-ltb at.col columns (omega arith))
 
-fills_none : (columns : ℕ) (at : Position) → fits_in_row columns at ≡ true → (at.col + 1 == columns) ≡ false
+fills_none : (columns : ℕ) (at : Position) → nat_lt (at.col + 1) columns ≡ true → (at.col + 1 == columns) ≡ false
 fills_none columns at h = grind (arith, nat_tests)
 
-letter_bytes : (s : Screen) (c : ℕ) (at : Position) → is_printable c ≡ true → fits_in_row s.columns at ≡ true → bytes_of s (Append (encode_utf8 c) at) ≡ c ∷ []
+letter_bytes : (s : Screen) (c : ℕ) (at : Position) → is_printable c ≡ true → nat_lt (at.col + 1) s.columns ≡ true → bytes_of s (Append (encode_utf8 c) at) ≡ c ∷ []
 letter_bytes s c at printable room =
     ap (λ text. bytes_of s (Append text at)) (encode_ascii c (small c printable))
     ∙ ap (λ items. bytes_of_items s.columns items (in_row s.columns at).col) (letter_items (widths s) (c ∷ []) (and_from (is_printable c) true printable refl))
     ∙ ap (λ (p : Position). bytes_of_items s.columns (Letter c ∷ []) p.col) (here_in_row s.columns at room)
     ∙ ap (λ b. c ∷ (break_if b ++ [])) (fills_none s.columns at room)
 
-alone_bytes : (s : Screen) (l : Layout) (v : Value) (m : Option Marks) (prompt : List ℕ) (c : ℕ) (text : List ℕ) (at : ℕ) → is_printable c ≡ true → may_type (ruler_of s) l ≡ true → bytes_for s l (Draws v m (Appended prompt c text at) ∷ []) ≡ c ∷ []
+alone_bytes : (s : Screen) (l : Layout) (v : Value) (m : Option Marks) (prompt : List ℕ) (c : ℕ) (text : List ℕ) (at : ℕ) → is_printable c ≡ true → may_write_over (ruler_of s) l l.cursor 1 ≡ true → bytes_for s l (Draws v m (Appended prompt c text at) ∷ []) ≡ c ∷ []
 alone_bytes s l v m prompt c text at printable may =
-    let parts = and_parts (not l.has_info) (fits_in_row s.columns l.cursor) may in
+    let parts = and_parts (not l.has_info) (nat_lt (l.cursor.col + 1) s.columns) may in
     rw (not-true l.has_info parts.0) (append-nil (bytes_of s (Append (encode_utf8 c) l.cursor)) ∙ letter_bytes s c l.cursor printable parts.1)
 
-either_bytes : (s : Screen) (l : Layout) (a : Setting) (v : Value) (c : ℕ) (b : Bool) (from : Option Since) → is_printable c ≡ true → may_type (ruler_of s) l ≡ true
+either_bytes : (s : Screen) (l : Layout) (a : Setting) (v : Value) (c : ℕ) (b : Bool) (from : Option Since) → is_printable c ≡ true → may_write_over (ruler_of s) l l.cursor 1 ≡ true
     → bytes_for s l (Draws v a.marks (put_redraw (if b then Alone else AtEnd) c from a v) ∷ []) ≡ c ∷ []
 either_bytes s l a v c true from printable may = alone_bytes s l v a.marks a.prompt c v.line.text v.line.place printable may
 either_bytes s l a v c false from printable may = short_bytes s l v a.marks a.prompt c v.line.text v.line.place printable may

@@ -10,7 +10,7 @@ use Rattle.line_buffer.specs.Printable.{is_printable, is_plain, is_plain_byte, a
 use Rattle.line_editor.specs.Characters.{is_apart, stands_apart, starts_apart, begins_apart}
 use Rattle.line_editor.specs.RenderCalls.{Marks, Call}
 use Rattle.line_editor.specs.SharedStyles.{styles_to}
-use Rattle.line_editor.specs.Sights.{Sight, InPart, TakenFits, ErasedFits, TakenOutFits, RewrittenFits, DrawnFromFits, PartSpans, drawn_spans, sight_with, sight_as, no_sight, sight, TypedFits, AppendedFits, PutInFits, Fits}
+use Rattle.line_editor.specs.Sights.{Sight, InPart, TakenFits, ErasedFits, DrawnFromFits, PartSpans, drawn_spans, sight_with, sight_as, no_sight, sight, TypedFits, AppendedFits, Replaces, Fits}
 use Rattle.line_editor.proofs.CharacterRanges.{plain_apart}
 use Rattle.line_editor.proofs.KillLemmas.{plain_low}
 use Rattle.line_screen.proofs.ApartLemmas.{apart_scalar}
@@ -21,7 +21,8 @@ use Rattle.line_buffer.specs.Cells.{same_cell, origin}
 use Rattle.line_buffer.specs.declared.layout.Layout.{Layout}
 use Rattle.line_buffer.specs.declared.layout.Position.{Position}
 use Rattle.line_editor.specs.RenderCalls.Call.{Draw, Move, Write, Beep, ClearScreen, MoveAndClearToEol, InsertChar, MoveAndDelete, Append, DrawRest, Help, WriteOver}
-use Rattle.line_editor.specs.Redraws.{RedrawCalls, info_text, fresh, layout_of, full, nothing_asked, move_call, column_on, column_back, cell_on, char_call, append_call, erase_call, put_in_short, taken_out_short, rest_call, fits_in_row, may_type, may_take, may_erase, may_put_in, may_take_out, write_over_call, may_write_over}
+use Rattle.line_editor.specs.Redraws.{RedrawCalls, info_text, fresh, layout_of, full, nothing_asked, column_on, column_back, cell_on, erase_call, rest_call, may_write_over, may_take, may_erase, may_put_in, may_take_out}
+use Rattle.line_editor.proofs.ShortCalls.{move_call, char_call, append_call, put_in_short, taken_out_short, write_over_call}
 use Rattle.line_editor.specs.Redraws.Redraw.{Drawn, Moved, Typed, Appended, Taken, Erased, PutIn, TakenOut, DrawnFrom, Bared, ToEnd, Beeped, Cleared, Rewritten}
 use Rattle.line_editor.specs.EditSteps.{one}
 use Rattle.line_editor.specs.Values.{shown_marks, EditStep}
@@ -107,18 +108,18 @@ module _ (x : Sight) (m : Option Marks) (prompt text : List ℕ) (at : ℕ) {own
   erased_fits c t =
       rest_fits at text (encode_utf8 c) [] t.whole (sym (append-nil text)) t.end (char_begins text c t.apart) (none_begins text (and_parts (is_utf8 text) _ t.apart).0)
 
-  taken_out_fits : (count : ℕ) → TakenOutFits x count text at → DrawnFromFits x m prompt at text at None
+  taken_out_fits : (count : ℕ) → ((killed : List ℕ) × Replaces x at killed [] text × (count ≡ length killed)) → DrawnFromFits x m prompt at text at None
   taken_out_fits count t =
-      let parts = both_plain t.before (t.killed ++ t.rest) t.whole t.plain in
-      let rest = (and_parts (is_plain t.killed) (is_plain t.rest) (sym (list_all-append is_plain_byte t.killed t.rest) ∙ parts.1)).1 in
-      plain_fits at t.before (t.killed ++ t.rest) t.rest t.whole t.text_is t.at parts.0 parts.1 rest
+      let parts = both_plain t.1.before (t.0 ++ t.1.rest) t.1.whole t.1.plain in
+      let rest = (and_parts (is_plain t.0) (is_plain t.1.rest) (sym (list_all-append is_plain_byte t.0 t.1.rest) ∙ parts.1)).1 in
+      plain_fits at t.1.before (t.0 ++ t.1.rest) t.1.rest t.1.whole t.1.text_is t.1.from_is parts.0 parts.1 rest
 
-  rewritten_fits : (from upto : ℕ) → RewrittenFits x from upto text → DrawnFromFits x m prompt from text at None
+  rewritten_fits : (from upto : ℕ) → ((gone letters : List ℕ) × Replaces x from gone letters text × (length letters ≡ length gone) × (upto ≡ from + length letters)) → DrawnFromFits x m prompt from text at None
   rewritten_fits from upto t =
-      let parts = both_plain t.before (t.gone ++ t.rest) t.whole t.plain in
-      let rest = (and_parts (is_plain t.gone) (is_plain t.rest) (sym (list_all-append is_plain_byte t.gone t.rest) ∙ parts.1)).1 in
-      plain_fits from t.before (t.gone ++ t.rest) (t.letters ++ t.rest) t.whole t.text_is t.from_is parts.0 parts.1
-      (list_all-append is_plain_byte t.letters t.rest ∙ and_from (is_plain t.letters) (is_plain t.rest) (all_plain t.letters t.printable) rest)
+      let parts = both_plain t.2.before (t.0 ++ t.2.rest) t.2.whole t.2.plain in
+      let rest = (and_parts (is_plain t.0) (is_plain t.2.rest) (sym (list_all-append is_plain_byte t.0 t.2.rest) ∙ parts.1)).1 in
+      plain_fits from t.2.before (t.0 ++ t.2.rest) (t.1 ++ t.2.rest) t.2.whole t.2.text_is t.2.from_is parts.0 parts.1
+      (list_all-append is_plain_byte t.1 t.2.rest ∙ and_from (is_plain t.1) (is_plain t.2.rest) (all_plain t.1 t.2.printable) rest)
 
 same_if : (a b : Position) → same_cell a b ≡ true → a ≡ b
 same_if a b h =
@@ -147,20 +148,20 @@ none_above_first : (xs : List Placed) → filter (above 0) xs ≡ []
 none_above_first xs = filter_none (above 0) xs (list_all_true (λ p. not (above 0 p)) not_above_first xs)
 
 -- the rest of a line behind what was put in, or taken out; and what replaced other characters
-put_in_rest : (x : Sight) (c : ℕ) (text : List ℕ) (at : ℕ) → (t : PutInFits x c text at) → drop at text ≡ t.rest
-put_in_rest x c text at t =
+put_in_rest : (x : Sight) (c : ℕ) (text : List ℕ) (at : ℕ) → (t : Replaces x x.place [] (c ∷ []) text) → at ≡ x.place + 1 → drop at text ≡ t.rest
+put_in_rest x c text at t behind =
     let count = length-append t.before (c ∷ []) in
-    ap₂ drop t.behind (t.text_is ∙ sym (append_assoc t.before (c ∷ []) t.rest)) ∙ drop_at (t.before ++ c ∷ []) t.rest (length t.before + 1) (omega arith)
+    ap₂ drop (behind ∙ ap (λ n. n + 1) t.from_is) (t.text_is ∙ sym (append_assoc t.before (c ∷ []) t.rest)) ∙ drop_at (t.before ++ c ∷ []) t.rest (length t.before + 1) (omega arith)
 
-taken_out_rest : (x : Sight) (count : ℕ) (text : List ℕ) (at : ℕ) → (t : TakenOutFits x count text at) → drop at text ≡ t.rest
-taken_out_rest x count text at t = ap₂ drop t.at t.text_is ∙ drop_at t.before t.rest (length t.before) refl
+taken_out_rest : (x : Sight) (count : ℕ) (text : List ℕ) (at : ℕ) → (t : (killed : List ℕ) × Replaces x at killed [] text × (count ≡ length killed)) → drop at text ≡ t.1.rest
+taken_out_rest x count text at t = ap₂ drop t.1.from_is t.1.text_is ∙ drop_at t.1.before t.1.rest (length t.1.before) refl
 
-pub rewritten_letters : (x : Sight) (from upto : ℕ) (text : List ℕ) → (t : RewrittenFits x from upto text) → slice_range text from upto ≡ t.letters
+pub rewritten_letters : (x : Sight) (from upto : ℕ) (text : List ℕ) → (t : (gone letters : List ℕ) × Replaces x from gone letters text × (length letters ≡ length gone) × (upto ≡ from + length letters)) → slice_range text from upto ≡ t.1
 rewritten_letters x from upto text t =
-    let first = t.from_is in
-    let last = t.upto_is in
-    let count : upto - from ≡ length t.letters = omega arith in
-    ap₂ take count (ap₂ drop t.from_is t.text_is ∙ drop_at t.before (t.letters ++ t.rest) (length t.before) refl) ∙ take_at t.letters t.rest (length t.letters) refl
+    let first = t.2.from_is in
+    let last = t.4 in
+    let count : upto - from ≡ length t.1 = omega arith in
+    ap₂ take count (ap₂ drop t.2.from_is t.2.text_is ∙ drop_at t.2.before (t.1 ++ t.2.rest) (length t.2.before) refl) ∙ take_at t.1 t.2.rest (length t.1) refl
 
 module _ (s : Screen) (low : 2 ≤ s.columns) (high : s.columns ≤ 1000) where
   some : 1 ≤ s.columns
@@ -423,7 +424,7 @@ module _ (s : Screen) (low : 2 ≤ s.columns) (high : s.columns ≤ 1000) where
 
       -- ---- a character at the line's end
 
-      typed_holds : (c : ℕ) → x.ended ≡ false → TypedFits x c text at → may_type (ruler_of s) l ≡ true → Shows (char_call l c)
+      typed_holds : (c : ℕ) → x.ended ≡ false → TypedFits x c text at → may_write_over (ruler_of s) l l.cursor 1 ≡ true → Shows (char_call l c)
       typed_holds c unended t e =
           let letter = and_parts (is_printable c) (at_simple_end true x.line x.place) t.typed in
           let last : x.place ≡ length x.line = eqb-true x.place (length x.line) (and_parts (x.place == length x.line) _ letter.1).0 in
@@ -434,7 +435,7 @@ module _ (s : Screen) (low : 2 ≤ s.columns) (high : s.columns ≤ 1000) where
           let cursor_is : to ≡ cursor_of s.columns (widths s) (picture y) = typed_place old (record { shown = picture y; top = top; place = to }) c leads in
           let end : y.place ≡ length line = let count = length-append x.line (c ∷ []) in omega arith in
           subst (λ xs. DisplayHolds s (bytes ++ flat_map (bytes_of s) (Write xs ∷ [])) over top (char_call l c).layout now) (sym (encode_ascii c (small c letter.0)))
-          (short_holds line (x.place + 1) (Write (c ∷ [])) to to (and_parts (not l.has_info) (fits_in_row s.columns l.cursor) e).0 t.text_is t.behind leads (λ e. cc) cursor_is (cursor_is ∙ sym (end_is_cursor (picture y) refl end)))
+          (short_holds line (x.place + 1) (Write (c ∷ [])) to to (and_parts (not l.has_info) (nat_lt (l.cursor.col + 1) s.columns) e).0 t.text_is t.behind leads (λ e. cc) cursor_is (cursor_is ∙ sym (end_is_cursor (picture y) refl end)))
 
       -- apart from the line's end
       appended_holds : (c : ℕ) → x.ended ≡ false → AppendedFits x c text at → Low s now → not l.has_info ≡ true → Shows (append_call (ruler_of s) l c)
@@ -474,45 +475,45 @@ module _ (s : Screen) (low : 2 ≤ s.columns) (high : s.columns ≤ 1000) where
 
       -- ---- a character put in
 
-      put_in_holds : (c : ℕ) → x.ended ≡ false → PutInFits x c text at → may_put_in (ruler_of s) l (drop at text) ≡ true → Shows (put_in_short (ruler_of s) l c (drop at text))
-      put_in_holds c unended t e =
-          let rest_is = put_in_rest x c text at t in
+      put_in_holds : (c : ℕ) → x.ended ≡ false → Replaces x x.place [] (c ∷ []) text → at ≡ x.place + 1 → may_put_in (ruler_of s) l (drop at text) ≡ true → Shows (put_in_short (ruler_of s) l c (drop at text))
+      put_in_holds c unended t behind e =
+          let rest_is = put_in_rest x c text at t behind in
           let cursor = cell_on s.columns l.cursor in
           let end = cell_on s.columns l.end in
-          let leads = putting_in_leads s low high l old t.before t.rest c (tells bytes over top l x h) (place_if x unended) no_styles t.plain t.printable t.whole t.at
+          let leads = putting_in_leads s low high l old t.before t.rest c (tells bytes over top l x h) (place_if x unended) no_styles t.plain (and_parts (is_printable c) true t.printable).0 t.whole t.from_is
           (subst (λ r. may_put_in (ruler_of s) l r ≡ true) rest_is e) in
           subst (λ r. Shows (put_in_short (ruler_of s) l c r)) (sym rest_is)
-          (short_holds (t.before ++ c ∷ t.rest) (length t.before + 1) (InsertChar c t.rest l.cursor cursor end) cursor end (and_parts (not l.has_info) _ e).0 t.text_is t.behind leads.0 (λ e. cc) leads.1 leads.2)
+          (short_holds (t.before ++ c ∷ t.rest) (length t.before + 1) (InsertChar c t.rest l.cursor cursor end) cursor end (and_parts (not l.has_info) _ e).0 t.text_is (behind ∙ ap (λ n. n + 1) t.from_is) leads.0 (λ e. cc) leads.1 leads.2)
 
       -- ---- characters taken out
 
-      taken_out_holds : (count : ℕ) → TakenOutFits x count text at → Low s now
+      taken_out_holds : (count : ℕ) → ((killed : List ℕ) × Replaces x at killed [] text × (count ≡ length killed)) → Low s now
           → (let cell = measure_of s.mode s.tab s.columns (take at text) l.prompt_size in may_take_out (ruler_of s) l cell count (drop at text) ≡ true → Shows (taken_out_short l cell count (drop at text)))
       taken_out_holds count t rows e =
           let cell = measure_of s.mode s.tab s.columns (take at text) l.prompt_size in
           let free = (and_parts (not l.has_info) _ e).0 in
-          let line = t.before ++ t.rest in
-          let y = bare_sight x.spans x.prompt line (length t.before) in
-          let low_y : Low s y = subst (Low s) (bare_is line (length t.before) free t.text_is t.at) rows in
+          let line = t.1.before ++ t.1.rest in
+          let y = bare_sight x.spans x.prompt line (length t.1.before) in
+          let low_y : Low s y = subst (Low s) (bare_is line (length t.1.before) free t.1.text_is t.1.from_is) rows in
           let cell_is : cell ≡ cursor_of s.columns (widths s) (picture y) =
-          ap₂ (measure_of s.mode s.tab s.columns) (ap₂ take t.at t.text_is) h.prompt_size ∙ (measures_go_on s some (picture y)).0 low_y.cursor in
-          let cut : take (length t.before) line ≡ take (length t.before) t.before = take_at t.before t.rest (length t.before) refl ∙ sym (take_all (length t.before) t.before (omega arith)) in
-          let at_is : cell ≡ cursor_of s.columns (widths s) (with_text old.shown t.before (length t.before)) =
+          ap₂ (measure_of s.mode s.tab s.columns) (ap₂ take t.1.from_is t.1.text_is) h.prompt_size ∙ (measures_go_on s some (picture y)).0 low_y.cursor in
+          let cut : take (length t.1.before) line ≡ take (length t.1.before) t.1.before = take_at t.1.before t.1.rest (length t.1.before) refl ∙ sym (take_all (length t.1.before) t.1.before (omega arith)) in
+          let at_is : cell ≡ cursor_of s.columns (widths s) (with_text old.shown t.1.before (length t.1.before)) =
           cell_is ∙ ap (λ xs. place_after s.columns (text_of x.prompt ++ text_of xs) origin) cut in
-          let gone = length t.killed in
+          let gone = length t.0 in
           let end = column_back gone l.end in
           let there : View = record { shown = picture y; top = top; place = cell } in
           let rest_is = taken_out_rest x count text at t in
-          let may : may_take_out (ruler_of s) l cell gone t.rest ≡ true =
-          subst (λ n. may_take_out (ruler_of s) l cell n t.rest ≡ true) t.count_is (subst (λ r. may_take_out (ruler_of s) l cell count r ≡ true) rest_is e) in
-          let leads = taking_out_leads s low high l old t.before t.killed t.rest cell (tells bytes over top l x h) h.good.inside no_styles t.plain t.whole t.printable at_is may (inside_finish y low_y).row in
-          subst (λ r. Shows (taken_out_short l cell count r)) (sym rest_is) (subst (λ n. Shows (taken_out_short l cell n t.rest)) (sym t.count_is)
-          (short_holds line (length t.before) (MoveAndDelete l.cursor cell gone t.rest end) cell end free t.text_is t.at
-          (subst (λ p. LeadsView s.columns (widths s) old (MoveAndDelete p cell gone t.rest end) there) (sym h.cursor) leads.0) (λ e. cc) leads.1 leads.2))
+          let may : may_take_out (ruler_of s) l cell gone t.1.rest ≡ true =
+          subst (λ n. may_take_out (ruler_of s) l cell n t.1.rest ≡ true) t.2 (subst (λ r. may_take_out (ruler_of s) l cell count r ≡ true) rest_is e) in
+          let leads = taking_out_leads s low high l old t.1.before t.0 t.1.rest cell (tells bytes over top l x h) h.good.inside no_styles t.1.plain t.1.whole t.1.gone_printable at_is may (inside_finish y low_y).row in
+          subst (λ r. Shows (taken_out_short l cell count r)) (sym rest_is) (subst (λ n. Shows (taken_out_short l cell n t.1.rest)) (sym t.2)
+          (short_holds line (length t.1.before) (MoveAndDelete l.cursor cell gone t.1.rest end) cell end free t.1.text_is t.1.from_is
+          (subst (λ p. LeadsView s.columns (widths s) old (MoveAndDelete p cell gone t.1.rest end) there) (sym h.cursor) leads.0) (λ e. cc) leads.1 leads.2))
 
       -- ---- characters replaced by as many
 
-      rewritten_holds : (from upto : ℕ) → RewrittenFits x from upto text → Low s now
+      rewritten_holds : (from upto : ℕ) → ((gone letters : List ℕ) × Replaces x from gone letters text × (length letters ≡ length gone) × (upto ≡ from + length letters)) → Low s now
           → (let cell = measure_of s.mode s.tab s.columns (take from text) l.prompt_size in let letters = slice_range text from upto in
           may_write_over (ruler_of s) l cell (length letters) ≡ true → Shows (write_over_call l letters cell (measure_of s.mode s.tab s.columns (take at text) l.prompt_size)))
       rewritten_holds from upto t rows e =
@@ -520,31 +521,31 @@ module _ (s : Screen) (low : 2 ≤ s.columns) (high : s.columns ≤ 1000) where
           let cell = measure (take from text) l.prompt_size in
           let cursor = measure (take at text) l.prompt_size in
           let free = (and_parts (not l.has_info) _ e).0 in
-          let tail = t.letters ++ t.rest in
-          let line = t.before ++ tail in
+          let tail = t.1 ++ t.2.rest in
+          let line = t.2.before ++ tail in
           let y = bare_sight x.spans x.prompt line at in
-          let low_y : Low s y = subst (Low s) (bare_is line at free t.text_is refl) rows in
+          let low_y : Low s y = subst (Low s) (bare_is line at free t.2.text_is refl) rows in
           -- the cells of the letters and of the cursor
-          let cursor_is : cursor ≡ cursor_of s.columns (widths s) (picture y) = ap₂ measure (ap (take at) t.text_is) h.prompt_size ∙ (measures_go_on s some (picture y)).0 low_y.cursor in
-          let parts = plain_parts s.columns (widths s) (picture x) t.before (t.gone ++ t.rest) t.whole t.plain in
-          let rest_plain = (and_parts (is_plain t.gone) (is_plain t.rest) (sym (list_all-append is_plain_byte t.gone t.rest) ∙ parts.1)).1 in
-          let tail_plain : is_plain tail ≡ true = list_all-append is_plain_byte t.letters t.rest ∙ and_from (is_plain t.letters) (is_plain t.rest) (all_plain t.letters t.printable) rest_plain in
-          let start = with_text old.shown t.before (length t.before) in
-          let begins : cursor_of s.columns (widths s) start ≡ line_end s.columns (widths s) old.shown t.before = line_cursor s.columns (widths s) start refl in
-          let above_end = part_above s.columns (widths s) old.shown t.before tail at parts.0 tail_plain in
+          let cursor_is : cursor ≡ cursor_of s.columns (widths s) (picture y) = ap₂ measure (ap (take at) t.2.text_is) h.prompt_size ∙ (measures_go_on s some (picture y)).0 low_y.cursor in
+          let parts = plain_parts s.columns (widths s) (picture x) t.2.before (t.0 ++ t.2.rest) t.2.whole t.2.plain in
+          let rest_plain = (and_parts (is_plain t.0) (is_plain t.2.rest) (sym (list_all-append is_plain_byte t.0 t.2.rest) ∙ parts.1)).1 in
+          let tail_plain : is_plain tail ≡ true = list_all-append is_plain_byte t.1 t.2.rest ∙ and_from (is_plain t.1) (is_plain t.2.rest) (all_plain t.1 t.2.printable) rest_plain in
+          let start = with_text old.shown t.2.before (length t.2.before) in
+          let begins : cursor_of s.columns (widths s) start ≡ line_end s.columns (widths s) old.shown t.2.before = line_cursor s.columns (widths s) start refl in
+          let above_end = part_above s.columns (widths s) old.shown t.2.before tail at parts.0 tail_plain in
           let row = ap (λ p. p.row) begins in
           let fewer = low_y.finish in
-          let first : take from text ≡ take (length t.before) t.before =
-          ap₂ take t.from_is t.text_is ∙ take_at t.before tail (length t.before) refl ∙ sym (take_all (length t.before) t.before (omega arith)) in
+          let first : take from text ≡ take (length t.2.before) t.2.before =
+          ap₂ take t.2.from_is t.2.text_is ∙ take_at t.2.before tail (length t.2.before) refl ∙ sym (take_all (length t.2.before) t.2.before (omega arith)) in
           let cell_is : cell ≡ cursor_of s.columns (widths s) start = ap₂ measure first h.prompt_size ∙ (measures_go_on s some start).0 (omega arith) in
           let letters_are = rewritten_letters x from upto text t in
           let inside : Inside s.columns cursor = subst (Inside s.columns) (sym cursor_is) (inside_cursor y low_y) in
           let there : View = record { shown = picture y; top = top; place = cursor } in
-          let leads = writing_over_leads s low high l old t.before t.gone t.letters t.rest at cell cursor (tells bytes over top l x h) no_styles t.plain t.whole t.as_many t.gone_printable t.printable cell_is
+          let leads = writing_over_leads s low high l old t.2.before t.0 t.1 t.2.rest at cell cursor (tells bytes over top l x h) no_styles t.2.plain t.2.whole t.3 t.2.gone_printable t.2.printable cell_is
           (subst (λ xs. may_write_over (ruler_of s) l cell (length xs) ≡ true) letters_are e) inside (inside_finish y low_y).row in
           subst (λ xs. Shows (write_over_call l xs cell cursor)) (sym letters_are)
-          (short_holds line at (WriteOver t.letters l.cursor cell cursor) cursor l.end free t.text_is refl
-          (subst (λ p. LeadsView s.columns (widths s) old (WriteOver t.letters p cell cursor) there) (sym h.cursor) leads.0) (λ e. cc) cursor_is (h.finish ∙ sym leads.1))
+          (short_holds line at (WriteOver t.1 l.cursor cell cursor) cursor l.end free t.2.text_is refl
+          (subst (λ p. LeadsView s.columns (widths s) old (WriteOver t.1 p cell cursor) there) (sym h.cursor) leads.0) (λ e. cc) cursor_is (h.finish ∙ sym leads.1))
 
   -- ---- no call, also if the session's own prompt stands
 
@@ -582,7 +583,7 @@ module _ (s : Screen) (low : 2 ≤ s.columns) (high : s.columns ≤ 1000) where
       goes_if bytes over top l x at false cursor (same_cell l.cursor cursor) h is (inside_cursor y rows) refl
   step own bytes over top l x (Draws v m (Typed prompt c text at)) h fits rows =
       let marks = shown_marks v m in
-      short_or bytes over top marks l x h prompt text at (char_call l c) (may_type (ruler_of s) l) rows (typed_holds bytes over top marks l x h prompt text at fits.0 c fits.1 fits.2)
+      short_or bytes over top marks l x h prompt text at (char_call l c) (may_write_over (ruler_of s) l l.cursor 1) rows (typed_holds bytes over top marks l x h prompt text at fits.0 c fits.1 fits.2)
   step own bytes over top l x (Draws v m (Appended prompt c text at)) h fits rows =
       let marks = shown_marks v m in
       let short = append_call (ruler_of s) l c in
@@ -601,7 +602,7 @@ module _ (s : Screen) (low : 2 ≤ s.columns) (high : s.columns ≤ 1000) where
   step own bytes over top l x (Draws v m (PutIn prompt c text at)) h fits rows =
       let marks = shown_marks v m in
       let rest = drop at text in
-      short_or bytes over top marks l x h prompt text at (put_in_short (ruler_of s) l c rest) (may_put_in (ruler_of s) l rest) rows (put_in_holds bytes over top marks l x h prompt text at fits.0 c fits.1 fits.2)
+      short_or bytes over top marks l x h prompt text at (put_in_short (ruler_of s) l c rest) (may_put_in (ruler_of s) l rest) rows (put_in_holds bytes over top marks l x h prompt text at fits.0 c fits.1 fits.2 fits.3)
   step own bytes over top l x (Draws v m (TakenOut prompt count text at)) h fits rows =
       let marks = shown_marks v m in
       let rest = drop at text in

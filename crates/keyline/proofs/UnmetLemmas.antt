@@ -1,16 +1,16 @@
 -- Where the setting is off, a script goes as it does without the requests that meet a command.
-use Rattle.std.proofs.Common.{◌≡◌, List, ◌++◌, Result, Ok, Err, refl, sym, ap, ◌∙◌, subst}
+use Rattle.std.proofs.Common.{◌≡◌, List, ◌++◌, Result, Ok, Err, refl, sym, ap, ◌∙◌, subst, if◌then◌else◌}
 use Rattle.line_buffer.specs.declared.layout.Layout.{Layout}
 use Rattle.script.specs.Played.{Played, play_after_answer}
 use Rattle.script.specs.Scripts.{Ends, Asks}
 use Rattle.line_config.specs.declared.errors.ReadlineError.{ReadlineError}
 use Rattle.line_editor.specs.LineScripts.{Keys, Meets, LineAnswer, LineAsk, LineScript, LineState, answer_at, effect_at, left_at, line_script, played_from}
-use Rattle.line_editor.specs.Modal.{Meeting, Modal, first_standing}
+use Rattle.line_editor.specs.Modal.{Meeting, Modal}
 use Rattle.line_editor.specs.ModalCommands.{meeting}
 use Rattle.line_editor.specs.Redraws.{fresh}
 use Rattle.line_editor.specs.EditSteps.{calls_of_steps}
 use Rattle.line_editor.specs.Values.{Setting}
-use Rattle.line_editor.specs.declared.modal_state.Standing.TheVariants.{Off}
+use Rattle.line_editor.specs.declared.modal_state.Standing.TheVariants.{Off, Rests}
 use Rattle.line_editor.proofs.PastLemmas.{off_passes}
 use Rattle.line_keys.specs.PhraseScripts.{Reads}
 use Rattle.line_keys.specs.declared.command.Cmd.{Cmd}
@@ -80,5 +80,5 @@ module _ (s : Screen) (a : Setting) where
 
 pub off_meets_none : OffMeetsNone
 off_meets_none n g x off =
-    let h = unmet_alike g.screen (setting_in g x.history.kept.entries) (line_script n g.custom) (fresh g.screen.mode) (first_in g x) (ap first_standing off) in
+    let h = unmet_alike g.screen (setting_in g x.history.kept.entries) (line_script n g.custom) (fresh g.screen.mode) (first_in g x) (ap (λ b. if b then Rests else Off) off) in
     record { answer = h.answer; rest = h.rest; events = h.events; query = ap (λ (m : Modal). m.query) h.modal }

@@ -10,7 +10,7 @@ use Rattle.line_editor.specs.RenderCalls.{Marks}
 use Rattle.line_editor.specs.ModalCommands.{modal_seen}
 use Rattle.line_editor.specs.Modal.{is_at_rest}
 use Rattle.line_editor.specs.Inserting.{is_bare, may_be_typed, insert_char}
-use Rattle.line_editor.specs.Redraws.{RedrawCalls, Redraw, info_text, nothing_asked, may_type}
+use Rattle.line_editor.specs.Redraws.{RedrawCalls, Redraw, info_text, nothing_asked, may_write_over}
 use Rattle.line_editor.specs.Redraws.Redraw.{Cleared}
 use Rattle.line_editor.specs.Sights.{Sight, sight, sight_with, sight_drawn, no_sight, sight_of, ended_sight, info_after, sight_all, FitsAll}
 use Rattle.line_editor.specs.EditSteps.{calls_of_steps}
@@ -247,5 +247,5 @@ abbrev pub OneByte : Type 0
 OneByte = (n : ℕ) (s : Screen) (l : Layout) (a : Setting) (custom : Custom) (k : LineState) (c : ℕ)
     → is_at_rest k.modal.standing ≡ true
     → ReadAlone a k (phrase_script n custom (turn_start k)) c → TypedAtEnd a k.value c
-    → may_type (ruler_of s) l ≡ true
+    → may_write_over (ruler_of s) l l.cursor 1 ≡ true
     → bytes_for s l (made_from a (turn_script n custom) k).steps ≡ c ∷ []

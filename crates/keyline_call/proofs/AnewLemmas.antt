@@ -18,9 +18,10 @@ use Rattle.line_buffer.specs.declared.layout.TabStops.{TabStops}
 use Rattle.line_config.specs.declared.settings.BellStyle.{BellStyle}
 use Rattle.line_config.specs.declared.settings.BellStyle.TheVariants as Bell
 use Rattle.line_editor.specs.RenderCalls.{Marks, Ruler}
-use Rattle.line_editor.specs.Redraws.{RedrawCalls, info_text, fresh, full, nothing_asked, move_call, char_call, append_call, erase_call, put_in_short, taken_out_short, rest_call, layout_of, cell_on, column_back, may_type, may_take, may_erase, may_put_in, may_take_out, write_over_call, may_write_over}
+use Rattle.line_editor.specs.Redraws.{RedrawCalls, info_text, fresh, full, nothing_asked, erase_call, rest_call, layout_of, cell_on, column_back, may_write_over, may_take, may_erase, may_put_in, may_take_out}
+use Rattle.line_editor.proofs.ShortCalls.{move_call, char_call, append_call, put_in_short, taken_out_short, write_over_call}
 use Rattle.line_editor.specs.Redraws.Redraw.{Drawn, Moved, Typed, Appended, Taken, Erased, PutIn, TakenOut, DrawnFrom, Bared, ToEnd, Beeped, Cleared, Rewritten}
-use Rattle.line_editor.specs.Sights.{Sight, sight_with, no_sight, sight, sight_all, drawn_spans, Fits, FitsAll, TypedFits, PutInFits, RewrittenFits}
+use Rattle.line_editor.specs.Sights.{Sight, sight_with, no_sight, sight, sight_all, drawn_spans, Fits, FitsAll, TypedFits, Replaces}
 use Rattle.line_editor.specs.EditSteps.{one}
 use Rattle.line_editor.specs.Values.{EditStep, Value, shown_marks}
 use Rattle.line_editor.specs.Values.EditStep.{Draws}
@@ -390,7 +391,7 @@ module _ (s : Screen) (low : 2 ≤ s.columns) (high : s.columns ≤ 1000) (own :
       let to = (ruler_of s).measure (take at text) l.prompt_size in kept_on_step (Draws v m (Moved text at)) bytes l x (quiet_move l to (same_cell l.cursor to)) a fits rows none
   step_anew (Draws v m (Typed prompt c text at)) bytes l x a fits rows none =
       let typed = (let t : TypedFits x c text at = fits.2 in t.typed) in
-      short_or (Draws v m (Typed prompt c text at)) bytes l x (char_call l c) (by_whole v m l prompt text at) (may_type (ruler_of s) l) refl
+      short_or (Draws v m (Typed prompt c text at)) bytes l x (char_call l c) (by_whole v m l prompt text at) (may_write_over (ruler_of s) l l.cursor 1) refl
       (λ is. (refl, both (calm_letter c (and_parts (is_printable c) (at_simple_end true x.line x.place) typed).0) no_bytes)) (whole bytes (shown_marks v m) l prompt true text at None rows) a fits rows none
   step_anew (Draws v m (Appended prompt c text at)) bytes l x a fits rows none =
       let drawn = by_whole v m l prompt text at in
@@ -407,7 +408,7 @@ module _ (s : Screen) (low : 2 ≤ s.columns) (high : s.columns ≤ 1000) (own :
       short_or_rest (Draws v m (Erased prompt c text at)) bytes l x (erase_call l count) (shown_marks v m) at text at (may_erase (ruler_of s) l c) refl (λ is. quiet_taken l count) a fits rows none
   step_anew (Draws v m (PutIn prompt c text at)) bytes l x a fits rows none =
       let rest = drop at text in
-      let printable : is_printable c ≡ true = (let t : PutInFits x c text at = fits.2 in t.printable) in
+      let printable : is_printable c ≡ true = (let t : Replaces x x.place [] (c ∷ []) text = fits.2 in (and_parts (is_printable c) true t.printable).0) in
       short_or (Draws v m (PutIn prompt c text at)) bytes l x (put_in_short (ruler_of s) l c rest) (by_whole v m l prompt text at) (may_put_in (ruler_of s) l rest) refl
       (λ is. quiet_put_in l c rest printable (pushed_printable (ruler_of s) l rest is)) (whole bytes (shown_marks v m) l prompt true text at None rows) a fits rows none
   step_anew (Draws v m (TakenOut prompt count text at)) bytes l x a fits rows none =
@@ -421,8 +422,8 @@ module _ (s : Screen) (low : 2 ≤ s.columns) (high : s.columns ≤ 1000) (own :
       let cell = (ruler_of s).measure (take from text) l.prompt_size in
       let cursor = (ruler_of s).measure (take at text) l.prompt_size in
       let letters = slice_range text from upto in
-      let t : RewrittenFits x from upto text = fits.1 in
-      let printable = ap (list_all is_printable) (rewritten_letters x from upto text t) ∙ t.printable in
+      let t : (gone letters : List ℕ) × Replaces x from gone letters text × (length letters ≡ length gone) × (upto ≡ from + length letters) = fits.1 in
+      let printable = ap (list_all is_printable) (rewritten_letters x from upto text t) ∙ t.2.printable in
       let written = both (calm_short l.cursor cell) (both (calm_all is_printable letter_plain letters printable) (calm_short (right (length letters) cell) cursor)) in
       short_or_rest (Draws v m (Rewritten prompt from upto text at)) bytes l x (write_over_call l letters cell cursor) (shown_marks v m) from text at (may_write_over (ruler_of s) l cell (length letters)) refl
       (λ is. (refl, both written no_bytes)) a fits rows none

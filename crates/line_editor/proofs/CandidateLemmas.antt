@@ -20,8 +20,7 @@ use Rattle.line_editor.specs.Completing.{begins_word, completion_from, candidate
 use Rattle.line_editor.specs.Drawing.{message_effect}
 use Rattle.line_editor.specs.ModalCommands.{then_meets}
 use Rattle.line_editor.specs.Modal.{Modal, Meeting, next_of}
-use Rattle.line_editor.specs.States.{value_of, setting_of, fails_by, IsHelpFault, Does}
-use Rattle.line_editor.specs.Turn.{Meets}
+use Rattle.line_editor.specs.States.{value_of, setting_of, fails_by, Does, Meets}
 use Rattle.line_editor.specs.Values.{Value, Setting, Transition, then_do, completion_reply}
 use Rattle.line_editor.specs.declared.modal_state.Next.{Next}
 use Rattle.line_editor.specs.declared.renderer as renderers
@@ -29,6 +28,7 @@ use Rattle.line_editor.specs.declared.state.State.{State}
 use Rattle.line_editor.proofs.CompleteLemmas.{asked_made, asked_refused}
 use Rattle.line_editor.proofs.DoesLemmas.{does_as, does_both, does_cut_by, setting_stays}
 use Rattle.line_editor.proofs.MeetLemmas.{taken_then}
+use Rattle.line_editor.proofs.StopsLemmas.{IsHelpFault}
 
 -- a row more of a list
 pub row_more : {C : Type 0} (offers : C → Offered) (first before after : List ℕ) (all : List C) (i : ℕ) (c : C) → i < length all → c ≡ get_or all i c

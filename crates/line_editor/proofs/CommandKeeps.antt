@@ -109,8 +109,8 @@ module _ (fact : Fact) (sound : Value → Type 0) (s : Setting) (edits : KeptByE
   motion (ForwardChar n) v h = found_holds fact (place_forward n v.line) s v h
   motion (LineUp n) v h = found_holds fact (line_up s.mode s.tabs s.column n v.line) s v h
   motion (LineDown n) v h = found_holds fact (line_down s.mode s.tabs s.column n v.line) s v h
-  motion BeginningOfBuffer v h = either_holds fact (not (v.line.place == 0)) _ _ h h
-  motion EndOfBuffer v h = either_holds fact (not (v.line.place == length v.line.text)) _ _ h h
+  motion BeginningOfBuffer v h = placed_at MoveCursor 0 v h
+  motion EndOfBuffer v h = placed_at MoveCursor (length v.line.text) v h
   motion m v h = h
 
   -- ---- texts

@@ -24,8 +24,7 @@ use Rattle.line_editor.specs.LineScripts.{Obeys, Answered, LineStage, line_state
 use Rattle.line_editor.specs.NextCommand.{line_phrase, ring_after_reset}
 use Rattle.line_editor.specs.ModalCommands.{meeting, meeting_effect}
 use Rattle.line_editor.specs.Modal.{Modal}
-use Rattle.line_editor.specs.States.{value_of, setting_of, display_of, Stays, Reason}
-use Rattle.line_editor.specs.Turn.{Executes, Meets, Cause, Takes, stage_of, world_of}
+use Rattle.line_editor.specs.States.{value_of, setting_of, display_of, Stays, Reason, Executes, Meets, Cause, Takes, stage_of, world_of}
 use Rattle.line_editor.specs.Values.{Value, Setting}
 use Rattle.line_editor.specs.declared.commands.Status.{Status}
 use Rattle.line_editor.specs.declared.commands.Status.TheVariants.{Proceed, Submit}

@@ -24,7 +24,7 @@ use Rattle.line_editor.specs.States.{hooks_of, value_of, setting_of, fails_by, I
 use Rattle.line_editor.specs.Values.{Value, Setting, Hooks, then_do, completion_reply, update_reply}
 use Rattle.line_editor.specs.declared.renderer as renderers
 use Rattle.line_editor.specs.declared.state.State.{State}
-use Rattle.line_editor.proofs.StopsLemmas.{help_made, help_layout, stops_asking, stops_marking, stops_updating}
+use Rattle.line_editor.proofs.StopsLemmas.{help_made, help_layout, stops_asking, stops_marking, stops_updating, IsHelpFault}
 use Rattle.line_editor.proofs.DoesLemmas.{does_as, does_both, does_cut_by, does_refused, stays_same}
 use Rattle.line_editor.proofs.HelpedLemmas.{completion_reason, update_reason, fault_told}
 use Rattle.line_record.proofs.StepLemmas.{items_with_mark}

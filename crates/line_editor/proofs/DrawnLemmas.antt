@@ -19,7 +19,8 @@ use Rattle.line_editor.specs.RenderCalls.{Ruler, MadeIn, CutCalls}
 use Rattle.line_editor.specs.RenderCalls.Call.{Move}
 use Rattle.line_editor.specs.Drawing.{draw_effect_with}
 use Rattle.line_editor.specs.Inserting.{is_bare, way_if_bare}
-use Rattle.line_editor.specs.Redraws.{Redraw, RedrawCalls, calls_of_redraw, nothing_asked, move_calls, move_call, then_asked, full, rest_call, char_call, append_call, erase_call, put_in_short, taken_out_short, write_over_call, may_type, may_take, may_erase, may_put_in, may_take_out, may_write_over}
+use Rattle.line_editor.specs.Redraws.{Redraw, RedrawCalls, calls_of_redraw, nothing_asked, move_calls, then_asked, full, rest_call, erase_call, may_write_over, may_take, may_erase, may_put_in, may_take_out}
+use Rattle.line_editor.proofs.ShortCalls.{move_call, char_call, append_call, put_in_short, taken_out_short, write_over_call}
 use Rattle.line_editor.specs.Redraws.Redraw.{Drawn, DrawnFrom, Typed, Appended, Taken, Erased, PutIn, TakenOut, Rewritten, Bared}
 use Rattle.line_editor.specs.States.{value_of, setting_of, surface_of, Stays, Does, Renders}
 use Rattle.line_editor.specs.EditSteps.{Surface}
@@ -100,7 +101,7 @@ module _ {Out H Hi K T : Type 0} {renderer : renderers.Renderer.Ghosts Out} {com
   }
 
   pub typed_drawn : {A : Type 0} (c : ℕ) (s t : State Out H Hi K T renderer completer candidate hinter hint highlighter validator history) (result : Result A ReadlineError)
-      → may_type (renderer.canvas.ruler s.out) s.layout ≡ false → Does (draw_effect_with None) s t result → Does (λ a v. draw_effect (Typed a.prompt c v.line.text v.line.place) a v) s t result
+      → may_write_over (renderer.canvas.ruler s.out) s.layout s.layout.cursor 1 ≡ false → Does (draw_effect_with None) s t result → Does (λ a v. draw_effect (Typed a.prompt c v.line.text v.line.place) a v) s t result
   typed_drawn c s t result is h = drawn_as (λ a v. Drawn a.prompt true v.line.text v.line.place None) (λ a v. Typed a.prompt c v.line.text v.line.place) s t result
       (ap (λ b. if b then char_call s.layout c else full (renderer.canvas.ruler s.out) (shown_marks (value_of s) (setting_of s).marks) s.layout s.prompt.now true s.recorded.line.text s.recorded.line.place None) (sym is)) h
 

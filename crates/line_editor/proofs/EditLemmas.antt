@@ -22,8 +22,7 @@ use Rattle.line_help.specs.declared.history as histories
 use Rattle.line_editor.specs.Drawing.{Since, since, refresh_effect, refresh_effect_since, effect_if}
 use Rattle.line_editor.specs.Inserting.{has_printable_rest, insertion_way, show_inserted_effect, insert_char, insert_text}
 use Rattle.line_editor.specs.Killing.{may_be_taken, may_be_taken_out, text_gone, last_of_bare, way_erased, kill_way, show_killed_effect, show_taken, kill_effect}
-use Rattle.line_editor.specs.Rewriting.{may_be_rewritten, refresh_over_effect}
-use Rattle.line_editor.specs.Transforms.{pair_end, transpose_chars_effect}
+use Rattle.line_editor.specs.Transforms.{may_be_rewritten, refresh_over_effect, pair_end, transpose_chars_effect}
 use Rattle.line_editor.specs.States.{value_of, setting_of, surface_of, Stays, Does}
 use Rattle.line_editor.specs.EditSteps.{Surface, CutEditSteps}
 use Rattle.line_editor.specs.Values.{Value, Setting, Effect, Transition, no_effect, then_do, value_with_edit, edit_effect, line_and_record_of}

@@ -1,7 +1,7 @@
 -- A search, or candidates in turn, that are given up leave the line as it was.
 use Rattle.std.proofs.Common.{◌≡◌, ℕ, ◌==◌, ◌||◌, Bool, true, false, List, [], ◌∷◌, ◌++◌, length, drop, Option, Some, None, is_some, slice_get, ◌&&◌, refl, sym, ap, ◌∙◌, subst, arith, if◌then◌else◌}
 use Rattle.std.proofs.lemmas.Bool.Decides.{nat_tests}
-use Rattle.std.specs.Prelude.{◌≢◌, slice_range, option_and_then, fold}
+use Rattle.std.specs.Prelude.{◌≢◌, slice_range, option_and_then, fold, All}
 use Rattle.line_buffer.specs.Event.{ChangeEvent, text_after_event}
 use Rattle.line_buffer.specs.Event.ChangeEvent.{Delete, InsertStr, Replace}
 use Rattle.line_buffer.specs.Insertions.{text_that_fits}
@@ -12,7 +12,7 @@ use Rattle.line_help.specs.Completion.{Offered, Completion, unless_empty}
 use Rattle.line_help.specs.Search.{Hit, TermAt}
 use Rattle.line_help.specs.declared.history.search.SearchDirection.{SearchDirection}
 use Rattle.line_help.proofs.FoundLemmas.{nearest_is_found}
-use Rattle.line_keys.specs.declared.command.Cmd.TheVariants.{Complete}
+use Rattle.line_keys.specs.declared.command.Cmd.TheVariants.{Complete, Abort}
 use Rattle.line_record.specs.Change.{Change, undo_place}
 use Rattle.line_record.specs.Change.Change.{Inserted, Replaced}
 use Rattle.line_record.specs.RecordCourse.{record_after_events}
@@ -20,7 +20,7 @@ use Rattle.line_record.specs.Held.{HeldItem, change_of, record_after_event, has_
 use Rattle.line_record.specs.Held.HeldItem.{Opened, Stepped}
 use Rattle.line_record.proofs.GroupLaws.{unchanged}
 use Rattle.line_record.proofs.RecordLaws.{no_mark}
-use Rattle.line_editor.specs.Candidates.{cycle_begun, cycle_first, candidate_at, turn_effect, cycle_at, cycle_back, cycle_effect, modal_after_ask}
+use Rattle.line_editor.specs.Candidates.{cycle_begun, cycle_first, candidate_at, turn_effect, cycle_at, cycle_back, cycle_effect, modal_after_ask, turn_effect_with, cycle}
 use Rattle.line_editor.specs.Completing.{begins_word, word_replaced, candidates_given, word_completed}
 use Rattle.line_editor.specs.Returns.{GivesBack, is_onward, AllOnward, search_after, GivesWordBack, cycle_after}
 use Rattle.line_editor.specs.Modal.{Modal, Meeting, pass_meeting, takes}
@@ -31,6 +31,8 @@ use Rattle.line_editor.specs.declared.modal_state.Act.TheVariants.{Types, Erases
 use Rattle.line_record.proofs.StepLemmas.{steps_with_change_if}
 use Rattle.std.specs.Option.{option_map_or}
 use Rattle.line_editor.specs.Drawing.{beep_effect, refresh_effect}
+use Rattle.std.proofs.lemmas.List.Elements.{All-head, All-tail}
+use Rattle.line_editor.specs.ModalCommands.{meeting_in_search}
 
 -- ---- an entry put in place of a line is one step
 
@@ -186,18 +188,21 @@ again_inside true q s v u grows stands place h =
     record { place = place; stands = (placed_back q.place v.line (hit_undo_effect q.put s u).value.line b.line place stands, b.held) }
 again_inside false q s v u grows stands place h = looks_inside q.dir (Some q.start) q s v u grows place h
 
-goes_on : (act : Act) (s : Setting) (v : Value) (x : Meeting) → v.line.growth ≡ true → is_place v.line.place v.line ≡ true → is_onward act ≡ true → Inside v x → Inside v (search_after s x act)
+abbrev search_after : Setting → Meeting → Act → Meeting
+search_after s x act = meeting_in_search act x.modal Abort s x.effect.value
+
+goes_on : (act : Act) (s : Setting) (v : Value) (x : Meeting) → v.line.growth ≡ true → is_place v.line.place v.line ≡ true → (act ≢ Leaves) × (act ≢ Ends) → Inside v x → Inside v (search_after s x act)
 goes_on (Types c) s v x grows stands on h =
     let typed = looks_inside x.modal.dir (Some x.modal.at) (modal_with_char c x.modal) s v x.effect.value grows h.place h.stands in
     record { place = typed.place; stands = typed.stands }
 goes_on Erases s v x grows stands on h = again_inside (length (modal_after_erase x.modal).query == 0) (modal_after_erase x.modal) s v x.effect.value grows stands h.place h.stands
-goes_on (Goes dir) s v x grows stands on h = looks_inside dir (onward dir x.modal (length s.entries)) (modal_with_query x.modal.query x.modal) s v x.effect.value grows h.place h.stands
-goes_on Leaves s v x grows stands on h = cc
-goes_on Ends s v x grows stands on h = cc
+goes_on (Goes dir) s v x grows stands on h = looks_inside dir (onward x.modal.at dir x.modal (length s.entries)) (modal_with_query x.modal.query x.modal) s v x.effect.value grows h.place h.stands
+goes_on Leaves s v x grows stands on h = absurd (on.0 refl)
+goes_on Ends s v x grows stands on h = absurd (on.1 refl)
 
-all_go_on : (acts : List Act) (s : Setting) (v : Value) (x : Meeting) → v.line.growth ≡ true → is_place v.line.place v.line ≡ true → AllOnward acts → Inside v x → Inside v (fold (search_after s) x acts)
+all_go_on : (acts : List Act) (s : Setting) (v : Value) (x : Meeting) → v.line.growth ≡ true → is_place v.line.place v.line ≡ true → All (λ act. (act ≢ Leaves) × (act ≢ Ends)) acts → Inside v x → Inside v (fold (search_after s) x acts)
 all_go_on [] s v x grows stands on h = h
-all_go_on (act ∷ acts) s v x grows stands on h = all_go_on acts s v (search_after s x act) grows stands on.1 (goes_on act s v x grows stands on.0 h)
+all_go_on (act ∷ acts) s v x grows stands on h = let goes : Act → Type 0 = λ a. (a ≢ Leaves) × (a ≢ Ends) in all_go_on acts s v (search_after s x act) grows stands (All-tail goes act acts on) (goes_on act s v x grows stands (All-head goes act acts on) h)
 
 -- ---- given up
 
@@ -271,6 +276,9 @@ cycles_on true dir s v x stands h =
       stands = candidate_stands (cycle_at dir x.modal.candidate (length found.candidates)) found s v w
           (placed_back x.modal.place v.line (hit_undo_effect x.modal.put s x.effect.value).value.line b.line h.place stands, b.held);
     }
+
+abbrev cycle_after : Setting → Meeting → SearchDirection → Meeting
+cycle_after s x dir = cycle dir x.modal Complete s x.effect.value
 
 all_cycle : (dirs : List SearchDirection) (s : Setting) (v : Value) (x : Meeting) → is_place v.line.place v.line ≡ true → Inside v x → Inside v (fold (cycle_after s) x dirs)
 all_cycle [] s v x stands h = h

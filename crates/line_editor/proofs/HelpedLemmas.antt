@@ -25,13 +25,13 @@ use Rattle.line_editor.specs.EditSteps.{calls_of_steps}
 use Rattle.line_editor.specs.declared.way.Way.{Way}
 use Rattle.line_editor.specs.declared.way.Way.TheVariants.{Alone, Back, Whole}
 use Rattle.line_editor.specs.Redraws.Redraw.{Rewritten}
-use Rattle.line_editor.specs.Rewriting.{has_letters, show_rewritten_effect, refresh_over_effect}
-use Rattle.line_editor.specs.States.{hooks_of, value_of, setting_of, IsHelpFault, error_of, reason_of, surface_of, Stays, Does}
+use Rattle.line_editor.specs.Transforms.{has_letters, show_rewritten_effect, refresh_over_effect}
+use Rattle.line_editor.specs.States.{hooks_of, value_of, setting_of, error_of, reason_of, surface_of, Stays, Does}
 use Rattle.line_editor.specs.Values.{Value, Setting, Hooks, Effect, draw_effect, then_do, hint_reply, verdict_reply, help_steps, IsFailing, with_mark, value_with_edit}
 use Rattle.line_editor.specs.Values.EditStep.{Takes}
 use Rattle.line_editor.specs.declared.renderer as renderers
 use Rattle.line_editor.specs.declared.state.State.{State}
-use Rattle.line_editor.proofs.StopsLemmas.{stops_asking, stops_after}
+use Rattle.line_editor.proofs.StopsLemmas.{stops_asking, stops_after, IsHelpFault}
 use Rattle.line_editor.proofs.DoesLemmas.{is_err, does_as, does_both, does_both_by, does_cut_by, does_refused, setting_stays, stays_same, stays_both}
 
 -- ---- a hook that fails at what it is shown fails at something
@@ -47,21 +47,21 @@ hook_reason hook (Some h) failed _ at why = absurd why
 hint_reason : (hooks : Option Hooks) (line : Line) (entries : List (List ℕ)) (history : ℕ) (failed : Bool) (e : ReadlineError)
     → IsHelpFault (option_map (λ (h : Hooks). h.hints line.text line.place entries history) hooks) e → reason_of failed (IsFailing hooks) e
 hint_reason hooks line entries history failed e why = hook_reason (λ h. h.hints line.text line.place entries history) hooks failed e
-    (λ h k. record { line = line; entries = entries; history = history; start = 0; text = []; at = inl k }) why
+    (λ h k. (line, entries, history, 0, [], inl k)) why
 
 verdict_reason : (hooks : Option Hooks) (line : Line) (failed : Bool) (e : ReadlineError) → IsHelpFault (option_map (λ (h : Hooks). h.judge line.text) hooks) e → reason_of failed (IsFailing hooks) e
 verdict_reason hooks line failed e why = hook_reason (λ h. h.judge line.text) hooks failed e
-    (λ h k. record { line = line; entries = []; history = 0; start = 0; text = []; at = inr (inl k) }) why
+    (λ h k. (line, [], 0, 0, [], inr (inl k))) why
 
 pub completion_reason : (hooks : Option Hooks) (line : Line) (entries : List (List ℕ)) (history : ℕ) (failed : Bool) (e : ReadlineError)
     → IsHelpFault (option_map (λ (h : Hooks). h.completes line.text line.place entries history) hooks) e → reason_of failed (IsFailing hooks) e
 completion_reason hooks line entries history failed e why = hook_reason (λ h. h.completes line.text line.place entries history) hooks failed e
-    (λ h k. record { line = line; entries = entries; history = history; start = 0; text = []; at = inr (inr (inl k)) }) why
+    (λ h k. (line, entries, history, 0, [], inr (inr (inl k)))) why
 
 pub update_reason : (hooks : Option Hooks) (line : Line) (start : ℕ) (text : List ℕ) (failed : Bool) (e : ReadlineError) → IsHelpFault (option_map (λ (h : Hooks). h.updates line start text) hooks) e
     → reason_of failed (IsFailing hooks) e
 update_reason hooks line start text failed e why = hook_reason (λ h. h.updates line start text) hooks failed e
-    (λ h k. record { line = line; entries = []; history = 0; start = start; text = text; at = inr (inr (inr k)) }) why
+    (λ h k. (line, [], 0, start, text, inr (inr (inr k)))) why
 
 -- ---- one of two drawings
 

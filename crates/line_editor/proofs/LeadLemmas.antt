@@ -42,7 +42,7 @@ use Rattle.line_editor.specs.RenderCalls.{Marks}
 use Rattle.line_editor.specs.Redraws.{Redraw, info_text}
 use Rattle.line_editor.specs.Redraws.Redraw.{Drawn, DrawnFrom, Moved, Typed, Appended, Taken, Erased, PutIn, TakenOut, Cleared}
 use Rattle.line_editor.specs.SharedStyles.{styles_to, told_styles}
-use Rattle.line_editor.specs.Sights.{PartSpans, drawn_spans, Sight, InPart, sight_as, sight, sight_all, Fits, FitsAll, Turns, info_one, info_after, sight_of}
+use Rattle.line_editor.specs.Sights.{PartSpans, drawn_spans, Sight, InPart, sight_as, sight, sight_all, Fits, FitsAll, Turns, info_one, info_after, sight_of, no_sight}
 use Rattle.line_editor.specs.Values.{Value, Setting, EditStep, Effect, Transition, no_effect, then_do, hint_reply, help_steps, value_with_edit, edit_effect, at_line, with_mark, marks_seen, shown_marks, shown_hint, line_and_record_of, draw_effect}
 use Rattle.line_editor.specs.Values.EditStep.{Draws, Edits, TakesBack, Takes}
 use Rattle.line_editor.proofs.ApartLemmas.{apart_before}
@@ -66,7 +66,7 @@ sight_both x (r ∷ rs) ss = sight_both (sight x r) rs ss
 
 pub info_both : (rs ss : List EditStep) (info : Option (List ℕ)) → info_after (rs ++ ss) info ≡ info_after ss (info_after rs info)
 info_both [] ss info = refl
-info_both (r ∷ rs) ss info = info_both rs ss (info_one info r)
+info_both (r ∷ rs) ss info = info_both rs ss (sight (record no_sight { info = info }) r).info
 
 pub turns_both : (own : List ℕ) (x y z : Sight) (rs ss : List EditStep) → Turns own x rs y → Turns own y ss z → Turns own x (rs ++ ss) z
 turns_both own x y z rs ss h k = record {
@@ -358,8 +358,8 @@ motion_leads (BackwardChar n) s v = found_leads (place_backward n v.line) s v
 motion_leads (ForwardChar n) s v = found_leads (place_forward n v.line) s v
 motion_leads (LineUp n) s v = found_leads (line_up s.mode s.tabs s.column n v.line) s v
 motion_leads (LineDown n) s v = found_leads (line_down s.mode s.tabs s.column n v.line) s v
-motion_leads BeginningOfBuffer s v = step_leads MoveCursor (not (v.line.place == 0)) (record v.line { place = 0 }) s v refl
-motion_leads EndOfBuffer s v = step_leads MoveCursor (not (v.line.place == length v.line.text)) (record v.line { place = length v.line.text }) s v refl
+motion_leads BeginningOfBuffer s v = place_leads MoveCursor 0 s v
+motion_leads EndOfBuffer s v = place_leads MoveCursor (length v.line.text) s v
 motion_leads m s v = rest_leads s v v (refl, refl, refl)
 
 -- ---- a typed character
@@ -476,11 +476,12 @@ module _ (s : Setting) (c n : ℕ) (v w : Value) (put : (n == 1) ≡ true → w.
               rest = drop at text;
               whole = sym (take-append-drop at text);
               text_is = new ∙ append_assoc (take at text) (encode_utf8 c) (drop at text) ∙ ap (λ x. take at text ++ (x ++ drop at text)) one;
-              at = sym size;
-              behind = place ∙ ap (λ x. at + length x) one ∙ ap (λ n. n + 1) (sym size);
+              from_is = sym size;
               plain = kept.0;
-              printable = e.0;
+              gone_printable = refl;
+              printable = ap (λ b. b && true) e.0;
             },
+            place ∙ ap (λ x. at + length x) one,
           ),
           tt,
         );
@@ -610,19 +611,22 @@ module _ (s : Setting) (v w : Value) (from upto : ℕ) (text : w.line.text ≡ r
         fits = (
           (
             bare_styles s v w info d.0 bare,
-            record {
-              before = take from before;
-              killed = killed;
-              rest = drop upto before;
-              whole = sym (take-append-drop from before)
-                  ∙ ap (λ xs. take from before ++ xs) (sym (take-append-drop (upto - from) (drop from before))
-                  ∙ ap (λ xs. killed ++ xs) (drop-drop (upto - from) from before ∙ ap (λ n. drop n before) up));
-              text_is = whole;
-              count_is = count_is;
-              at = at;
-              plain = p.0;
-              printable = ap (λ n. list_all is_printable (take n (drop from before))) many ∙ ap (λ n. list_all is_printable (take count (drop n before))) (sym place) ∙ p.1;
-            },
+            (
+              killed,
+              record {
+                before = take from before;
+                rest = drop upto before;
+                whole = sym (take-append-drop from before)
+                    ∙ ap (λ xs. take from before ++ xs) (sym (take-append-drop (upto - from) (drop from before))
+                    ∙ ap (λ xs. killed ++ xs) (drop-drop (upto - from) from before ∙ ap (λ n. drop n before) up));
+                text_is = whole;
+                from_is = at;
+                plain = p.0;
+                gone_printable = ap (λ n. list_all is_printable (take n (drop from before))) many ∙ ap (λ n. list_all is_printable (take count (drop n before))) (sym place) ∙ p.1;
+                printable = refl;
+              },
+              count_is,
+            ),
           ),
           tt,
         );

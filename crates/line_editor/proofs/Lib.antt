@@ -37,6 +37,7 @@ pub mod RowLemmas
 mod Rows
 pub mod RunLemmas
 pub mod SharedLemmas
+pub mod ShortCalls
 pub mod SimpleLemmas
 pub mod SinceLemmas
 pub mod StopsLemmas

@@ -13,8 +13,8 @@ use Rattle.line_keys.specs.declared.command.CmdKind.TheVariants.{ForcedRefresh}
 use Rattle.line_buffer.specs.Line.{Line, with_cursor_at}
 use Rattle.line_record.specs.Items.{record_on}
 use Rattle.line_editor.specs.Accepting.{bare}
-use Rattle.line_editor.specs.Moving.{cursor_moved_if, cursor_follows}
-use Rattle.line_editor.specs.Drawing.{draw_effect_with, cursor_moved}
+use Rattle.line_editor.specs.Moving.{cursor_moved_if}
+use Rattle.line_editor.specs.Drawing.{draw_effect_with, cursor_moved, effect_if}
 use Rattle.line_editor.specs.Redraws.Redraw.{Drawn, Moved, Bared}
 use Rattle.line_editor.specs.States.{value_of, setting_of, surface_of, Stays, Does}
 use Rattle.line_editor.specs.EditSteps.{surface}
@@ -33,6 +33,9 @@ same_line (Some place) l none = absurd (true≢false none)
 
 same_place : (m n : ℕ) → not (m == n) ≡ false → m ≡ n
 same_place m n h = grind (arith, nat_tests)
+
+same_test : (m n : ℕ) → not (m == n) ≡ not (n == m)
+same_test m n = grind (arith, nat_tests)
 
 module _ {Out H Hi K T : Type 0} {renderer : renderers.Renderer.Ghosts Out} {completer : completions.Completer.Ghosts H K} {candidate : completions.Candidate.Ghosts K}
     {hinter : hints.Hinter.Ghosts H T} {hint : hints.Hint.Ghosts T} {highlighter : highlights.Highlighter.Ghosts H} {validator : verdicts.Validator.Ghosts H} {history : histories.History.Ghosts Hi} where
@@ -94,7 +97,7 @@ module _ {Out H Hi K T : Type 0} {renderer : renderers.Renderer.Ghosts Out} {com
   -- the cursor moved in the line, and then on the display, or it stayed
   moved_on : {A : Type 0} (kind : CmdKind) (moves : Bool) (l : Line) (other : Transition) (s m t : State Out H Hi K T renderer completer candidate hinter hint highlighter validator history) (result : Result A ReadlineError)
       → value_of m ≡ at_line l (value_of s) → (moves ≡ false → l ≡ s.recorded.line) → surface_of m ≡ surface_of s → Stays s m
-      → cursor_moved_if kind moves l (setting_of s) (value_of s) ≡ other (setting_of s) (value_of s) → Does (cursor_follows kind moves) m t result → Does other s t result
+      → cursor_moved_if kind moves l (setting_of s) (value_of s) ≡ other (setting_of s) (value_of s) → Does (effect_if moves (cursor_moved kind)) m t result → Does other s t result
   moved_on kind true l other s m t result value same looks stays is h =
       does_from (cursor_moved kind) other s m t result
       (ap (λ (a : Setting). cursor_moved kind a (value_of m)) (setting_stays s m stays) ∙ ap (cursor_moved kind (setting_of s)) value ∙ is) looks stays h
@@ -117,26 +120,24 @@ module _ {Out H Hi K T : Type 0} {renderer : renderers.Renderer.Ghosts Out} {com
   pub follows_found : {A : Type 0} (kind : CmdKind) (found : Option ℕ) (other : Transition) (s m t : State Out H Hi K T renderer completer candidate hinter hint highlighter validator history) (moved : Bool) (result : Result A ReadlineError)
       → moved ≡ is_some found → m.recorded.line ≡ with_cursor_at found s.recorded.line → Moves s m → surface_of m ≡ surface_of s → Stays s m
       → cursor_moved_if kind (is_some found) (with_cursor_at found s.recorded.line) (setting_of s) (value_of s) ≡ other (setting_of s) (value_of s)
-      → Does (cursor_follows kind moved) m t result → Does other s t result
+      → Does (effect_if moved (cursor_moved kind)) m t result → Does other s t result
   follows_found kind found other s m t moved result answer line moves looks stays is h =
       moved_on kind (is_some found) (with_cursor_at found s.recorded.line) other s m t result (moves_to (with_cursor_at found s.recorded.line) s m moves line (same_text found s.recorded.line))
-      (same_line found s.recorded.line) looks stays is (subst (λ b. Does (cursor_follows kind b) m t result) answer h)
+      (same_line found s.recorded.line) looks stays is (subst (λ b. Does (effect_if b (cursor_moved kind)) m t result) answer h)
 
   -- to a place, if it is another one
   pub follows_place : {A : Type 0} (kind : CmdKind) (place : ℕ) (other : Transition) (s m t : State Out H Hi K T renderer completer candidate hinter hint highlighter validator history) (moved : Bool) (result : Result A ReadlineError)
       → moved ≡ not (place == s.recorded.line.place) → m.recorded.line ≡ record s.recorded.line { place = place } → Moves s m → surface_of m ≡ surface_of s → Stays s m
       → cursor_moved_if kind (not (place == s.recorded.line.place)) (record s.recorded.line { place = place }) (setting_of s) (value_of s) ≡ other (setting_of s) (value_of s)
-      → Does (cursor_follows kind moved) m t result → Does other s t result
+      → Does (effect_if moved (cursor_moved kind)) m t result → Does other s t result
   follows_place kind place other s m t moved result answer line moves looks stays is h =
       moved_on kind (not (place == s.recorded.line.place)) (record s.recorded.line { place = place }) other s m t result (moves_to (record s.recorded.line { place = place }) s m moves line refl)
       (λ stood. ap (λ n. let l : Line = record s.recorded.line { place = n } in l) (same_place place s.recorded.line.place stood)) looks stays is
-      (subst (λ b. Does (cursor_follows kind b) m t result) answer h)
+      (subst (λ b. Does (effect_if b (cursor_moved kind)) m t result) answer h)
 
   pub follows_from : {A : Type 0} (kind : CmdKind) (place : ℕ) (other : Transition) (s m t : State Out H Hi K T renderer completer candidate hinter hint highlighter validator history) (moved : Bool) (result : Result A ReadlineError)
       → moved ≡ not (s.recorded.line.place == place) → m.recorded.line ≡ record s.recorded.line { place = place } → Moves s m → surface_of m ≡ surface_of s → Stays s m
-      → cursor_moved_if kind (not (s.recorded.line.place == place)) (record s.recorded.line { place = place }) (setting_of s) (value_of s) ≡ other (setting_of s) (value_of s)
-      → Does (cursor_follows kind moved) m t result → Does other s t result
+      → cursor_moved_if kind (not (place == s.recorded.line.place)) (record s.recorded.line { place = place }) (setting_of s) (value_of s) ≡ other (setting_of s) (value_of s)
+      → Does (effect_if moved (cursor_moved kind)) m t result → Does other s t result
   follows_from kind place other s m t moved result answer line moves looks stays is h =
-      moved_on kind (not (s.recorded.line.place == place)) (record s.recorded.line { place = place }) other s m t result (moves_to (record s.recorded.line { place = place }) s m moves line refl)
-      (λ stood. ap (λ n. let l : Line = record s.recorded.line { place = n } in l) (sym (same_place s.recorded.line.place place stood))) looks stays is
-      (subst (λ b. Does (cursor_follows kind b) m t result) answer h)
+      follows_place kind place other s m t moved result (answer ∙ same_test s.recorded.line.place place) line moves looks stays is h

@@ -17,11 +17,10 @@ use Rattle.line_record.specs.Held.{HeldItem}
 use Rattle.line_editor.specs.Candidates.{only_text, candidate_at, several, is_ambiguous, modal_after_offer, cycle_at, cycle_back, cycle_effect, modal_after_ask, offer_effect, list_shown, only_put}
 use Rattle.line_editor.specs.Completing.{begins_word, common_text_among, common_text, word_updated, complete_effect, candidates_given, candidates_asked, word_completed}
 use Rattle.line_editor.specs.Drawing.{refresh_effect, beep_effect, effect_if}
-use Rattle.line_editor.specs.History.{leave_effect}
-use Rattle.line_editor.specs.ModalCommands.{meeting_effect, meeting_at_rest, meeting_in_prefixes, meeting_after_tab, meeting_anew, meeting_in_list, meeting_in_cycle, meeting_in, meeting_in_search}
+use Rattle.line_editor.specs.History.{leave_effect, value_on_leaving}
+use Rattle.line_editor.specs.ModalCommands.{meeting_effect, meeting_at_rest, meeting_in_prefixes, meeting_after_tab, meeting_anew, meeting_in_list, meeting_in_cycle, meeting_in, meeting_in_search, meeting_on, is_prefix, is_own, earlier, later, rises}
 use Rattle.line_editor.specs.Modal.{Modal, modal_at_rest, pass_meeting, takes, goes, wish_of}
-use Rattle.line_editor.specs.Prefixes.{is_prefix, is_own, earlier, later, rises_if}
-use Rattle.line_editor.specs.Searching.{modal_after_erase, looks_again, modal_with_char, search_for, onward, hit_undo_effect, put_hit_effect, is_place, place_effect, give_up_effect, search_start_if, hit_again, search_again_meeting, act_of}
+use Rattle.line_editor.specs.Searching.{modal_after_erase, looks_again, modal_with_char, search_for, onward, hit_undo_effect, put_hit_effect, is_place, place_effect, give_up_effect, hit_again, search_again_meeting, act_of, begin_search, modal_at_search_start}
 use Rattle.line_editor.specs.Values.{Value, Setting, Saved, no_effect, then_do, completion_reply, edit_effect, at_line, close_groups}
 use Rattle.line_editor.specs.declared.modal_state.Act.{Act}
 use Rattle.line_editor.specs.declared.modal_state.Act.TheVariants.{Types, Erases, Goes, Leaves, Ends}
@@ -80,7 +79,7 @@ module _ (fact : Fact) (s : Setting) (k : KeptByEdits fact s) where
   again true q v h = placed q.put q.place v h
   again false q v h = entry_put q.put (search_for q.query q.dir (Some q.start) s.entries) v h
 
-  begun : (empty : Bool) (dir : SearchDirection) (q : Modal) (cmd : Cmd) (v : Value) → Holds fact v → Holds fact (search_start_if empty dir q cmd s v).effect.value
+  begun : (empty : Bool) (dir : SearchDirection) (q : Modal) (cmd : Cmd) (v : Value) → Holds fact v → Holds fact (if empty then pass_meeting q cmd v else takes (begin_search dir q) (modal_at_search_start dir (length s.entries) v q) s v).effect.value
   begun true dir q cmd v h = h
   begun false dir q cmd v h = k.closed v h
 
@@ -94,9 +93,9 @@ module _ (fact : Fact) (s : Setting) (k : KeptByEdits fact s) where
   risen false q v h = h
   risen true q v h = k.left v h
 
-  rises : (own : Bool) (q : Modal) (cmd : Cmd) (v : Value) → Holds fact v → Holds fact (rises_if own q cmd s v).effect.value
-  rises true q cmd v h = risen (is_some (earlier s v)) q v h
-  rises false q cmd v h = h
+  risen_if : (own : Bool) (q : Modal) (cmd : Cmd) (v : Value) → Holds fact v → Holds fact (if own then rises q s v else pass_meeting q cmd v).effect.value
+  risen_if true q cmd v h = risen (is_some (earlier s v)) q v h
+  risen_if false q cmd v h = h
 
   fallen : (some : Bool) (q : Modal) (v : Value) → Holds fact v → Holds fact (if some then goes no_effect q HistorySearchForward s v else goes no_effect (modal_at_rest q) EndOfHistory s v).effect.value
   fallen false q v h = h
@@ -158,28 +157,28 @@ module _ (fact : Fact) (s : Setting) (k : KeptByEdits fact s) where
 
   at_rest : (wish : Wish) (q : Modal) (cmd : Cmd) (v : Value) → Holds fact v → Holds fact (meeting_at_rest wish q cmd s v).effect.value
   at_rest (Search dir) q cmd v h = begun (length s.entries == 0) dir q cmd v h
-  at_rest Up q cmd v h = rises (is_own s v && is_prefix v.line) q cmd v h
+  at_rest Up q cmd v h = risen_if (is_own s v && is_prefix v.line) q cmd v h
   at_rest Tab q cmd v h = tabbed (is_some s.hooks) q.lists_at_once q cmd v h
   at_rest (Again way) q cmd v h = found_again (hit_again way q s v) q v h
   at_rest wish q cmd v h = h
 
-  in_prefixes : (wish : Wish) (q : Modal) (cmd : Cmd) (v : Value) → Holds fact v → Holds fact (meeting_in_prefixes wish q cmd s v).effect.value
+  in_prefixes : (wish : Wish) (q : Modal) (cmd : Cmd) (v : Value) → Holds fact v → Holds fact (meeting_on Prefixes wish q cmd s v).effect.value
   in_prefixes Up q cmd v h = risen (is_some (earlier s v)) q v h
   in_prefixes Down q cmd v h = fallen (is_some (later s v)) q v h
   in_prefixes wish q cmd v h = at_rest wish (modal_at_rest q) cmd v h
 
-  after_tab : (wish : Wish) (q : Modal) (cmd : Cmd) (v : Value) → Holds fact v → Holds fact (meeting_after_tab wish q cmd s v).effect.value
+  after_tab : (wish : Wish) (q : Modal) (cmd : Cmd) (v : Value) → Holds fact v → Holds fact (meeting_on Tabbed wish q cmd s v).effect.value
   after_tab Tab q cmd v h = tabbed (is_some s.hooks) true q cmd v h
   after_tab wish q cmd v h = at_rest wish (modal_at_rest q) cmd v h
 
   anew : (wish : Wish) (q : Modal) (cmd : Cmd) (v : Value) → Holds fact v → Holds fact (meeting_anew wish q cmd s v).effect.value
   anew wish q cmd v h = at_rest wish (modal_at_rest q) cmd (refresh_effect s v).value h
 
-  in_list : (wish : Wish) (q : Modal) (cmd : Cmd) (v : Value) → Holds fact v → Holds fact (meeting_in_list wish q cmd s v).effect.value
+  in_list : (wish : Wish) (q : Modal) (cmd : Cmd) (v : Value) → Holds fact v → Holds fact (meeting_on Lists wish q cmd s v).effect.value
   in_list Tab q cmd v h = tabbed (is_some s.hooks) true q cmd v h
   in_list wish q cmd v h = anew wish q cmd v h
 
-  in_cycle : (wish : Wish) (q : Modal) (cmd : Cmd) (v : Value) → Holds fact v → Holds fact (meeting_in_cycle wish q cmd s v).effect.value
+  in_cycle : (wish : Wish) (q : Modal) (cmd : Cmd) (v : Value) → Holds fact v → Holds fact (meeting_on Cycles wish q cmd s v).effect.value
   in_cycle Tab q cmd v h = cycled (is_some s.hooks) Forward q cmd v h
   in_cycle TabBack q cmd v h = cycled (is_some s.hooks) Reverse q cmd v h
   in_cycle Leave q cmd v h = given_up q v h
@@ -188,7 +187,7 @@ module _ (fact : Fact) (s : Setting) (k : KeptByEdits fact s) where
   in_search : (act : Act) (q : Modal) (cmd : Cmd) (v : Value) → Holds fact v → Holds fact (meeting_in_search act q cmd s v).effect.value
   in_search (Types c) q cmd v h = entry_put q.put (search_for (modal_with_char c q).query q.dir (Some q.at) s.entries) v h
   in_search Erases q cmd v h = again (length (modal_after_erase q).query == 0) (modal_after_erase q) v h
-  in_search (Goes dir) q cmd v h = entry_put q.put (search_for q.query dir (onward dir q (length s.entries)) s.entries) v h
+  in_search (Goes dir) q cmd v h = entry_put q.put (search_for q.query dir (onward q.at dir q (length s.entries)) s.entries) v h
   in_search Leaves q cmd v h = given_up q v h
   in_search Ends q cmd v h = anew (wish_of cmd) q cmd v h
 

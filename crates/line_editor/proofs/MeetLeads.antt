@@ -17,7 +17,7 @@ use Rattle.line_editor.specs.Completing.{common_text, updates, word_updated, wor
 use Rattle.line_edits.specs.Edits.{update_group}
 use Rattle.line_editor.specs.Drawing.{draw_effect_behind, ask_anew_effect, refresh_effect, refresh_effect_behind, beep_effect}
 use Rattle.line_editor.specs.Redraws.{Redraw}
-use Rattle.line_editor.specs.ModalCommands.{meeting_at_rest, meeting_in_prefixes, meeting_after_tab, meeting_anew, meeting_in_list, meeting_in_cycle, meeting_in, sight_in_mode, modal_seen, meeting_in_search}
+use Rattle.line_editor.specs.ModalCommands.{meeting_at_rest, meeting_in_prefixes, meeting_after_tab, meeting_anew, meeting_in_list, meeting_in_cycle, meeting_in, sight_in_mode, modal_seen, meeting_in_search, meeting_on, is_prefix, is_own, earlier, later, rises}
 use Rattle.line_editor.specs.Modal.{Modal, Meeting, modal_first, first_standing, modal_at_rest, pass_meeting, takes, goes, wish_of}
 use Rattle.line_editor.specs.Prefixes.{is_prefix, is_own, earlier, later, rises_if}
 use Rattle.line_editor.specs.History.{with_saved_line, leave_effect, save_effect}
@@ -57,12 +57,12 @@ pub seen_info : (at : Standing) (x : Modal) (s : Setting) (v : Value) (info : Op
 seen_info Searches x s v info = refl
 seen_info at x s v info = refl
 
-first_own : (on : Bool) → shows_own (first_standing on) ≡ true
+first_own : (on : Bool) → shows_own (if on then Rests else Off) ≡ true
 first_own true = refl
 first_own false = refl
 
 pub first_seen : (config : Config) (query : List ℕ) (s : Setting) (v : Value) (info : Option (List ℕ)) → modal_seen (modal_first config query) s v info ≡ sight_of s v info
-first_seen config query s v info = seen_resting (first_standing config.modal_commands) (modal_first config query) s v info (first_own config.modal_commands)
+first_seen config query s v info = seen_resting (if config.modal_commands then Rests else Off) (modal_first config query) s v info (first_own config.modal_commands)
 
 -- ---- steps that draw nothing, and a drawing after them
 
@@ -169,7 +169,7 @@ emptied_drawn false q s v info x = search_met s (place_effect q.place s v).value
 
 again_met : (empty : Bool) (q : Modal) (s : Setting) (v : Value) (info : Option (List ℕ)) (x : Sight) → q.standing ≡ Searches → Met s info x (looks_again empty q s v)
 again_met true q s v info x is =
-    let w = (empty_query_effect q s v).value in
+    let w = (looks_again true q s v).effect.value in
     met_drawn s info x _ (looks_again true q s v) _ (emptied_drawn q.put q s v info x) (seen_standing q.standing (modal_with_empty_query q) s w (shown_hint w) is) (inl refl)
 again_met false q s v info x is = looks_met q.dir (Some q.start) q s v info x is
 
@@ -179,12 +179,12 @@ passes_met : (q : Modal) (cmd : Cmd) (s : Setting) (v : Value) (info : Option (L
 passes_met q cmd s v info x rests from = record { fits = tt; leads = from ∙ sym (seen_resting q.standing q s v info rests); next = inr rests }
 
 begun_met : (empty : Bool) (dir : SearchDirection) (q : Modal) (cmd : Cmd) (s : Setting) (v : Value) (info : Option (List ℕ)) (x : Sight) → shows_own q.standing ≡ true → x ≡ sight_of s v info
-    → Met s info x (search_start_if empty dir q cmd s v)
+    → Met s info x (if empty then pass_meeting q cmd v else takes (begin_search dir q) (modal_at_search_start dir (length s.entries) v q) s v)
 begun_met true dir q cmd s v info x rests from = passes_met q cmd s v info x rests from
 begun_met false dir q cmd s v info x rests from =
     let y = modal_at_search_start dir (length s.entries) v q in
     let w = (begin_search dir q s v).value in
-    met_drawn s info x _ (search_start_if false dir q cmd s v) _ (search_met s _ info x y) refl (inl refl)
+    met_drawn s info x _ (takes (begin_search dir q) y s v) _ (search_met s _ info x y) refl (inl refl)
 
 -- another command is done, over steps that draw nothing
 saved_met : (ends : Bool) (q : Modal) (next : Cmd) (s : Setting) (v : Value) (info : Option (List ℕ)) (x : Sight) → shows_own q.standing ≡ true → x ≡ sight_of s v info
@@ -201,7 +201,7 @@ risen_met : (some : Bool) (q : Modal) (s : Setting) (v : Value) (info : Option (
 risen_met false q s v info x own from = beeped_met q s v info x own from
 risen_met true q s v info x own from = saved_met (v.history == length s.entries) (record q { standing = Prefixes }) HistorySearchBackward s v info x refl from
 
-rises_met : (own : Bool) (q : Modal) (cmd : Cmd) (s : Setting) (v : Value) (info : Option (List ℕ)) (x : Sight) → shows_own q.standing ≡ true → x ≡ sight_of s v info → Met s info x (rises_if own q cmd s v)
+rises_met : (own : Bool) (q : Modal) (cmd : Cmd) (s : Setting) (v : Value) (info : Option (List ℕ)) (x : Sight) → shows_own q.standing ≡ true → x ≡ sight_of s v info → Met s info x (if own then rises q s v else pass_meeting q cmd v)
 rises_met true q cmd s v info x own from = risen_met (is_some (earlier s v)) q s v info x own from
 rises_met false q cmd s v info x own from = passes_met q cmd s v info x own from
 
@@ -336,12 +336,12 @@ resting_met Tab q cmd s v info x own from = tab_met (is_some s.hooks) q.lists_at
 resting_met (Again way) q cmd s v info x own from = again_found_met (hit_again way q s v) q s v info x own from
 resting_met wish q cmd s v info x own from = passes_met q cmd s v info x own from
 
-prefixes_met : (wish : Wish) (q : Modal) (cmd : Cmd) (s : Setting) (v : Value) (info : Option (List ℕ)) (x : Sight) → shows_own q.standing ≡ true → x ≡ sight_of s v info → Met s info x (meeting_in_prefixes wish q cmd s v)
+prefixes_met : (wish : Wish) (q : Modal) (cmd : Cmd) (s : Setting) (v : Value) (info : Option (List ℕ)) (x : Sight) → shows_own q.standing ≡ true → x ≡ sight_of s v info → Met s info x (meeting_on Prefixes wish q cmd s v)
 prefixes_met Up q cmd s v info x own from = risen_met (is_some (earlier s v)) q s v info x own from
 prefixes_met Down q cmd s v info x own from = fallen_met (is_some (later s v)) q s v info x own from
 prefixes_met wish q cmd s v info x own from = resting_met wish (modal_at_rest q) cmd s v info x refl from
 
-tabbed_met : (wish : Wish) (q : Modal) (cmd : Cmd) (s : Setting) (v : Value) (info : Option (List ℕ)) (x : Sight) → shows_own q.standing ≡ true → x ≡ sight_of s v info → Met s info x (meeting_after_tab wish q cmd s v)
+tabbed_met : (wish : Wish) (q : Modal) (cmd : Cmd) (s : Setting) (v : Value) (info : Option (List ℕ)) (x : Sight) → shows_own q.standing ≡ true → x ≡ sight_of s v info → Met s info x (meeting_on Tabbed wish q cmd s v)
 tabbed_met Tab q cmd s v info x own from = tab_met (is_some s.hooks) true q cmd s v info x own from
 tabbed_met wish q cmd s v info x own from = resting_met wish (modal_at_rest q) cmd s v info x refl from
 
@@ -353,14 +353,14 @@ anew_met wish q cmd s v info x =
     both_met s info x e.steps (meeting_at_rest wish (modal_at_rest q) cmd s e.value) first.fits
     (resting_met wish (modal_at_rest q) cmd s e.value (info_after e.steps info) (sight_all x e.steps) refl (first.leads ∙ ap (sight_of s e.value) (sym first.info_is)))
 
-lists_met : (wish : Wish) (q : Modal) (cmd : Cmd) (s : Setting) (v : Value) (info : Option (List ℕ)) (x : Sight) → shows_own q.standing ≡ true → x ≡ sight_of s v info → Met s info x (meeting_in_list wish q cmd s v)
+lists_met : (wish : Wish) (q : Modal) (cmd : Cmd) (s : Setting) (v : Value) (info : Option (List ℕ)) (x : Sight) → shows_own q.standing ≡ true → x ≡ sight_of s v info → Met s info x (meeting_on Lists wish q cmd s v)
 lists_met Tab q cmd s v info x own from = tab_met (is_some s.hooks) true q cmd s v info x own from
 lists_met wish q cmd s v info x own from = anew_met wish q cmd s v info x
 
-cycles_met : (wish : Wish) (q : Modal) (cmd : Cmd) (s : Setting) (v : Value) (info : Option (List ℕ)) (x : Sight) → shows_own q.standing ≡ true → x ≡ sight_of s v info → Met s info x (meeting_in_cycle wish q cmd s v)
+cycles_met : (wish : Wish) (q : Modal) (cmd : Cmd) (s : Setting) (v : Value) (info : Option (List ℕ)) (x : Sight) → shows_own q.standing ≡ true → x ≡ sight_of s v info → Met s info x (meeting_on Cycles wish q cmd s v)
 cycles_met Tab q cmd s v info x own from = cycle_met (is_some s.hooks) Forward q cmd s v info x own from
 cycles_met TabBack q cmd s v info x own from = cycle_met (is_some s.hooks) Reverse q cmd s v info x own from
-cycles_met Leave q cmd s v info x own from = own_met s info x (meeting_in_cycle Leave q cmd s v) _ (left_drawn q.put q.place s v info x) refl
+cycles_met Leave q cmd s v info x own from = own_met s info x (meeting_on Cycles Leave q cmd s v) _ (left_drawn q.put q.place s v info x) refl
 cycles_met wish q cmd s v info x own from = resting_met wish (modal_at_rest q) cmd s v info x refl from
 
 acted_met : (act : Act) (q : Modal) (cmd : Cmd) (s : Setting) (v : Value) (info : Option (List ℕ)) (x : Sight) → q.standing ≡ Searches → Met s info x (meeting_in_search act q cmd s v)
@@ -368,7 +368,7 @@ acted_met (Types c) q cmd s v info x is =
     let z = modal_with_char c q in
     met_drawn s info x _ (looks_typed c q s v) _ (after_step (Takes v) s.prompt info x _ _ _ refl (looks_drawn q.dir (Some q.at) z s v info x is)) refl (inl refl)
 acted_met Erases q cmd s v info x is = again_met (length (modal_after_erase q).query == 0) (modal_after_erase q) s v info x is
-acted_met (Goes dir) q cmd s v info x is = looks_met dir (onward dir q (length s.entries)) (modal_with_query q.query q) s v info x is
+acted_met (Goes dir) q cmd s v info x is = looks_met dir (onward q.at dir q (length s.entries)) (modal_with_query q.query q) s v info x is
 acted_met Leaves q cmd s v info x is = met_drawn s info x _ (meeting_in_search Leaves q cmd s v) _ (left_drawn q.put q.place s v info x) refl (inl refl)
 acted_met Ends q cmd s v info x is = anew_met (wish_of cmd) q cmd s v info x
 

@@ -15,10 +15,9 @@ use Rattle.line_help.specs.declared.history.search.SearchDirection.{SearchDirect
 use Rattle.line_record.specs.Items.{record_on}
 use Rattle.line_editor.specs.Drawing.{refresh_effect_behind}
 use Rattle.line_editor.specs.Modal.{Modal, Meeting, next_of}
-use Rattle.line_editor.specs.Searching.{search_prompt, search_drawn, hit_undo_effect, put_hit_effect, search_shown_effect, look, modal_after_look, search_for, modal_with_char, type_effect, looks_again, modal_after_erase, act_of}
+use Rattle.line_editor.specs.Searching.{search_prompt, search_drawn, hit_undo_effect, put_hit_effect, look, modal_after_look, search_for, modal_with_char, looks_again, modal_after_erase, act_of, looks_typed}
 use Rattle.line_editor.specs.ModalCommands.{meeting_in, meeting, meeting_effect, meeting_in_search}
-use Rattle.line_editor.specs.States.{value_of, setting_of, surface_of, Stays, Does}
-use Rattle.line_editor.specs.Turn.{Meets}
+use Rattle.line_editor.specs.States.{value_of, setting_of, surface_of, Stays, Does, Meets}
 use Rattle.line_editor.specs.Values.{Value, Setting, Transition, memory_effect, then_do}
 use Rattle.line_editor.specs.declared.modal_state.Act.TheVariants.{Erases}
 use Rattle.line_editor.specs.declared.modal_state.Next.TheVariants.{Nothing}
@@ -28,6 +27,9 @@ use Rattle.line_editor.specs.declared.state.State.{State}
 use Rattle.line_editor.proofs.DoesLemmas.{does_as, does_both, does_cut_by, does_refused, is_err, stays_same}
 use Rattle.line_editor.proofs.StopsLemmas.{stops_taking, stops_taking_back}
 use Rattle.line_editor.proofs.UndoLemmas.{CutUndoItems, undone_partly}
+
+abbrev search_shown_effect : SearchDirection → Option Hit → Modal → Transition
+search_shown_effect dir hit x = then_do (put_hit_effect x.put hit) (search_drawn (modal_after_look dir hit x))
 
 again_next : (empty : Bool) (q : Modal) (s : Setting) (v : Value) → (looks_again empty q s v).next ≡ Unknown
 again_next true q s v = refl
@@ -89,7 +91,7 @@ module _ {Out H Hi K T : Type 0} {renderer : renderers.Renderer.Ghosts Out} {com
 
   -- a character more
   pub typed_shown : {A : Type 0} (c : ℕ) (q z : Modal) (s t : State Out H Hi K T renderer completer candidate hinter hint highlighter validator history) (result : Result A ReadlineError)
-      → z ≡ modal_with_char c q → Does (look z.dir (Some z.at) z) s t result → Does (type_effect c q) s t result
+      → z ≡ modal_with_char c q → Does (look z.dir (Some z.at) z) s t result → Does (λ a v. (looks_typed c q a v).effect) s t result
   typed_shown {A} c q z s t result is h =
       taken_then (look q.dir (Some q.at) (modal_with_char c q)) s t result (subst (λ (y : Modal). Does {A = A} (look y.dir (Some y.at) y) s t result) is h)
 

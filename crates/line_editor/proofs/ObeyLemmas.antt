@@ -4,7 +4,7 @@ use Rattle.std.specs.Prelude.{Ok}
 use Rattle.line_keys.specs.declared.command.Cmd.{Cmd}
 use Rattle.line_keys.specs.declared.command.Cmd.TheVariants.{AcceptLine, AcceptOrInsertLine, EndOfFile, Interrupt, Kill, Replace, ViYankTo}
 use Rattle.line_editor.specs.Commands.{Means, outcome}
-use Rattle.line_editor.specs.Turn.{is_obeyed}
+use Rattle.line_editor.specs.States.{is_obeyed}
 use Rattle.line_editor.specs.Values.{Setting, Value}
 use Rattle.line_editor.specs.declared.commands.Status.TheVariants.{Proceed}
 

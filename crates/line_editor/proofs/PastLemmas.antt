@@ -1,5 +1,5 @@
 -- If nothing stands, a command that begins nothing is done as it comes.
-use Rattle.std.proofs.Common.{◌≡◌, Bool, true, false, List, ◌∷◌, ◌++◌, refl, ap}
+use Rattle.std.proofs.Common.{◌≡◌, Bool, true, false, List, ◌∷◌, ◌++◌, refl, ap, if◌then◌else◌}
 use Rattle.script.specs.Played.{play_with_first_ask}
 use Rattle.script.specs.Scripts.{Ends, Asks}
 use Rattle.line_keys.specs.KeyFeeds.{item_at}
@@ -7,7 +7,7 @@ use Rattle.line_keys.specs.PhraseScripts.{KeyScript, Needs, Shows, Reads, Become
 use Rattle.line_keys.specs.declared.command.Cmd.{Cmd}
 use Rattle.line_editor.specs.LineScripts.{Keys, Meets, LineAsk, LineState, script_of_keys, meet_script, left_at, steps_along, played_from, Obeys}
 use Rattle.line_editor.specs.ModalCommands.{OffPasses, meeting_at_rest, meeting_in}
-use Rattle.line_editor.specs.Modal.{Modal, Meeting, pass_meeting, is_at_rest, first_standing, wish_of}
+use Rattle.line_editor.specs.Modal.{Modal, Meeting, pass_meeting, is_at_rest, wish_of}
 use Rattle.line_editor.specs.Values.{Value, Setting}
 use Rattle.line_editor.specs.declared.modal_state.Standing.{Standing}
 use Rattle.line_editor.specs.declared.modal_state.Standing.TheVariants.{Off, Rests}
@@ -53,7 +53,7 @@ steps_past s cmd k asks rests none =
     ap (λ (m : Meeting). m.effect.steps ++ steps_along s (record k { value = m.effect.value; modal = m.modal }) asks)
     (goes_past k.modal.standing k.modal cmd s k.value rests none)
 
-pub first_rests : (on : Bool) → is_at_rest (first_standing on) ≡ true
+pub first_rests : (on : Bool) → is_at_rest (if on then Rests else Off) ≡ true
 first_rests true = refl
 first_rests false = refl
 

@@ -17,7 +17,7 @@ use Rattle.line_editor.specs.Drawing.{shown_in, ask_effect}
 use Rattle.line_editor.specs.RenderCalls.{Canvas, Ruler, MadeIn}
 use Rattle.line_editor.specs.LineScripts.{LineAsk, LineAnswer, LineScript, script_of_keys, line_state, LineStage, Answered, Stopped, line_world}
 use Rattle.line_editor.specs.Modal.{Modal}
-use Rattle.line_editor.specs.States.{value_of, setting_of, surface_of, display_of, Stays, Does}
+use Rattle.line_editor.specs.States.{value_of, setting_of, surface_of, display_of, Stays, Does, stage_of, world_of}
 use Rattle.line_editor.specs.EditSteps.{calls_of_steps, CutEditSteps, CallsMade}
 use Rattle.line_editor.specs.Turn.{stage_of, world_of}
 use Rattle.line_editor.specs.Values.{Setting, Transition}

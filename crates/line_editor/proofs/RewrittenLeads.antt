@@ -15,8 +15,7 @@ use Rattle.line_editor.specs.Drawing.{redraw_of, ask_anew_effect, effect_if}
 use Rattle.line_editor.specs.Inserting.{is_bare}
 use Rattle.line_editor.specs.Leads.{Leads}
 use Rattle.line_editor.specs.Redraws.Redraw.{Rewritten}
-use Rattle.line_editor.specs.Rewriting.{has_letters, may_be_rewritten, show_rewritten_effect, refresh_over_effect}
-use Rattle.line_editor.specs.Transforms.{pair_end, transpose_chars_effect}
+use Rattle.line_editor.specs.Transforms.{has_letters, may_be_rewritten, show_rewritten_effect, refresh_over_effect, pair_end, transpose_chars_effect}
 use Rattle.line_editor.specs.Values.{Value, Setting, no_effect, hint_reply, value_with_edit}
 use Rattle.line_editor.specs.Values.EditStep.{Draws}
 use Rattle.line_editor.proofs.LeadLemmas.{either, bare_styles, edit_leads, help_leads, rest_leads, whole_leads}
@@ -40,20 +39,22 @@ module _ (s : Setting) (v w : Value) (from upto : ℕ) (letters : List ℕ) (tex
         fits = (
           (
             bare_styles s v w info b.0 (and_parts (is_bare w) _ has).0,
-            record {
-              before = take from old;
-              gone = gone;
-              letters = letters;
-              rest = drop upto old;
-              whole = sym (take-append-drop from old) ∙ ap (λ x. take from old ++ x) (drop_split old from upto (omega arith));
-              text_is = text ∙ append_assoc (take from old) letters (drop upto old);
-              as_many = omega arith;
-              from_is = sym front;
-              upto_is = omega arith;
-              plain = d.0;
-              gone_printable = e.1;
-              printable = printable e.1;
-            },
+            (
+              gone,
+              letters,
+              record {
+                before = take from old;
+                rest = drop upto old;
+                whole = sym (take-append-drop from old) ∙ ap (λ x. take from old ++ x) (drop_split old from upto (omega arith));
+                text_is = text ∙ append_assoc (take from old) letters (drop upto old);
+                from_is = sym front;
+                plain = d.0;
+                gone_printable = e.1;
+                printable = printable e.1;
+              },
+              omega arith,
+              omega arith,
+            ),
           ),
           tt,
         );

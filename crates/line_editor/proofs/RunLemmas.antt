@@ -22,9 +22,8 @@ use Rattle.line_editor.specs.LineScripts.{LineStage, line_state, line_script, li
 use Rattle.line_editor.specs.Redraws.{fresh}
 use Rattle.line_editor.specs.LineRun.{Helping, helper_from_hooks, setting_by, stage_first, outcome_of, open_or, IsOpen, Runs}
 use Rattle.line_editor.specs.Modal.{Modal, modal_first}
-use Rattle.line_editor.specs.States.{hooks_of, value_of, setting_of, Stays, Starts}
+use Rattle.line_editor.specs.States.{hooks_of, value_of, setting_of, Stays, Starts, cause_of, Cause, Takes, stage_of, world_of}
 use Rattle.line_editor.specs.EditSteps.{surface}
-use Rattle.line_editor.specs.Turn.{cause_of, Cause, Takes, stage_of, world_of}
 use Rattle.line_editor.specs.Values.{Value, Setting, Hooks, IsFailing, empty_at, first_value}
 use Rattle.line_editor.specs.declared.line_run.Ran.{Ran}
 use Rattle.line_editor.specs.declared.renderer as renderers

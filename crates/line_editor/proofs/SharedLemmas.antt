@@ -11,9 +11,13 @@ use Rattle.line_help.specs.Paints.{plain, span_styles}
 use Rattle.line_help.specs.declared.helpers.style.Span.{Span}
 use Rattle.line_help.specs.declared.helpers.style.Style.{Style}
 use Rattle.line_help.proofs.SameStyles.{same_style-equal}
-use Rattle.line_editor.specs.SharedStyles.{styles_to, most_spans, told_styles, same_style, shared_styles, plain_rest, is_used}
+use Rattle.line_editor.specs.SharedStyles.{styles_to, most_spans, told_styles, same_style, plain_rest, is_used}
+use Rattle.std.specs.List.{common_prefix_len}
 
 -- ---- the front that two lists share
+
+abbrev pub shared_styles : List Style → List Style → ℕ
+shared_styles old new = common_prefix_len same_style old new
 
 -- what both share is the same
 same_step : (x y : Style) (xs ys : List Style) (k : ℕ) (b : Bool) → same_style x y ≡ b → take k xs ≡ take k ys → take (cond b (1 + k) 0) (x ∷ xs) ≡ take (cond b (1 + k) 0) (y ∷ ys)

@@ -1,6 +1,6 @@
 -- Steps of which the first ones were made, and a fault.
 use Rattle.std.proofs.Common.{◌≡◌, ℕ, Bool, true, false, true≢false, List, [], ◌∷◌, ◌++◌, refl, sym, ap, subst, ◌∙◌, inl, inr, append_assoc}
-use Rattle.std.specs.Prelude.{⊤, Option, Some, None, is_some, Result, Ok, Err, IfErr, IsFalse}
+use Rattle.std.specs.Prelude.{⊤, Option, Some, None, is_some, Result, Ok, Err, IfErr, IsFalse, IsSomeAnd}
 use Rattle.std.specs.List.{FoldsTo}
 use Rattle.line_buffer.specs.declared.layout.Layout.{Layout}
 use Rattle.line_config.specs.declared.errors.ReadlineError.{ReadlineError}
@@ -12,9 +12,13 @@ use Rattle.line_editor.specs.RenderCalls.Call.{Help}
 use Rattle.line_editor.specs.Completing.{updates}
 use Rattle.line_editor.specs.Redraws.{Redraw, RedrawCalls, calls_of_redraw, then_asked}
 use Rattle.line_editor.specs.States.{fails_by, IsHelpFault}
-use Rattle.line_editor.specs.EditSteps.{one, calls_of_steps, Surface, surface, CutHelp, UndonePartly, CutEditSteps, CallsMade}
+use Rattle.line_editor.specs.EditSteps.{one, calls_of_steps, Surface, surface, CutHelp, UndonePartly, CutEditSteps, CallsMade, SameBeside, StepMade}
 use Rattle.line_editor.specs.Values.{Value, EditStep, line_and_record_of, value_with_edit, help_steps, shown_marks}
 use Rattle.line_editor.specs.Values.EditStep.{Draws, Edits, TakesBack, Takes}
+
+-- a fault of a hook that is called
+abbrev pub IsHelpFault : {A : Type 0} → Option (Reply A) → ReadlineError → Type 0
+IsHelpFault reply why = IsSomeAnd reply (λ r. CutHelp (fails r) r.takes why)
 
 -- ---- calls
 

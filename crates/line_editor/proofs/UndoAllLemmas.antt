@@ -28,8 +28,8 @@ use Rattle.line_keys.specs.declared.command.Cmd.TheVariants.{BeginningOfHistory,
 use Rattle.line_editor.specs.Commands.{Means, effect}
 use Rattle.line_editor.specs.Completing.{word_put}
 use Rattle.line_editor.specs.Leads.{Reaches, Sound}
-use Rattle.line_editor.specs.History.{at_place, recall, history_step, history_end, history_search, entry_shown, leave_effect, save_effect}
-use Rattle.line_editor.specs.Returns.{ValueStep, value_after, BegunSound, UndoesAll}
+use Rattle.line_editor.specs.History.{at_place, recall, history_step, history_end, history_search, entry_shown, leave_effect, save_effect, with_saved_line, value_on_leaving, hit_effect}
+use Rattle.line_editor.specs.Returns.{ValueStep, value_after, BegunSound, UndoesAll, Along}
 use Rattle.line_editor.specs.Returns.ValueStep.{Done, Asked, Met}
 use Rattle.line_editor.specs.Values.{Value, Setting, value_with_edit, line_and_record_of, no_effect}
 use Rattle.line_editor.proofs.CommandKeeps.{KeptByCommands, either_holds, found_holds, command_keeps}
@@ -191,7 +191,7 @@ one_reached (Done m cmd) s v first ok r = command_reached m cmd s v first ok r
 one_reached (Asked ask) s v first ok r = ask_reached ask s v first r
 one_reached (Met q cmd) s v first ok r = meeting_keeps (reaching first) s (reach_kept first s) q cmd v r
 
-all_reached : (steps : List ValueStep) (s : Setting) (v : Value) (first : List ℕ) → BegunSound s steps v → Reached first v → Reached first (fold (value_after s) v steps)
+all_reached : (steps : List ValueStep) (s : Setting) (v : Value) (first : List ℕ) → Along (λ step. Sound) s steps v → Reached first v → Reached first (fold (value_after s) v steps)
 all_reached [] s v first ok r = r
 all_reached (step ∷ steps) s v first ok r = all_reached steps s (value_after s v step) first ok.1 (one_reached step s v first ok.0 r)
 

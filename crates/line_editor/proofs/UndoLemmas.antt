@@ -16,16 +16,20 @@ use Rattle.line_help.specs.declared.helpers.highlight as highlights
 use Rattle.line_help.specs.declared.helpers.validate as verdicts
 use Rattle.line_help.specs.declared.history as histories
 use Rattle.line_editor.specs.Drawing.{refresh_effect}
-use Rattle.line_editor.specs.Transforms.{unmark_effect, undo_effect, undo}
+use Rattle.line_editor.specs.Transforms.{undo_effect, undo}
 use Rattle.line_editor.specs.States.{value_of, setting_of, surface_of, Stays, Does}
 use Rattle.line_editor.specs.EditSteps.{UndonePartly, CutEditSteps}
 use Rattle.line_editor.specs.Returns.{UndoReaches}
-use Rattle.line_editor.specs.Values.{Value, Setting, then_do, value_with_edit}
+use Rattle.line_editor.specs.Values.{Value, Setting, then_do, value_with_edit, Transition}
 use Rattle.line_editor.specs.declared.renderer as renderers
 use Rattle.line_editor.specs.declared.state.State.{State}
 use Rattle.line_editor.proofs.DoesLemmas.{does_as, is_err}
 use Rattle.line_editor.proofs.ReachLemmas.{undo_reached}
 use Rattle.line_editor.proofs.StopsLemmas.{stops_taking_back}
+use Rattle.line_editor.specs.Values.EditStep.{TakesBack}
+
+abbrev unmark_effect : ℕ → Transition
+unmark_effect n s v = record { value = record v { held = drop (max n 1) v.held }; steps = TakesBack v (max n 1) ∷ [] }
 
 all_back : (n : ℕ) (held : List HeldItem) (l : Line) (first : List ℕ) → length held ≤ n → Reaches first held l.text → (line_back n held l).text ≡ first
 all_back zero [] l first h r = r

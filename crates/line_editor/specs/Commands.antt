@@ -16,9 +16,10 @@ use Rattle.line_edits.specs.Edits.{ring_without_kill, replace_group_if_any, over
 use Rattle.line_editor.specs.Accepting.{bare, newline, accept, accepts, accept_or_insert, verdict}
 use Rattle.line_editor.specs.Completing.{complete, complete_hint}
 use Rattle.line_editor.specs.Drawing.{refresh_effect, clear_and_draw_effect, cursor_end_effect}
-use Rattle.line_editor.specs.Inserting.{insert_char, clusters_replaced}
-use Rattle.line_editor.specs.Killing.{kill_effect, replace, copy_effect}
+use Rattle.line_editor.specs.Inserting.{insert_char, clusters_replaced, replace_char, overwrite_char}
+use Rattle.line_editor.specs.Killing.{kill_effect, replace, copy_effect, ring_with_kill_of, ring_with_copy}
 use Rattle.line_editor.specs.Moving.{move_by, move_line_up, move_line_down}
+use Rattle.line_editor.specs.Hinting.{complete_hint}
 use Rattle.line_editor.specs.History.{history_step, history_end, history_search}
 use Rattle.line_editor.specs.Transforms.{transpose_chars_effect, transpose_words_effect, edit_word_effect, indent_by_setting, undo}
 use Rattle.line_editor.specs.Values.{Value, Setting, Transition, no_effect}
@@ -28,6 +29,7 @@ use Rattle.line_editor.specs.declared.commands.Status.TheVariants.{Proceed, Subm
 use Rattle.std.specs.Option.{option_map_or}
 use Rattle.line_buffer.specs.Range.{copied_range, span_text, kill_events}
 use Rattle.line_buffer.specs.declared.types.Mode.TheVariants.{Append}
+use Rattle.line_buffer.specs.declared.types.Movement.TheVariants.{LineUp, LineDown}
 
 -- what a command uses beside the state
 pub record Means : Type 0 where
@@ -44,12 +46,12 @@ in_vi_command m = is_vi_command m.mode m.input_mode
 -- up or down by rows; in the first row and in the last one, through the history
 abbrev pub line_up_or_previous : ℕ → Transition
 line_up_or_previous n s v =
-    if is_some (line_up s.mode s.tabs s.column n v.line) then move_line_up n s v
+    if is_some (line_up s.mode s.tabs s.column n v.line) then move_by (LineUp n) s v
     else history_step true s v
 
 abbrev pub line_down_or_next : ℕ → Transition
 line_down_or_next n s v =
-    if is_some (line_down s.mode s.tabs s.column n v.line) then move_line_down n s v
+    if is_some (line_down s.mode s.tabs s.column n v.line) then move_by (LineDown n) s v
     else history_step false s v
 
 abbrev pub effect : Means → Cmd → Transition

@@ -8,12 +8,13 @@ use Rattle.line_keys.specs.declared.command.CmdKind.TheVariants.{Other}
 use Rattle.line_editor.specs.Characters.{begins_apart_at}
 use Rattle.line_editor.specs.Redraws.{Redraw}
 use Rattle.line_editor.specs.Redraws.Redraw.{Drawn, DrawnFrom, Moved, ToEnd, Beeped, Cleared}
-use Rattle.line_editor.specs.SharedStyles.{told_styles, noted_styles, shared_styles}
+use Rattle.line_editor.specs.SharedStyles.{told_styles, noted_styles, same_style}
 use Rattle.line_editor.specs.Sights.{drawn_spans}
 use Rattle.line_editor.specs.Values.{Value, Setting, Transition, no_effect, then_do, draw_effect, shown_marks, hint_reply, help_steps, with_hint, without_hint, with_mark, shown_hint, open_group, close_groups}
 use Rattle.line_keys.specs.Refreshing.{Shown, Ask}
 use Rattle.line_keys.specs.Refreshing.Ask.{Line, Message, Prompted, DoingInsert, DoneInserting}
 use Rattle.line_record.specs.Held.{last_inserted}
+use Rattle.std.specs.List.{common_prefix_len}
 
 -- the line with its hint after the session's own prompt
 abbrev pub redraw_of : Setting → Value → Redraw
@@ -42,7 +43,8 @@ since s from v = if s.config.partial_redraw && begins_apart_at v.line.text from
 
 -- the place up to which the line surely keeps its styles, too
 abbrev pub kept_upto : Since → Setting → Value → ℕ
-kept_upto before s v = shared_styles before.styles (told_styles before.from (line_spans s v))
+kept_upto before s v =
+    common_prefix_len same_style before.styles (told_styles before.from (line_spans s v))
 
 -- the line with its hint, drawn from there on, if no cluster lies over either place in it
 abbrev pub redraw_since : Option Since → Setting → Value → Redraw

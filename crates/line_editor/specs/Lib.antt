@@ -13,12 +13,10 @@ pub mod LineScripts
 pub mod ModalCommands
 pub mod Modal
 pub mod Moving
-pub mod Prefixes
 pub mod Redraws
 pub mod EditSteps
 pub mod History
 pub mod Returns
-pub mod Rewriting
 pub mod Transforms
 pub mod Searching
 pub mod SharedStyles
@@ -27,4 +25,3 @@ pub mod Sights
 pub mod States
 pub mod Values
 pub mod Yanking
-pub mod Turn

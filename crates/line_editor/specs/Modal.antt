@@ -1,5 +1,5 @@
 -- What stands between the commands of a line, and what it makes of one before it is done.
-use Rattle.std.specs.Prelude.{ℕ, Bool, true, false, List, [], string_bytes}
+use Rattle.std.specs.Prelude.{ℕ, Bool, true, false, List, [], string_bytes, if◌then◌else◌}
 use Rattle.line_config.specs.declared.config.Config.{Config}
 use Rattle.line_config.specs.declared.settings.CompletionType.{CompletionType}
 use Rattle.line_help.specs.declared.history.search.SearchDirection.{SearchDirection}
@@ -54,17 +54,13 @@ modal_of x = record {
   place = x.place;
 }
 
-abbrev pub first_standing : Bool → Standing
-first_standing true = Rests
-first_standing false = Off
-
 -- as a line begins: nothing stands, and the query is the last search's
 abbrev pub modal_first : Config → List ℕ → Modal
 modal_first config query = record {
   completion_type = config.completion_type;
   lists_at_once = config.completion_show_all_if_ambiguous;
   limit = config.completion_prompt_limit;
-  standing = first_standing config.modal_commands;
+  standing = if config.modal_commands then Rests else Off;
   query = query;
   fresh = true;
   dir = Reverse;

@@ -19,10 +19,6 @@ use Rattle.line_keys.specs.declared.command.CmdKind.TheVariants.{MoveCursor}
 use Rattle.line_editor.specs.Drawing.{cursor_moved}
 use Rattle.line_editor.specs.Values.{Transition, no_effect, then_do, at_line}
 
--- the display's cursor follows, if that of the text moved
-abbrev pub cursor_follows : CmdKind → Bool → Transition
-cursor_follows kind moved s v = if moved then cursor_moved kind s v else no_effect s v
-
 -- if it moves, the display's cursor follows
 abbrev pub cursor_moved_if : CmdKind → Bool → Line → Transition
 cursor_moved_if kind moves line s v =
@@ -35,40 +31,14 @@ abbrev pub to_place : CmdKind → ℕ → Transition
 to_place kind place s v =
     cursor_moved_if kind (not (place == v.line.place)) (record v.line { place = place }) s v
 
-abbrev pub move_backward : ℕ → Transition
-move_backward n s v = to_found (place_backward n v.line) s v
-
-abbrev pub move_forward : ℕ → Transition
-move_forward n s v = to_found (place_forward n v.line) s v
-
-abbrev pub move_to_prev_word : Word → ℕ → Transition
-move_to_prev_word word n s v = to_found (prev_word word n v.line) s v
-
 abbrev pub move_to_next_word : At → Word → ℕ → Transition
 move_to_next_word at word n s v = to_found (next_word at word n v.line) s v
-
-abbrev pub move_to : CharSearch → ℕ → Transition
-move_to search n s v = to_found (search_place search n v.line) s v
-
-abbrev pub move_line_up : ℕ → Transition
-move_line_up n s v = to_found (line_up s.mode s.tabs s.column n v.line) s v
-
-abbrev pub move_line_down : ℕ → Transition
-move_line_down n s v = to_found (line_down s.mode s.tabs s.column n v.line) s v
 
 abbrev pub move_home : Transition
 move_home s v = to_place MoveCursor (row_start v.line.text v.line.place) s v
 
-abbrev pub move_end : Transition
-move_end s v = to_place MoveCursor (row_end v.line.text v.line.place) s v
-
-abbrev pub move_buffer_start : Transition
-move_buffer_start s v =
-    cursor_moved_if MoveCursor (not (v.line.place == 0)) (record v.line { place = 0 }) s v
-
 abbrev pub move_buffer_end : CmdKind → Transition
-move_buffer_end kind s v = cursor_moved_if kind (not (v.line.place == length v.line.text))
-    (record v.line { place = length v.line.text }) s v
+move_buffer_end kind s v = to_place kind (length v.line.text) s v
 
 -- to the row's start, and if the text begins with whitespace from there to the next word
 abbrev pub move_to_first_print : Transition
@@ -77,17 +47,16 @@ move_to_first_print s v =
     else move_home s v
 
 abbrev pub move_by : Movement → Transition
-move_by WholeLine = no_effect
-move_by BeginningOfLine = move_home
-move_by EndOfLine = move_end
-move_by (BackwardWord n word) = move_to_prev_word word n
-move_by (ForwardWord n at word) = move_to_next_word at word n
-move_by (ViCharSearch n search) = move_to search n
-move_by ViFirstPrint = move_to_first_print
-move_by (BackwardChar n) = move_backward n
-move_by (ForwardChar n) = move_forward n
-move_by (LineUp n) = move_line_up n
-move_by (LineDown n) = move_line_down n
-move_by WholeBuffer = no_effect
-move_by BeginningOfBuffer = move_buffer_start
-move_by EndOfBuffer = move_buffer_end MoveCursor
+move_by BeginningOfLine s v = move_home s v
+move_by EndOfLine s v = to_place MoveCursor (row_end v.line.text v.line.place) s v
+move_by (BackwardWord n word) s v = to_found (prev_word word n v.line) s v
+move_by (ForwardWord n at word) s v = move_to_next_word at word n s v
+move_by (ViCharSearch n search) s v = to_found (search_place search n v.line) s v
+move_by ViFirstPrint s v = move_to_first_print s v
+move_by (BackwardChar n) s v = to_found (place_backward n v.line) s v
+move_by (ForwardChar n) s v = to_found (place_forward n v.line) s v
+move_by (LineUp n) s v = to_found (line_up s.mode s.tabs s.column n v.line) s v
+move_by (LineDown n) s v = to_found (line_down s.mode s.tabs s.column n v.line) s v
+move_by BeginningOfBuffer s v = to_place MoveCursor 0 s v
+move_by EndOfBuffer s v = move_buffer_end MoveCursor s v
+move_by whole s v = no_effect s v

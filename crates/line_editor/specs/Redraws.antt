@@ -87,29 +87,15 @@ full r marks l prompt given text place info =
     let new = layout_of r (r.measure prompt origin) given text place info in
     one_call (Draw prompt text place info (Some l) new marks) new
 
-abbrev pub move_call : Layout → Position → RedrawCalls
-move_call l cursor = one_call (Move l.cursor cursor) (record l { cursor = cursor })
-
 abbrev pub move_calls : Layout → Position → RedrawCalls
-move_calls l cursor = if same_cell l.cursor cursor then nothing_asked l else move_call l cursor
+move_calls l cursor = if same_cell l.cursor cursor then nothing_asked l
+    else one_call (Move l.cursor cursor) (record l { cursor = cursor })
 
 abbrev pub column_on : Position → Position
 column_on p = record { col = p.col + 1; row = p.row }
 
 abbrev pub column_back : ℕ → Position → Position
 column_back n p = record { col = p.col - n; row = p.row }
-
--- the character's byte alone
-abbrev pub char_call : Layout → ℕ → RedrawCalls
-char_call l c =
-    let end = column_on l.cursor in
-    one_call (Write (encode_utf8 c)) (record l { cursor = end; end = end })
-
--- the character's own drawing
-abbrev pub append_call : Ruler → Layout → ℕ → RedrawCalls
-append_call r l c =
-    let end = r.measure (encode_utf8 c) l.cursor in
-    one_call (Append (encode_utf8 c) l.cursor) (record l { cursor = end; end = end })
 
 -- the rest of the row erased
 abbrev pub erase_call : Layout → ℕ → RedrawCalls
@@ -122,19 +108,6 @@ abbrev pub cell_on : ℕ → Position → Position
 cell_on columns p =
     if p.col + 1 == columns then record { col = 0; row = p.row + 1 } else column_on p
 
--- the characters after the cursor moved by a cell, and one put there
-abbrev pub put_in_short : Ruler → Layout → ℕ → List ℕ → RedrawCalls
-put_in_short r l c rest =
-    let cursor = cell_on r.columns l.cursor in
-    let end = cell_on r.columns l.end in
-    one_call (InsertChar c rest l.cursor cursor end) (record l { cursor = cursor; end = end })
-
--- the cursor moved, and the characters' cells taken out before the others
-abbrev pub taken_out_short : Layout → Position → ℕ → List ℕ → RedrawCalls
-taken_out_short l at count rest =
-    let end = column_back count l.end in
-    one_call (MoveAndDelete l.cursor at count rest end) (record l { cursor = at; end = end })
-
 -- the rest of the line drawn anew, and the information after it
 abbrev pub rest_call : Ruler → Option Marks → Layout → ℕ → List ℕ → ℕ → Option (List ℕ)
     → RedrawCalls
@@ -143,20 +116,7 @@ rest_call r marks l from text place info =
     let new = layout_of r l.prompt_size true text place info in
     one_call (DrawRest text from place info l.cursor at new marks) new
 
--- letters written from a cell on, and the cursor moved to its place
-abbrev pub write_over_call : Layout → List ℕ → Position → Position → RedrawCalls
-write_over_call l letters at cursor =
-    one_call (WriteOver letters l.cursor at cursor) (record l { cursor = cursor })
-
--- a byte written at a cell doesn't fill the row
-abbrev pub fits_in_row : ℕ → Position → Bool
-fits_in_row columns at = nat_lt (at.col + 1) columns
-
--- whether only a typed character's byte can be written, by the stored layout
-abbrev pub may_type : Ruler → Layout → Bool
-may_type r l = not l.has_info && fits_in_row r.columns l.cursor
-
--- and whether only the rest of the row can be erased
+-- whether only the rest of the row can be erased, by the stored layout
 abbrev pub may_take : Layout → ℕ → Bool
 may_take l count = not l.has_info && ((l.cursor.row == l.end.row) && nat_le count l.end.col)
 
@@ -191,9 +151,14 @@ calls_of_redraw r marks l (Drawn prompt given text place info) =
 calls_of_redraw r marks l (Moved text place) =
     move_calls l (r.measure (take place text) l.prompt_size)
 calls_of_redraw r marks l (Typed prompt c text place) =
-    if may_type r l then char_call l c else full r marks l prompt true text place None
+    let end = column_on l.cursor in
+    if may_write_over r l l.cursor 1
+    then one_call (Write (encode_utf8 c)) (record l { cursor = end; end = end })
+    else full r marks l prompt true text place None
 calls_of_redraw r marks l (Appended prompt c text place) =
-    if l.has_info then full r marks l prompt true text place None else append_call r l c
+    let end = r.measure (encode_utf8 c) l.cursor in
+    if l.has_info then full r marks l prompt true text place None
+    else one_call (Append (encode_utf8 c) l.cursor) (record l { cursor = end; end = end })
 calls_of_redraw r marks l (Taken prompt count partial text place) =
     if may_take l count then erase_call l count
     else if partial then rest_call r marks l place text place None
@@ -202,20 +167,27 @@ calls_of_redraw r marks l (Erased prompt c text place) =
     if may_erase r l c then erase_call l (r.measure (encode_utf8 c) origin).col
     else rest_call r marks l place text place None
 calls_of_redraw r marks l (PutIn prompt c text place) =
-    if may_put_in r l (drop place text) then put_in_short r l c (drop place text)
+    let rest = drop place text in
+    let cursor = cell_on r.columns l.cursor in
+    let end = cell_on r.columns l.end in
+    if may_put_in r l rest
+    then one_call (InsertChar c rest l.cursor cursor end) (record l { cursor = cursor; end = end })
     else full r marks l prompt true text place None
 calls_of_redraw r marks l (TakenOut prompt count text place) =
     let at = r.measure (take place text) l.prompt_size in
     let rest = drop place text in
-    if may_take_out r l at count rest then taken_out_short l at count rest
+    let end = column_back count l.end in
+    if may_take_out r l at count rest
+    then one_call (MoveAndDelete l.cursor at count rest end) (record l { cursor = at; end = end })
     else rest_call r marks l place text place None
 calls_of_redraw r marks l (DrawnFrom prompt from text place info) =
     rest_call r marks l from text place info
 calls_of_redraw r marks l (Rewritten prompt from upto text place) =
     let at = r.measure (take from text) l.prompt_size in
     let letters = slice_range text from upto in
+    let cursor = r.measure (take place text) l.prompt_size in
     if may_write_over r l at (length letters)
-    then write_over_call l letters at (r.measure (take place text) l.prompt_size)
+    then one_call (WriteOver letters l.cursor at cursor) (record l { cursor = cursor })
     else rest_call r marks l from text place None
 calls_of_redraw r marks l (Bared prompt text place) =
     if l.default_prompt then nothing_asked l else full r marks l prompt true text place None

@@ -1,5 +1,5 @@
 -- Leaving the history's end and coming back to it; and the undo of all changes of a line.
-use Rattle.std.specs.Prelude.{◌≡◌, ⊤, ◌<◌, ◌≤◌, Bool, true, false, List, [], ◌∷◌, length, fold, ℕ, if◌then◌else◌}
+use Rattle.std.specs.Prelude.{◌≡◌, ⊤, ◌<◌, ◌≤◌, Bool, true, false, List, [], ◌∷◌, length, fold, ℕ, if◌then◌else◌, ◌≢◌, All}
 use Rattle.line_help.specs.Completion.{Completion}
 use Rattle.line_help.specs.declared.history.search.SearchDirection.{SearchDirection}
 use Rattle.line_keys.specs.Refreshing.{Ask}
@@ -15,7 +15,7 @@ use Rattle.line_editor.specs.Searching.{modal_at_search_start, begin_search, giv
 use Rattle.line_editor.specs.Values.{Value, Setting}
 use Rattle.line_editor.specs.Leads.{Reaches, Sound}
 use Rattle.line_editor.specs.declared.modal_state.Act.{Act}
-use Rattle.line_editor.specs.declared.modal_state.Act.TheVariants.{Types, Erases, Goes}
+use Rattle.line_editor.specs.declared.modal_state.Act.TheVariants.{Leaves, Ends}
 
 -- what changes a line's value: a command, a call of the key tables, or a command before it is done
 pub data ValueStep : Type 0 where
@@ -34,19 +34,18 @@ searches (Done means HistorySearchBackward) = true
 searches (Done means HistorySearchForward) = true
 searches step = false
 
--- each step begins away from the history's end
-abbrev pub StaysAway : Setting → List ValueStep → Value → Type 0
-StaysAway s [] v = ⊤
-StaysAway s (step ∷ steps) v = (v.history < length s.entries) × (searches step ≡ false)
-    × StaysAway s steps (value_after s v step)
+-- this holds of each step and the value at which it begins
+abbrev pub Along : (ValueStep → Value → Type 0) → Setting → List ValueStep → Value → Type 0
+Along holds s [] v = ⊤
+Along holds s (step ∷ steps) v = holds step v × Along holds s steps (value_after s v step)
 
--- if a line that may grow leaves the end, by one entry or to the first, and comes back to it by
--- steps without a search, then line and cursor are as they were
+-- if a line that may grow leaves the history's end, by one entry or to the first, and comes back to
+-- it by steps that begin away from it, without a search, then line and cursor are as they were
 abbrev pub ComesBack : Type 0
 ComesBack = (s : Setting) (m : Means) (one : Bool) (steps : List ValueStep) (v : Value)
     → v.history ≡ length s.entries → v.line.place ≤ length v.line.text → v.line.growth ≡ true
     → let left = (effect m (if one then PreviousHistory else BeginningOfHistory) s v).value in
-    StaysAway s steps left
+    Along (λ step w. (w.history < length s.entries) × (searches step ≡ false)) s steps left
     → let back = fold (value_after s) left steps in
     back.history ≡ length s.entries
     → (back.line.text ≡ v.line.text) × (back.line.place ≡ v.line.place)
@@ -57,52 +56,28 @@ UndoReaches = (s : Setting) (m : Means) (v : Value) (n : ℕ) (first : List ℕ)
     → Reaches first v.held v.line.text → length v.held ≤ n
     → (effect m (Undo n) s v).value.line.text ≡ first
 
--- each step begins on a UTF-8 text, with the cursor at a character boundary
-abbrev pub BegunSound : Setting → List ValueStep → Value → Type 0
-BegunSound s [] v = ⊤
-BegunSound s (step ∷ steps) v = Sound v × BegunSound s steps (value_after s v step)
-
--- whatever changes a line after its record was empty: an undo by as many items as are held, or
--- more, restores the text of that time. For a new line it is empty
+-- whatever changes a line after its record was empty, by steps that begin on a UTF-8 text with the
+-- cursor at a character boundary: an undo by as many items as are held, or more, restores the text
+-- of that time. For a new line it is empty
 abbrev pub UndoesAll : Type 0
 UndoesAll = (s : Setting) (steps : List ValueStep) (v : Value) (m : Means) (n : ℕ)
-    → v.held ≡ [] → BegunSound s steps v
+    → v.held ≡ [] → Along (λ step. Sound) s steps v
     → let done = fold (value_after s) v steps in
     length done.held ≤ n
     → (effect m (Undo n) s done).value.line.text ≡ v.line.text
 
--- ---- a search that is given up
-
--- the query grows or gets shorter, or the search goes to the next entry
-abbrev pub is_onward : Act → Bool
-is_onward (Types c) = true
-is_onward Erases = true
-is_onward (Goes dir) = true
-is_onward act = false
-
-abbrev pub AllOnward : List Act → Type 0
-AllOnward [] = ⊤
-AllOnward (act ∷ acts) = (is_onward act ≡ true) × AllOnward acts
-
-abbrev pub search_after : Setting → Meeting → Act → Meeting
-search_after s x act = meeting_in_search act x.modal Abort s x.effect.value
-
--- a search that is given up after any such acts leaves line, cursor and record as they were,
--- except the groups that its begin closed
+-- a search that is given up after any acts that neither leave nor end it leaves line, cursor and
+-- record as they were, except the groups that its begin closed
 abbrev pub GivesBack : Type 0
 GivesBack = (s : Setting) (dir : SearchDirection) (q : Modal) (v : Value) (acts : List Act)
-    → v.line.growth ≡ true → is_place v.line.place v.line ≡ true → AllOnward acts
+    → v.line.growth ≡ true → is_place v.line.place v.line ≡ true
+    → All (λ act. (act ≢ Leaves) × (act ≢ Ends)) acts
     → let first = takes (begin_search dir q)
     (modal_at_search_start dir (length s.entries) v q) s v in
-    let x = fold (search_after s) first acts in
+    let x = fold (λ (m : Meeting) act. meeting_in_search act m.modal Abort s m.effect.value) first
+    acts in
     let back = (give_up_effect x.modal s x.effect.value).value in
     (back.line ≡ v.line) × (back.held ≡ record_after_close v.held)
-
--- ---- candidates in turn that are given up
-
--- the next one in a direction
-abbrev pub cycle_after : Setting → Meeting → SearchDirection → Meeting
-cycle_after s x dir = cycle dir x.modal Complete s x.effect.value
 
 -- candidates that are given up after any number of them, in either direction, leave line, cursor
 -- and record as they were, except the groups that the begin closed
@@ -111,6 +86,6 @@ GivesWordBack =
     (s : Setting) (found : Completion) (q : Modal) (v : Value) (dirs : List SearchDirection)
     → is_place v.line.place v.line ≡ true
     → let first = takes (cycle_begun found) (cycle_first found v.line q) s v in
-    let x = fold (cycle_after s) first dirs in
+    let x = fold (λ (m : Meeting) dir. cycle dir m.modal Complete s m.effect.value) first dirs in
     let back = (give_up_effect x.modal s x.effect.value).value in
     (back.line ≡ v.line) × (back.held ≡ record_after_close v.held)

@@ -3,7 +3,6 @@ use Rattle.std.specs.Prelude.{ℕ, zero, suc, ◌+◌, ◌-◌, ◌==◌, ◌&&�
 use Rattle.line_buffer.specs.Hits.{last_char}
 use Rattle.line_buffer.specs.Insertions.{is_inside_char}
 use Rattle.line_buffer.specs.Line.{Line}
-use Rattle.line_buffer.specs.declared.types.Movement.{Movement}
 use Rattle.line_buffer.specs.declared.types.Movement.TheVariants.{BackwardChar}
 use Rattle.line_edits.specs.Edits.{update_group}
 use Rattle.line_help.specs.Search.{Hit, search_hit}
@@ -14,7 +13,7 @@ use Rattle.line_keys.specs.declared.command.SearchAgain.TheVariants.{Same, Oppos
 use Rattle.line_keys.specs.declared.command.Cmd.{Cmd}
 use Rattle.line_keys.specs.declared.command.Cmd.TheVariants.{Abort, ForwardSearchHistory, Kill, ReverseSearchHistory, SelfInsert}
 use Rattle.line_editor.specs.Drawing.{beep_effect, refresh_effect, refresh_effect_behind}
-use Rattle.line_editor.specs.Modal.{Modal, Meeting, pass_meeting, takes}
+use Rattle.line_editor.specs.Modal.{Modal, Meeting, takes}
 use Rattle.line_editor.specs.Transforms.{undo_effect}
 use Rattle.line_editor.specs.Values.{Value, Setting, Transition, no_effect, memory_effect, then_do, edit_effect, close_groups, at_line}
 use Rattle.line_editor.specs.declared.modal_state.Act.{Act}
@@ -29,13 +28,10 @@ query_in x = if x.fresh then [] else x.query
 abbrev pub modal_with_query : List ℕ → Modal → Modal
 modal_with_query query x = record x { query = query; fresh = false }
 
--- without its last character
-abbrev pub without_last : List ℕ → List ℕ
-without_last text = take (last_char text) text
-
--- it is looked for from where the search began
+-- without its last character; it is looked for from where the search began
 abbrev pub modal_after_erase : Modal → Modal
-modal_after_erase x = record (modal_with_query (without_last (query_in x)) x) { at = x.start }
+modal_after_erase x = let query = query_in x in
+    record (modal_with_query (take (last_char query) query) x) { at = x.start }
 
 -- ---- the prompt
 
@@ -50,13 +46,9 @@ search_prompt x = heading x.dir x.fails ++ (query_in x ++ codes "': ")
 
 -- ---- what a command is to a search
 
-abbrev pub act_of_movement : Movement → Act
-act_of_movement (BackwardChar n) = Erases
-act_of_movement movement = Ends
-
 abbrev pub act_of : Cmd → Act
 act_of (SelfInsert n c) = Types c
-act_of (Kill movement) = act_of_movement movement
+act_of (Kill (BackwardChar n)) = Erases
 act_of ReverseSearchHistory = Goes Reverse
 act_of ForwardSearchHistory = Goes Forward
 act_of Abort = Leaves
@@ -70,9 +62,9 @@ next_at Reverse zero count = None
 next_at Reverse (suc at) count = Some at
 next_at Forward at count = if nat_lt (at + 1) count then Some (at + 1) else None
 
--- the last search's query is looked for from where it stands
-abbrev pub onward : SearchDirection → Modal → ℕ → Option ℕ
-onward dir x count = if x.fresh then Some x.at else next_at dir x.at count
+-- where the query is looked for once more; the last search's first of all at an entry that is given
+abbrev pub onward : ℕ → SearchDirection → Modal → ℕ → Option ℕ
+onward first dir x count = if x.fresh then Some first else next_at dir x.at count
 
 abbrev pub search_for : List ℕ → SearchDirection → Option ℕ → List (List ℕ) → Option Hit
 search_for query dir None entries = None
@@ -93,23 +85,18 @@ hit_undo_effect true = undo_effect 1
 hit_undo_effect false = no_effect
 
 -- another one is put there, undone as one with those before it
-abbrev pub hit_put_effect : Bool → List ℕ → ℕ → Transition
-hit_put_effect put entry pos = then_do (hit_undo_effect put) (edit_effect (update_group entry pos))
-
 abbrev pub put_hit_effect : Bool → Option Hit → Transition
 put_hit_effect put None = no_effect
-put_hit_effect put (Some hit) = hit_put_effect put hit.entry hit.pos
+put_hit_effect put (Some hit) =
+    then_do (hit_undo_effect put) (edit_effect (update_group hit.entry hit.pos))
 
 -- drawn after the search's prompt, which takes memory
 abbrev pub search_drawn : Modal → Transition
 search_drawn x = then_do memory_effect (refresh_effect_behind (search_prompt x))
 
-abbrev pub search_shown_effect : SearchDirection → Option Hit → Modal → Transition
-search_shown_effect dir hit x = then_do (put_hit_effect x.put hit)
-    (search_drawn (modal_after_look dir hit x))
-
 abbrev pub look : SearchDirection → Option ℕ → Modal → Transition
-look dir from x s v = search_shown_effect dir (search_for x.query dir from s.entries) x s v
+look dir from x s v = let hit = search_for x.query dir from s.entries in
+    then_do (put_hit_effect x.put hit) (search_drawn (modal_after_look dir hit x)) s v
 
 -- the line and its cursor as they were before the search
 abbrev pub is_place : ℕ → Line → Bool
@@ -150,63 +137,41 @@ dir_again Opposite Reverse = Forward
 
 -- from the entry after the one that was found last; in a line without a search from the entry that
 -- is shown, or from the last one
-abbrev pub from_again : SearchDirection → Modal → ℕ → ℕ → Option ℕ
-from_again dir x shown count =
-    if x.fresh then Some (min shown (count - 1)) else next_at dir x.at count
-
 abbrev pub hit_again : SearchAgain → Modal → Setting → Value → Option Hit
-hit_again way x s v = let dir = dir_again way x.dir in
-    search_for x.query dir (from_again dir x v.history (length s.entries)) s.entries
+hit_again way x s v =
+    let dir = dir_again way x.dir in
+    let count = length s.entries in
+    search_for x.query dir (onward (min v.history (count - 1)) dir x count) s.entries
 
 -- it replaces the line, undone as one
-abbrev pub put_again_effect : List ℕ → ℕ → Transition
-put_again_effect entry pos =
-    then_do close_groups (then_do (edit_effect (update_group entry pos)) refresh_effect)
-
 abbrev pub search_again_meeting : Option Hit → Modal → Setting → Value → Meeting
 search_again_meeting None x s v = takes beep_effect x s v
-search_again_meeting (Some hit) x s v =
-    takes (put_again_effect hit.entry hit.pos) (record x { fresh = false; at = hit.idx }) s v
-
-abbrev pub search_again : SearchAgain → Modal → Setting → Value → Meeting
-search_again way x s v = search_again_meeting (hit_again way x s v) x s v
+search_again_meeting (Some hit) x s v = takes
+    (then_do close_groups (then_do (edit_effect (update_group hit.entry hit.pos)) refresh_effect))
+    (record x { fresh = false; at = hit.idx }) s v
 
 -- ---- what it makes of a command
-
--- in an empty history nothing is searched
-abbrev pub search_start_if : Bool → SearchDirection → Modal → Cmd → Setting → Value → Meeting
-search_start_if true dir x cmd s v = pass_meeting x cmd v
-search_start_if false dir x cmd s v =
-    takes (begin_search dir x) (modal_at_search_start dir (length s.entries) v x) s v
 
 abbrev pub looks : SearchDirection → Option ℕ → Modal → Setting → Value → Meeting
 looks dir from x s v =
     takes (look dir from x) (modal_after_look dir (search_for x.query dir from s.entries) x) s v
 
-abbrev pub looks_on : SearchDirection → Modal → Setting → Value → Meeting
-looks_on dir x s v = looks dir (onward dir x (length s.entries)) (modal_with_query x.query x) s v
-
 -- a character that is typed takes memory
 abbrev pub modal_with_char : ℕ → Modal → Modal
 modal_with_char c x = modal_with_query (query_in x ++ encode_utf8 c) x
 
-abbrev pub type_effect : ℕ → Modal → Transition
-type_effect c x = then_do memory_effect (look x.dir (Some x.at) (modal_with_char c x))
-
 abbrev pub looks_typed : ℕ → Modal → Setting → Value → Meeting
-looks_typed c x s v =
-    takes (type_effect c x) (looks x.dir (Some x.at) (modal_with_char c x) s v).modal s v
+looks_typed c x s v = let y = modal_with_char c x in
+    takes (then_do memory_effect (look x.dir (Some x.at) y))
+    (looks x.dir (Some x.at) y s v).modal s v
 
 -- if the query is empty, the line is shown as it was before the search
 abbrev pub modal_with_empty_query : Modal → Modal
 modal_with_empty_query x = record x { fails = false; put = false }
 
-abbrev pub empty_query_effect : Modal → Transition
-empty_query_effect x = then_do (hit_undo_effect x.put)
-    (then_do (place_effect x.place) (search_drawn (modal_with_empty_query x)))
-
 abbrev pub looks_again : Bool → Modal → Setting → Value → Meeting
-looks_again true x s v = takes (empty_query_effect x) (modal_with_empty_query x) s v
+looks_again true x s v = let y = modal_with_empty_query x in
+    takes (then_do (hit_undo_effect x.put) (then_do (place_effect x.place) (search_drawn y))) y s v
 looks_again false x s v = looks x.dir (Some x.start) x s v
 
 abbrev pub looks_erased : Modal → Setting → Value → Meeting

@@ -1,6 +1,5 @@
 -- The styles that the front of a line has in two drawings.
 use Rattle.std.specs.Prelude.{ℕ, ◌==◌, Bool, false, List, [], ◌∷◌, ◌++◌, take, replicate, Option, unwrap_or}
-use Rattle.std.specs.List.{common_prefix_len}
 use Rattle.line_help.specs.Paints.{plain, span_styles}
 use Rattle.line_help.specs.contracts.helpers.style.StylePartialEq.TheImpl as style_eq
 use Rattle.line_help.specs.declared.helpers.style.Span.{Span}
@@ -30,10 +29,6 @@ noted_styles n noted = take n (span_styles (unwrap_or noted (plain_rest n ∷ []
 
 abbrev pub same_style : Style → Style → Bool
 same_style = (style_eq.ghosts).eq
-
--- how many styles at the front are the same
-abbrev pub shared_styles : List Style → List Style → ℕ
-shared_styles old new = common_prefix_len same_style old new
 
 -- whether so many bytes are all of the first span
 abbrev pub is_used : ℕ → List Span → Bool

@@ -21,12 +21,9 @@ pub record PartSpans : Type 0 where
   pub line : List Span
   pub info : List Span
 
-abbrev pub no_spans : PartSpans
-no_spans = record { prompt = []; line = []; info = [] }
-
 -- what a highlighter gives for these texts, if any; `given`: the prompt is the session's own
 abbrev pub drawn_spans : Option Marks → Bool → List ℕ → List ℕ → ℕ → List ℕ → PartSpans
-drawn_spans None given prompt text place info = no_spans
+drawn_spans None given prompt text place info = record { prompt = []; line = []; info = [] }
 drawn_spans (Some m) given prompt text place info = record {
   prompt = m.paints (OfPrompt given) prompt first_mark;
   line = m.paints (OfLine place) text first_mark;
@@ -124,28 +121,16 @@ pub record ErasedFits (x : Sight) (c : ℕ) (text : List ℕ) (place : ℕ) : Ty
   pub apart : stands_apart text c ≡ true
   pub end : place ≡ length text
 
--- a character put at the cursor
-pub record PutInFits (x : Sight) (c : ℕ) (text : List ℕ) (place : ℕ) : Type 0 where
+-- characters of a plain line from a place on, and printable ones in their stead
+pub record Replaces (x : Sight) (from : ℕ) (gone letters text : List ℕ) : Type 0 where
   pub before : List ℕ
   pub rest : List ℕ
-  pub whole : x.line ≡ before ++ rest
-  pub text_is : text ≡ before ++ c ∷ rest
-  pub at : x.place ≡ length before
-  pub behind : place ≡ length before + 1
+  pub whole : x.line ≡ before ++ (gone ++ rest)
+  pub text_is : text ≡ before ++ (letters ++ rest)
+  pub from_is : from ≡ length before
   pub plain : is_plain x.line ≡ true
-  pub printable : is_printable c ≡ true
-
--- printable characters deleted from the new cursor on
-pub record TakenOutFits (x : Sight) (count : ℕ) (text : List ℕ) (place : ℕ) : Type 0 where
-  pub before : List ℕ
-  pub killed : List ℕ
-  pub rest : List ℕ
-  pub whole : x.line ≡ before ++ (killed ++ rest)
-  pub text_is : text ≡ before ++ rest
-  pub count_is : count ≡ length killed
-  pub at : place ≡ length before
-  pub plain : is_plain x.line ≡ true
-  pub printable : list_all is_printable killed ≡ true
+  pub gone_printable : list_all is_printable gone ≡ true
+  pub printable : list_all is_printable letters ≡ true
 
 -- the text before a place stays, with its clusters and their styles
 pub record DrawnFromFits (x : Sight) (marks : Option Marks) (prompt : List ℕ) (from : ℕ)
@@ -164,21 +149,6 @@ pub record DrawnFromFits (x : Sight) (marks : Option Marks) (prompt : List ℕ) 
   pub prompt_styles : (drawn_spans marks true prompt text place (info_text info)).prompt
       ≡ x.spans.prompt
 
--- printable characters replaced by as many
-pub record RewrittenFits (x : Sight) (from upto : ℕ) (text : List ℕ) : Type 0 where
-  pub before : List ℕ
-  pub gone : List ℕ
-  pub letters : List ℕ
-  pub rest : List ℕ
-  pub whole : x.line ≡ before ++ (gone ++ rest)
-  pub text_is : text ≡ before ++ (letters ++ rest)
-  pub as_many : length letters ≡ length gone
-  pub from_is : from ≡ length before
-  pub upto_is : upto ≡ length before + length letters
-  pub plain : is_plain x.line ≡ true
-  pub gone_printable : list_all is_printable gone ≡ true
-  pub printable : list_all is_printable letters ≡ true
-
 -- when each redraw is allowed; `own` is the session's prompt
 abbrev pub FitsDrawn : List ℕ → Sight → Option Marks → Redraw → Type 0
 FitsDrawn own x marks (Drawn prompt given text place info) = given ≡ true → prompt ≡ own
@@ -191,14 +161,15 @@ FitsDrawn own x marks (Taken prompt count partial text place) =
     InPart own x marks prompt text place × TakenFits x count text place
 FitsDrawn own x marks (Erased prompt c text place) =
     InPart own x marks prompt text place × ErasedFits x c text place
-FitsDrawn own x marks (PutIn prompt c text place) =
-    InPart own x marks prompt text place × (x.ended ≡ false) × PutInFits x c text place
-FitsDrawn own x marks (TakenOut prompt count text place) =
-    InPart own x marks prompt text place × TakenOutFits x count text place
+FitsDrawn own x marks (PutIn prompt c text place) = InPart own x marks prompt text place
+    × (x.ended ≡ false) × Replaces x x.place [] (c ∷ []) text × (place ≡ x.place + 1)
+FitsDrawn own x marks (TakenOut prompt count text place) = InPart own x marks prompt text place
+    × ((killed : List ℕ) × Replaces x place killed [] text × (count ≡ length killed))
 FitsDrawn own x marks (DrawnFrom prompt from text place info) =
     (x.given ≡ true) × (prompt ≡ own) × DrawnFromFits x marks prompt from text place info
-FitsDrawn own x marks (Rewritten prompt from upto text place) =
-    InPart own x marks prompt text place × RewrittenFits x from upto text
+FitsDrawn own x marks (Rewritten prompt from upto text place) = InPart own x marks prompt text place
+    × ((gone letters : List ℕ) × Replaces x from gone letters text
+    × (length letters ≡ length gone) × (upto ≡ from + length letters))
 FitsDrawn own x marks (Bared prompt text place) = x.given ≡ true
 FitsDrawn own x marks redraw = ⊤
 
@@ -221,12 +192,9 @@ pub record Turns (own : List ℕ) (x : Sight) (rs : List EditStep) (y : Sight) :
 
 -- ---- the information shown, as a fold of the steps
 
-abbrev pub info_one : Option (List ℕ) → EditStep → Option (List ℕ)
-info_one info step = (sight (record no_sight { info = info }) step).info
-
 abbrev pub info_after : List EditStep → Option (List ℕ) → Option (List ℕ)
 info_after [] info = info
-info_after (r ∷ rs) info = info_after rs (info_one info r)
+info_after (r ∷ rs) info = info_after rs (sight (record no_sight { info = info }) r).info
 
 -- what is to be shown of a value with some information
 abbrev pub sight_of : Setting → Value → Option (List ℕ) → Sight

@@ -210,17 +210,12 @@ help_steps v None = []
 help_steps v (Some reply) = Helped v (fails reply) reply.takes ∷ []
 
 -- a hook fails at some input
-pub record IsFailing (hooks : Option Hooks) : Type 0 where
-  pub line : Line
-  pub entries : List (List ℕ)
-  pub history : ℕ
-  pub start : ℕ
-  pub text : List ℕ
-  pub at : IsSomeAnd hooks (λ h.
-      IsTrue (fails (h.hints line.text line.place entries history))
-      ⊎ (IsTrue (fails (h.judge line.text))
-      ⊎ (IsTrue (fails (h.completes line.text line.place entries history))
-      ⊎ IsTrue (fails (h.updates line start text)))))
+abbrev pub IsFailing : Option Hooks → Type 0
+IsFailing hooks = (line : Line) × (entries : List (List ℕ)) × (history start : ℕ) × (text : List ℕ)
+    × IsSomeAnd hooks (λ h. IsTrue (fails (h.hints line.text line.place entries history))
+    ⊎ (IsTrue (fails (h.judge line.text))
+    ⊎ (IsTrue (fails (h.completes line.text line.place entries history))
+    ⊎ IsTrue (fails (h.updates line start text)))))
 
 -- ---- the hint
 

@@ -118,7 +118,7 @@ impl<'p, 'h, Out: Renderer, H: Helper + Drop, Hi: History> State<'p, 'h, Out, H,
     ghost use Rattle.line_editor.specs.Drawing.{beep_effect, refresh_effect};
     ghost use Rattle.line_editor.specs.States.{value_of, setting_of, Does};
     ghost use Rattle.line_editor.specs.Values.{completion_reply, then_do};
-    ghost use Rattle.line_editor.specs.Turn.{Meets};
+    ghost use Rattle.line_editor.specs.States.{Meets};
 
     /// Replaces the word by the only candidate. Beeps if there is none.
     fn complete_only(

@@ -2,7 +2,7 @@
 ghost use Rattle.std.specs.Prelude.{◌≡◌, true, Ok};
 ghost use Rattle.line_keys.specs.InputStates.{input_of};
 ghost use Rattle.line_editor.specs.Commands.{means_of};
-ghost use Rattle.line_editor.specs.Turn.{Executes, is_obeyed};
+ghost use Rattle.line_editor.specs.States.{Executes, is_obeyed};
 ghost use Rattle.line_editor.specs.declared.commands.Status.TheVariants.{Proceed};
 
 use crate::renderer::Renderer;

@@ -5,7 +5,7 @@ ghost use Rattle.line_buffer.specs.Printable.{is_plain};
 ghost use Rattle.line_editor.specs.RenderCalls.{Makes};
 ghost use Rattle.line_editor.specs.RenderCalls.Call.{Draw};
 ghost use Rattle.line_editor.specs.Values.{hooks_by, is_marked_by, marks_seen};
-ghost use Rattle.line_editor.specs.Redraws.{layout_of, may_type, may_take, may_erase, may_put_in, may_take_out, may_write_over, cell_on};
+ghost use Rattle.line_editor.specs.Redraws.{layout_of, may_write_over, may_take, may_erase, may_put_in, may_take_out, cell_on};
 
 use crate::faults::error_of;
 use crate::renderer::{RefreshKind, Renderer};
@@ -60,7 +60,7 @@ fn marked_by<H: Helper>(
 
 /// Whether nothing is shown after the line, and a character after the cursor doesn't fill the row.
 fn may_type<Out: Renderer>(out: &Out, layout: &Layout) -> bool
-    ensures value { result ≡ may_type (Out.canvas.ruler out.now) layout.now }
+    ensures value { result ≡ may_write_over (Out.canvas.ruler out.now) layout.now layout.now.cursor 1 }
     ensures room { IsTrue result → layout.now.cursor.col + 1 ≤ 65535 }
 {
     let columns = out.get_columns();

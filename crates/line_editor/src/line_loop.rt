@@ -4,7 +4,7 @@ ghost use Rattle.std.specs.Result.{result_and};
 ghost use Rattle.line_keys.specs.InputStates.{input_of, custom_in};
 ghost use Rattle.line_editor.specs.LineScripts.{turns_script, line_script};
 ghost use Rattle.line_editor.specs.Modal.{modal_of};
-ghost use Rattle.line_editor.specs.Turn.{Takes};
+ghost use Rattle.line_editor.specs.States.{Takes};
 
 use crate::commands::Status;
 use crate::modal_state::ModalState;

@@ -1,10 +1,11 @@
 //! A command that may be taken before it is done.
-ghost use Rattle.std.specs.Prelude.{◌≡◌, ◌⊎◌, OnOk, string_bytes, IsCharBoundary, IsTrue, length, ◌==◌, Some, Ok};
+ghost use Rattle.std.specs.Prelude.{◌≡◌, ◌⊎◌, OnOk, string_bytes, IsCharBoundary, IsTrue, length, true, Ok};
 ghost use Rattle.std.specs.Result.{result_and};
 ghost use Rattle.line_help.specs.Search.{Finds};
-ghost use Rattle.line_editor.specs.declared.modal_state.Standing.TheVariants.{Searches};
+ghost use Rattle.line_editor.specs.declared.modal_state.Standing.TheVariants.{Prefixes, Searches, Tabbed, Lists, Cycles};
+ghost use Rattle.line_editor.specs.declared.modal_state.Wish.TheVariants.{Search, Again};
 ghost use Rattle.line_editor.specs.Modal.{modal_of, modal_at_rest, next_of};
-ghost use Rattle.line_editor.specs.Searching.{hit_undo_effect, hit_put_effect, search_drawn, look, modal_after_look, search_for, is_place, line_at_place, place_effect, give_up_effect, begin_search, search_start_if, modal_at_search_start, modal_with_query, modal_with_empty_query, empty_query_effect};
+ghost use Rattle.line_editor.specs.Searching.{hit_undo_effect, search_drawn, look, modal_after_look, search_for, is_place, line_at_place, place_effect, give_up_effect, begin_search, modal_at_search_start, modal_with_query, modal_with_empty_query, looks_again};
 
 use crate::modal_state::{Act, ModalState, Next, Standing, Wish, act_of, dir_again, wish_of};
 use crate::renderer::Renderer;
@@ -33,11 +34,12 @@ fn place_cursor(line: &mut LineBuffer, place: usize)
 
 impl<'p, 'h, Out: Renderer, H: Helper + Drop, Hi: History> State<'p, 'h, Out, H, Hi> {
     ghost use Rattle.line_edits.specs.Edits.{update_group};
-    ghost use Rattle.line_editor.specs.Searching.{type_effect, looks, modal_with_char, onward, looks_erased, looks_on, put_again_effect, search_again};
+    ghost use Rattle.line_editor.specs.Searching.{looks_typed, looks, modal_with_char, onward, looks_erased};
     ghost use Rattle.line_editor.specs.States.{value_of, setting_of, Does};
-    ghost use Rattle.line_editor.specs.ModalCommands.{meeting, meeting_at_rest, meeting_in_prefixes, meeting_after_tab, meeting_in_list, meeting_in_cycle, meeting_anew};
-    ghost use Rattle.line_editor.specs.Turn.{Meets};
-    ghost use Rattle.line_editor.specs.Values.{edit_effect};
+    ghost use Rattle.line_editor.specs.ModalCommands.{meeting, meeting_at_rest, meeting_on, meeting_anew};
+    ghost use Rattle.line_editor.specs.Drawing.{refresh_effect};
+    ghost use Rattle.line_editor.specs.States.{Meets};
+    ghost use Rattle.line_editor.specs.Values.{then_do, edit_effect, close_groups};
 
     /// Undoes the entry that stands in place of the line, if there is one.
     pub(crate) fn take_hit_back(&mut self, put: bool) -> Result<(), ReadlineError>
@@ -65,7 +67,8 @@ impl<'p, 'h, Out: Renderer, H: Helper + Drop, Hi: History> State<'p, 'h, Out, H,
     /// The same in place of the last entry that was found.
     fn put_hit(&mut self, put: bool, entry: &str, pos: usize) -> Result<(), ReadlineError>
         requires { IsCharBoundary entry.now pos }
-        ensures does { Does (hit_put_effect put entry.now pos) self.old self.new result }
+        ensures does { Does (then_do (hit_undo_effect put) (edit_effect (update_group entry.now pos)))
+            self.old self.new result }
     {
         self.take_hit_back(put)?;
         self.put_entry(entry, pos)
@@ -157,11 +160,10 @@ impl<'p, 'h, Out: Renderer, H: Helper + Drop, Hi: History> State<'p, 'h, Out, H,
 
     /// A character more of the query.
     fn search_typed(&mut self, modal: &mut ModalState, c: char) -> Result<(), ReadlineError>
-        ensures does { Does (type_effect c (modal_of modal.old)) self.old self.new result }
+        ensures does { Does (λ a v. (looks_typed c (modal_of modal.old) a v).effect) self.old
+            self.new result }
         ensures modal { OnOk result (modal_of modal.new
-            ≡ (looks (modal_of modal.old).dir (Some (modal_of modal.old).at)
-            (modal_with_char c (modal_of modal.old)) (setting_of self.old)
-            (value_of self.old)).modal) }
+            ≡ (looks_typed c (modal_of modal.old) (setting_of self.old) (value_of self.old)).modal) }
         ensures query { (modal_of modal.new ≡ modal_of modal.old)
             ⊎ (string_bytes modal.new.query ≡ (modal_with_char c (modal_of modal.old)).query) }
     {
@@ -187,7 +189,8 @@ impl<'p, 'h, Out: Renderer, H: Helper + Drop, Hi: History> State<'p, 'h, Out, H,
 
     /// The line as it was before a search, which goes on with an empty query.
     fn search_emptied(&mut self, modal: &mut ModalState) -> Result<(), ReadlineError>
-        ensures does { Does (empty_query_effect (modal_of modal.old)) self.old self.new result }
+        ensures does { Does (λ a v. (looks_again true (modal_of modal.old) a v).effect) self.old
+            self.new result }
         ensures modal { OnOk result
             (modal_of modal.new ≡ modal_with_empty_query (modal_of modal.old)) }
     {
@@ -206,12 +209,15 @@ impl<'p, 'h, Out: Renderer, H: Helper + Drop, Hi: History> State<'p, 'h, Out, H,
         dir: SearchDirection,
     ) -> Result<(), ReadlineError>
         ensures does { Does (look dir
-            (onward dir (modal_of modal.old) (length (setting_of self.old).entries))
+            (onward (modal_of modal.old).at dir (modal_of modal.old)
+            (length (setting_of self.old).entries))
             (modal_with_query (modal_of modal.old).query (modal_of modal.old)))
             self.old self.new result }
         ensures modal { OnOk result (modal_of modal.new
-            ≡ (looks_on dir (modal_of modal.old) (setting_of self.old)
-            (value_of self.old)).modal) }
+            ≡ (looks dir (onward (modal_of modal.old).at dir (modal_of modal.old)
+            (length (setting_of self.old).entries))
+            (modal_with_query (modal_of modal.old).query (modal_of modal.old))
+            (setting_of self.old) (value_of self.old)).modal) }
     {
         let from = modal.onward(dir, self.ctx.history().len());
         modal.fresh = false;
@@ -241,9 +247,8 @@ impl<'p, 'h, Out: Renderer, H: Helper + Drop, Hi: History> State<'p, 'h, Out, H,
         dir: SearchDirection,
         cmd: &Cmd,
     ) -> Result<Next, ReadlineError>
-        ensures { Meets (search_start_if (length (setting_of self.old).entries == 0) dir
-            (modal_of modal.old) cmd.now) (next_of cmd.now) self.old self.new
-            (modal_of modal.new) result }
+        ensures { Meets (meeting_at_rest (Search dir) (modal_of modal.old) cmd.now)
+            (next_of cmd.now) self.old self.new (modal_of modal.new) result }
     {
         if self.ctx.history().len() == 0 {
             return Ok(Next::Same);
@@ -255,7 +260,9 @@ impl<'p, 'h, Out: Renderer, H: Helper + Drop, Hi: History> State<'p, 'h, Out, H,
     /// Puts an entry in place of the line, and draws it.
     fn put_again(&mut self, entry: &str, pos: usize) -> Result<(), ReadlineError>
         requires { IsCharBoundary entry.now pos }
-        ensures { Does (put_again_effect entry.now pos) self.old self.new result }
+        ensures { Does (then_do close_groups
+            (then_do (edit_effect (update_group entry.now pos)) refresh_effect))
+            self.old self.new result }
     {
         self.close_groups()?;
         self.put_entry(entry, pos)?;
@@ -269,8 +276,8 @@ impl<'p, 'h, Out: Renderer, H: Helper + Drop, Hi: History> State<'p, 'h, Out, H,
         way: SearchAgain,
         cmd: &Cmd,
     ) -> Result<Next, ReadlineError>
-        ensures { Meets (search_again way (modal_of modal.old)) (next_of cmd.now) self.old self.new
-            (modal_of modal.new) result }
+        ensures { Meets (meeting_at_rest (Again way) (modal_of modal.old) cmd.now)
+            (next_of cmd.now) self.old self.new (modal_of modal.new) result }
     {
         let history = self.ctx.history();
         let dir = dir_again(way, modal.dir);
@@ -312,7 +319,7 @@ impl<'p, 'h, Out: Renderer, H: Helper + Drop, Hi: History> State<'p, 'h, Out, H,
         wish: Wish,
         cmd: &Cmd,
     ) -> Result<Next, ReadlineError>
-        ensures { Meets (meeting_in_prefixes wish (modal_of modal.old) cmd.now) (next_of cmd.now)
+        ensures { Meets (meeting_on Prefixes wish (modal_of modal.old) cmd.now) (next_of cmd.now)
             self.old self.new (modal_of modal.new) result }
     {
         match wish {
@@ -332,7 +339,7 @@ impl<'p, 'h, Out: Renderer, H: Helper + Drop, Hi: History> State<'p, 'h, Out, H,
         wish: Wish,
         cmd: &Cmd,
     ) -> Result<Next, ReadlineError>
-        ensures { Meets (meeting_after_tab wish (modal_of modal.old) cmd.now) (next_of cmd.now)
+        ensures { Meets (meeting_on Tabbed wish (modal_of modal.old) cmd.now) (next_of cmd.now)
             self.old self.new (modal_of modal.new) result }
     {
         match wish {
@@ -366,7 +373,7 @@ impl<'p, 'h, Out: Renderer, H: Helper + Drop, Hi: History> State<'p, 'h, Out, H,
         wish: Wish,
         cmd: &Cmd,
     ) -> Result<Next, ReadlineError>
-        ensures { Meets (meeting_in_list wish (modal_of modal.old) cmd.now) (next_of cmd.now)
+        ensures { Meets (meeting_on Lists wish (modal_of modal.old) cmd.now) (next_of cmd.now)
             self.old self.new (modal_of modal.new) result }
     {
         match wish {
@@ -382,7 +389,7 @@ impl<'p, 'h, Out: Renderer, H: Helper + Drop, Hi: History> State<'p, 'h, Out, H,
         wish: Wish,
         cmd: &Cmd,
     ) -> Result<Next, ReadlineError>
-        ensures { Meets (meeting_in_cycle wish (modal_of modal.old) cmd.now) (next_of cmd.now)
+        ensures { Meets (meeting_on Cycles wish (modal_of modal.old) cmd.now) (next_of cmd.now)
             self.old self.new (modal_of modal.new) result }
     {
         match wish {

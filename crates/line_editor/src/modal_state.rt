@@ -1,10 +1,13 @@
 //! What stands between the commands of a line: a search of the history, candidates, or nothing.
-ghost use Rattle.std.specs.Prelude.{◌≡◌, ◌++◌, encode_utf8, IfErr, OnErr, OnOk, string_bytes};
+ghost use Rattle.std.specs.Prelude.{◌≡◌, ◌-◌, ◌++◌, if◌then◌else◌, min, take, encode_utf8, IfErr, OnErr, OnOk, string_bytes};
 ghost use Rattle.line_config.specs.Refusals.{OrMemory};
 ghost use Rattle.line_config.specs.declared.errors.ReadlineError.TheVariants.{Memory};
+ghost use Rattle.line_buffer.specs.Hits.{last_char};
+ghost use Rattle.line_keys.specs.declared.command.Cmd.TheVariants.{Kill};
 ghost use Rattle.line_editor.specs.Candidates.{cycle_at};
-ghost use Rattle.line_editor.specs.Modal.{modal_of, modal_first, first_standing, wish_of};
-ghost use Rattle.line_editor.specs.Searching.{query_in, modal_with_query, without_last, modal_after_erase, heading, search_prompt, act_of_movement, act_of, next_at, onward, dir_again, from_again};
+ghost use Rattle.line_editor.specs.declared.modal_state.Standing.TheVariants.{Off, Rests};
+ghost use Rattle.line_editor.specs.Modal.{modal_of, modal_first, wish_of};
+ghost use Rattle.line_editor.specs.Searching.{query_in, modal_with_query, modal_after_erase, heading, search_prompt, act_of, next_at, onward, dir_again};
 
 use crate::characters::as_scalar;
 use line_buffer::Movement;
@@ -102,7 +105,7 @@ pub struct ModalState {
 }
 
 fn first_standing(on: bool) -> Standing
-    ensures { result ≡ first_standing on }
+    ensures { result ≡ (if on then Rests else Off) }
 {
     if on { Standing::Rests } else { Standing::Off }
 }
@@ -137,7 +140,7 @@ pub(crate) fn wish_of(cmd: &Cmd) -> Wish
 }
 
 fn act_of_movement(movement: &Movement) -> Act
-    ensures { result ≡ act_of_movement movement.now }
+    ensures { result ≡ act_of (Kill movement.now) }
 {
     match movement {
         Movement::BackwardChar(_) => Act::Erases,
@@ -201,7 +204,7 @@ pub(crate) fn cycle_at(dir: SearchDirection, at: usize, count: usize) -> usize
 
 /// A text without its last character.
 fn drop_last(text: &mut String)
-    ensures { string_bytes text.new ≡ without_last (string_bytes text.old) }
+    ensures { string_bytes text.new ≡ (let old = string_bytes text.old in take (last_char old) old) }
 {
     match text.pop() {
         Some(last) => {
@@ -282,7 +285,7 @@ impl ModalState {
 
     /// From which entry the next one is looked for.
     pub(crate) fn onward(&self, dir: SearchDirection, count: usize) -> Option<usize>
-        ensures { result ≡ onward dir (modal_of self.now) count }
+        ensures { result ≡ onward self.now.at dir (modal_of self.now) count }
     {
         if self.fresh {
             Some(self.at)
@@ -298,7 +301,7 @@ impl ModalState {
         shown: usize,
         count: usize,
     ) -> Option<usize>
-        ensures { result ≡ from_again dir (modal_of self.now) shown count }
+        ensures { result ≡ onward (min shown (count - 1)) dir (modal_of self.now) count }
     {
         if self.fresh {
             Some(shown.min(count.saturating_sub(1)))

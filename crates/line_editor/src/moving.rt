@@ -13,13 +13,15 @@ impl<'p, 'h, Out: Renderer, H: Helper + Drop, Hi: History> State<'p, 'h, Out, H,
     ghost use Rattle.line_buffer.specs.Columns.{line_up, line_down};
     ghost use Rattle.line_editor.specs.States.{value_of, setting_of, Does, Renders};
     ghost use Rattle.line_buffer.specs.declared.types.At.TheVariants.{Start};
+    ghost use Rattle.line_buffer.specs.declared.types.Movement.TheVariants.{EndOfLine, BackwardWord, ViCharSearch, BackwardChar, ForwardChar, LineUp, LineDown, BeginningOfBuffer};
     ghost use Rattle.line_buffer.specs.declared.types.Word.TheVariants.{Big};
     ghost use Rattle.line_editor.specs.Values.{then_do};
-    ghost use Rattle.line_editor.specs.Moving.{cursor_follows, move_backward, move_forward, move_to_prev_word, move_to_next_word, move_to, move_line_up, move_line_down, move_home, move_end, move_buffer_start, move_buffer_end, move_to_first_print, move_by};
+    ghost use Rattle.line_editor.specs.Moving.{move_to_next_word, move_home, move_buffer_end, move_to_first_print, move_by};
+    ghost use Rattle.line_editor.specs.Drawing.{effect_if, cursor_moved};
 
     /// Moves the display's cursor, if that of the text was moved.
     fn follow(&mut self, moved: bool, kind: CmdKind) -> Result<(), ReadlineError>
-        ensures { Renders (cursor_follows kind moved) self.old self.new result }
+        ensures { Renders (effect_if moved (cursor_moved kind)) self.old self.new result }
     {
         if moved {
             self.move_cursor(kind)
@@ -30,7 +32,7 @@ impl<'p, 'h, Out: Renderer, H: Helper + Drop, Hi: History> State<'p, 'h, Out, H,
 
     /// Moves back by clusters.
     pub fn edit_move_backward(&mut self, n: RepeatCount) -> Result<(), ReadlineError>
-        ensures does { Does (move_backward n) self.old self.new result }
+        ensures does { Does (move_by (BackwardChar n)) self.old self.new result }
     {
         let recorded = &mut self.recorded;
         let moved = recorded.line.move_backward(n);
@@ -39,7 +41,7 @@ impl<'p, 'h, Out: Renderer, H: Helper + Drop, Hi: History> State<'p, 'h, Out, H,
 
     /// Moves forward by clusters.
     pub fn edit_move_forward(&mut self, n: RepeatCount) -> Result<(), ReadlineError>
-        ensures does { Does (move_forward n) self.old self.new result }
+        ensures does { Does (move_by (ForwardChar n)) self.old self.new result }
     {
         let recorded = &mut self.recorded;
         let moved = recorded.line.move_forward(n);
@@ -57,7 +59,7 @@ impl<'p, 'h, Out: Renderer, H: Helper + Drop, Hi: History> State<'p, 'h, Out, H,
 
     /// Moves to the row's end.
     pub fn edit_move_end(&mut self) -> Result<(), ReadlineError>
-        ensures does { Does move_end self.old self.new result }
+        ensures does { Does (move_by EndOfLine) self.old self.new result }
     {
         let recorded = &mut self.recorded;
         let moved = recorded.line.move_end();
@@ -66,7 +68,7 @@ impl<'p, 'h, Out: Renderer, H: Helper + Drop, Hi: History> State<'p, 'h, Out, H,
 
     /// Moves to the text's start.
     pub fn edit_move_buffer_start(&mut self) -> Result<(), ReadlineError>
-        ensures does { Does move_buffer_start self.old self.new result }
+        ensures does { Does (move_by BeginningOfBuffer) self.old self.new result }
     {
         let recorded = &mut self.recorded;
         let moved = recorded.line.move_buffer_start();
@@ -88,7 +90,7 @@ impl<'p, 'h, Out: Renderer, H: Helper + Drop, Hi: History> State<'p, 'h, Out, H,
         word: Word,
         n: RepeatCount,
     ) -> Result<(), ReadlineError>
-        ensures does { Does (move_to_prev_word word n) self.old self.new result }
+        ensures does { Does (move_by (BackwardWord n word)) self.old self.new result }
     {
         let recorded = &mut self.recorded;
         let moved = recorded.line.move_to_prev_word(word, n);
@@ -111,7 +113,7 @@ impl<'p, 'h, Out: Renderer, H: Helper + Drop, Hi: History> State<'p, 'h, Out, H,
 
     /// Moves by a search to the n-th such character, or to the last one if there are fewer.
     pub fn edit_move_to(&mut self, search: CharSearch, n: RepeatCount) -> Result<(), ReadlineError>
-        ensures does { Does (move_to search n) self.old self.new result }
+        ensures does { Does (move_by (ViCharSearch n search)) self.old self.new result }
     {
         let recorded = &mut self.recorded;
         let moved = recorded.line.move_to(search, n);
@@ -133,7 +135,7 @@ impl<'p, 'h, Out: Renderer, H: Helper + Drop, Hi: History> State<'p, 'h, Out, H,
 
     /// Moves up by rows. Returns false in the first row.
     pub fn edit_move_line_up(&mut self, n: RepeatCount) -> Result<bool, ReadlineError>
-        ensures does { Does (move_line_up n) self.old self.new result }
+        ensures does { Does (move_by (LineUp n)) self.old self.new result }
         ensures answer { let s = setting_of self.old in IfOk result
             (λ b. b ≡ is_some (line_up s.mode s.tabs s.column n self.old.recorded.line)) }
     {
@@ -148,7 +150,7 @@ impl<'p, 'h, Out: Renderer, H: Helper + Drop, Hi: History> State<'p, 'h, Out, H,
 
     /// Moves down by rows. Returns false in the last row.
     pub fn edit_move_line_down(&mut self, n: RepeatCount) -> Result<bool, ReadlineError>
-        ensures does { Does (move_line_down n) self.old self.new result }
+        ensures does { Does (move_by (LineDown n)) self.old self.new result }
         ensures answer { let s = setting_of self.old in IfOk result
             (λ b. b ≡ is_some (line_down s.mode s.tabs s.column n self.old.recorded.line)) }
     {

@@ -1,7 +1,8 @@
 //! Up and Down through the entries that begin with the line.
-ghost use Rattle.std.specs.Prelude.{◌≡◌, ◌&&◌, is_some};
+ghost use Rattle.std.specs.Prelude.{◌≡◌, is_some};
+ghost use Rattle.line_editor.specs.declared.modal_state.Wish.TheVariants.{Up};
 ghost use Rattle.line_editor.specs.Modal.{modal_of, next_of};
-ghost use Rattle.line_editor.specs.Prefixes.{is_prefix, is_own, earlier, later, rises, rises_if, falls};
+ghost use Rattle.line_editor.specs.ModalCommands.{is_prefix, earlier, later, rises, falls, meeting_at_rest};
 
 use crate::modal_state::{ModalState, Next, Standing};
 use crate::renderer::Renderer;
@@ -20,7 +21,7 @@ fn is_prefix(line: &LineBuffer) -> bool
 
 impl<'p, 'h, Out: Renderer, H: Helper + Drop, Hi: History> State<'p, 'h, Out, H, Hi> {
     ghost use Rattle.line_editor.specs.States.{value_of, setting_of};
-    ghost use Rattle.line_editor.specs.Turn.{Meets};
+    ghost use Rattle.line_editor.specs.States.{Meets};
 
     /// Whether an earlier entry begins with the text before the cursor.
     fn has_earlier(&self) -> bool
@@ -72,8 +73,8 @@ impl<'p, 'h, Out: Renderer, H: Helper + Drop, Hi: History> State<'p, 'h, Out, H,
         modal: &mut ModalState,
         cmd: &Cmd,
     ) -> Result<Next, ReadlineError>
-        ensures { Meets (λ s v. rises_if (is_own s v && is_prefix v.line) (modal_of modal.old)
-            cmd.now s v) (next_of cmd.now) self.old self.new (modal_of modal.new) result }
+        ensures { Meets (meeting_at_rest Up (modal_of modal.old) cmd.now) (next_of cmd.now)
+            self.old self.new (modal_of modal.new) result }
     {
         let own = self.ctx.history_index() == self.ctx.history().len();
         if own && is_prefix(&self.recorded.line) {

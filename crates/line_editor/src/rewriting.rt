@@ -9,7 +9,7 @@ use line_help::{Helper, History};
 
 impl<'p, 'h, Out: Renderer, H: Helper + Drop, Hi: History> State<'p, 'h, Out, H, Hi> {
     ghost use Rattle.line_editor.specs.States.{value_of, setting_of, Does};
-    ghost use Rattle.line_editor.specs.Rewriting.{has_letters, may_be_rewritten, refresh_over_effect};
+    ghost use Rattle.line_editor.specs.Transforms.{has_letters, may_be_rewritten, refresh_over_effect};
 
     /// Whether printable characters stand from one place up to another, in a line that is bare and
     /// plain.

@@ -1,7 +1,8 @@
 //! How far two drawings of a line surely have the same styles.
 ghost use Rattle.std.specs.Prelude.{◌≡◌, ◌<◌, take, drop, length, option_copied, replicate, unwrap_or, IsTrue, if◌then◌else◌};
 ghost use Rattle.line_help.specs.Paints.{first_mark, span_styles};
-ghost use Rattle.line_editor.specs.SharedStyles.{is_used, plain_rest, shared_styles, told_styles};
+ghost use Rattle.line_editor.specs.SharedStyles.{is_used, plain_rest, same_style, told_styles};
+ghost use Rattle.std.specs.List.{common_prefix_len};
 
 use line_help::{Highlighter, Mark, Part, Span, Style};
 use std::marker::Model;
@@ -62,7 +63,8 @@ impl<'a> Since<'a> {
 
     /// How many bytes before the place have the same styles in a line that has these first spans.
     pub(crate) fn kept_upto(&self, spans: &Option<FirstSpans>) -> usize
-        ensures { result ≡ shared_styles self.now.styles (noted_styles self.now.from spans.now) }
+        ensures { result ≡ common_prefix_len same_style self.now.styles
+            (noted_styles self.now.from spans.now) }
     {
         let rest = [plain_rest(self.from)];
         shared_styles(
@@ -136,7 +138,7 @@ fn behind(spans: &[Span], used: usize) -> (&[Span], usize)
 
 /// How many of the first `upto` bytes have the same styles by these spans and by those.
 fn shared_styles(upto: usize, old: &[Span], new: &[Span]) -> usize
-    ensures { result ≡ shared_styles (take upto (span_styles old.now))
+    ensures { result ≡ common_prefix_len same_style (take upto (span_styles old.now))
         (take upto (span_styles new.now)) }
 {
     let mut left = upto;

@@ -16,7 +16,7 @@ use line_record::KillRing;
 impl<'p, 'h, Out: Renderer, H: Helper + Drop, Hi: History> State<'p, 'h, Out, H, Hi> {
     ghost use Rattle.line_editor.specs.LineScripts.{turn_script};
     ghost use Rattle.line_editor.specs.Modal.{modal_of};
-    ghost use Rattle.line_editor.specs.Turn.{Takes};
+    ghost use Rattle.line_editor.specs.States.{Takes};
 
     /// One turn: the next command and its effect. It is inlined into the loop over the turns.
     #[inline(always)]

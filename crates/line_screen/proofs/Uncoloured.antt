@@ -15,7 +15,8 @@ use Rattle.line_config.specs.declared.settings.BellStyle.{BellStyle}
 use Rattle.line_config.specs.declared.settings.BellStyle.TheVariants as Bells
 use Rattle.line_editor.specs.RenderCalls.{Call, Ruler}
 use Rattle.line_editor.specs.RenderCalls.Call.{Draw, Move, Write, Beep, ClearScreen, ClearRows, ClearToEol, MoveAndClearToEol, InsertChar, MoveAndDelete, Append, DrawRest, ToLeftmost, Help, WriteOver}
-use Rattle.line_editor.specs.Redraws.{Redraw, RedrawCalls, calls_of_redraw, full, rest_call, info_text, may_type, may_take, may_erase, may_put_in, may_take_out, move_call, nothing_asked, char_call, append_call, erase_call, put_in_short, taken_out_short, may_write_over, write_over_call}
+use Rattle.line_editor.specs.Redraws.{Redraw, RedrawCalls, calls_of_redraw, full, rest_call, info_text, may_write_over, may_take, may_erase, may_put_in, may_take_out, nothing_asked, erase_call}
+use Rattle.line_editor.proofs.ShortCalls.{move_call, char_call, append_call, put_in_short, taken_out_short, write_over_call}
 use Rattle.line_editor.specs.Redraws.Redraw.{Drawn, DrawnFrom, Moved, Typed, Appended, Taken, Erased, PutIn, TakenOut, Bared, ToEnd, Beeped, Cleared, Rewritten}
 use Rattle.line_editor.specs.Values.{shown_marks}
 use Rattle.line_screen.specs.ScreenCalls.{Screen, bytes_of, bell_bytes, old_row, ruler_of}
@@ -416,7 +417,7 @@ either_plain false x y h k = k
 asked_plain : (r : Ruler) (l : Layout) (x : Redraw) → all_plain (calls_of_redraw r None l x) ≡ true
 asked_plain r l (Drawn prompt given text place info) = refl
 asked_plain r l (Moved text place) = let cursor = r.measure (take place text) l.prompt_size in either_plain (same_cell l.cursor cursor) (nothing_asked l) (move_call l cursor) refl refl
-asked_plain r l (Typed prompt c text place) = either_plain (may_type r l) (char_call l c) (full r None l prompt true text place None) refl refl
+asked_plain r l (Typed prompt c text place) = either_plain (may_write_over r l l.cursor 1) (char_call l c) (full r None l prompt true text place None) refl refl
 asked_plain r l (Appended prompt c text place) = either_plain l.has_info (full r None l prompt true text place None) (append_call r l c) refl refl
 asked_plain r l (Taken prompt count partial text place) =
     let rest = rest_call r None l place text place None in

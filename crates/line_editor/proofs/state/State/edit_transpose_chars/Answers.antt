@@ -3,8 +3,7 @@ use Rattle.std.specs.Str.{IsCharBoundary}
 use Rattle.line_buffer.specs.Transpositions.{transposes_chars}
 use Rattle.line_edits.specs.Edits.{transpose_chars_group}
 use Rattle.line_editor.specs.Drawing.{effect_if}
-use Rattle.line_editor.specs.Rewriting.{refresh_over_effect}
-use Rattle.line_editor.specs.Transforms.{transpose_chars_effect}
+use Rattle.line_editor.specs.Transforms.{refresh_over_effect, transpose_chars_effect}
 use Rattle.line_editor.specs.States.{value_of, setting_of}
 use Rattle.line_editor.proofs.EditLemmas.{chars_over, edit_then, edit_refused, drawn_if, undrawn_if}
 use Rattle.line_editor.proofs.TransposedLemmas.{pair_boundary, pair_known, pair_over}

@@ -1,6 +1,7 @@
 use Rattle.std.proofs.Common.{◌≡◌, ap, subst, ◌∙◌}
 use Rattle.line_editor.specs.Drawing.{line_spans}
-use Rattle.line_editor.specs.SharedStyles.{noted_styles, shared_styles, told_styles}
+use Rattle.line_editor.specs.SharedStyles.{noted_styles, told_styles}
+use Rattle.line_editor.proofs.SharedLemmas.{shared_styles}
 use Rattle.line_editor.specs.States.{value_of, setting_of}
 use Rattle.line_editor.proofs.state.State.kept_in_styles.Goals as goal
 

@@ -3,7 +3,7 @@ use Rattle.std.proofs.Math.Bool.{and-false}
 use Rattle.std.proofs.lemmas.Bool.{and_from, and_parts}
 use Rattle.line_editor.specs.Drawing.{ask_anew_effect}
 use Rattle.line_editor.specs.Inserting.{is_bare}
-use Rattle.line_editor.specs.Rewriting.{has_letters, show_rewritten_effect}
+use Rattle.line_editor.specs.Transforms.{has_letters, show_rewritten_effect}
 use Rattle.line_editor.specs.States.{value_of}
 use Rattle.line_editor.proofs.DoesLemmas.{does_cut_by}
 use Rattle.line_editor.proofs.HelpedLemmas.{written_over, drawn_anew}
