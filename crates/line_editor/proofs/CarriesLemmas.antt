@@ -21,7 +21,6 @@ use Rattle.line_editor.specs.Drawing.{refresh_effect}
 use Rattle.line_editor.specs.LineScripts.{LineAsk, LineAnswer, LineScript, Makes, LineStage, line_state, line_script_after, turn_script, turns_script, line_script}
 use Rattle.line_editor.specs.Modal.{Modal}
 use Rattle.line_editor.specs.States.{value_of, Reason, Stays, Does, Cause, Takes, stage_of, world_of}
-use Rattle.line_editor.specs.Turn.{Cause, Takes, stage_of, world_of}
 use Rattle.line_editor.specs.Values.{Value, Transition, memory_effect, then_do}
 use Rattle.line_editor.specs.declared.commands.Status.{Status}
 use Rattle.line_editor.specs.declared.commands.Status.TheVariants.{Proceed, Submit}

@@ -17,17 +17,17 @@ use Rattle.line_help.specs.declared.helpers.highlight as highlights
 use Rattle.line_help.specs.declared.helpers.validate as verdicts
 use Rattle.line_help.specs.declared.history as histories
 use Rattle.line_keys.specs.Replies.{Reply, IsFaultOf}
-use Rattle.line_record.specs.Items.{Items, ItemsStand, RecordsEventIn, record_refuses, record_on, items_with_mark}
+use Rattle.line_record.specs.Items.{Items, ItemsStand, RecordsEventIn, record_refuses, record_on}
+use Rattle.line_record.proofs.StepLemmas.{items_with_mark}
 use Rattle.line_editor.specs.Drawing.{effect_if, beep_effect}
-use Rattle.line_editor.specs.Completing.{common_text, word_put, CutWord, word_updated, complete_effect_with, complete_effect, candidates_given, candidates_asked, complete, word_completed}
-use Rattle.line_editor.specs.States.{hooks_of, value_of, setting_of, fails_by, IsHelpFault, error_of, surface_of, Stays, Does}
+use Rattle.line_editor.specs.Completing.{common_text, word_put, CutWord, word_updated, complete_effect, candidates_given, candidates_asked, complete, word_completed}
+use Rattle.line_editor.specs.States.{hooks_of, value_of, setting_of, fails_by, error_of, surface_of, Stays, Does}
+use Rattle.line_editor.proofs.StopsLemmas.{IsHelpFault, help_made, help_layout, stops_asking, stops_marking, stops_updating}
 use Rattle.line_editor.specs.Values.{Value, Setting, Hooks, then_do, completion_reply, update_reply}
 use Rattle.line_editor.specs.declared.renderer as renderers
 use Rattle.line_editor.specs.declared.state.State.{State}
-use Rattle.line_editor.proofs.StopsLemmas.{help_made, help_layout, stops_asking, stops_marking, stops_updating, IsHelpFault}
 use Rattle.line_editor.proofs.DoesLemmas.{does_as, does_both, does_cut_by, does_refused, stays_same}
 use Rattle.line_editor.proofs.HelpedLemmas.{completion_reason, update_reason, fault_told}
-use Rattle.line_record.proofs.StepLemmas.{items_with_mark}
 use Rattle.std.specs.Option.{option_map_or}
 
 -- the texts that candidates put in

@@ -20,9 +20,9 @@ use Rattle.line_record.specs.Held.{HeldItem, change_of, record_after_event, has_
 use Rattle.line_record.specs.Held.HeldItem.{Opened, Stepped}
 use Rattle.line_record.proofs.GroupLaws.{unchanged}
 use Rattle.line_record.proofs.RecordLaws.{no_mark}
-use Rattle.line_editor.specs.Candidates.{cycle_begun, cycle_first, candidate_at, turn_effect, cycle_at, cycle_back, cycle_effect, modal_after_ask, turn_effect_with, cycle}
+use Rattle.line_editor.specs.Candidates.{cycle_begun, cycle_first, candidate_at, turn_effect, cycle_at, cycle_back, cycle_effect, modal_after_ask, cycle}
 use Rattle.line_editor.specs.Completing.{begins_word, word_replaced, candidates_given, word_completed}
-use Rattle.line_editor.specs.Returns.{GivesBack, is_onward, AllOnward, search_after, GivesWordBack, cycle_after}
+use Rattle.line_editor.specs.Returns.{GivesBack, GivesWordBack}
 use Rattle.line_editor.specs.Modal.{Modal, Meeting, pass_meeting, takes}
 use Rattle.line_editor.specs.Searching.{begin_search, modal_at_search_start, hit_undo_effect, put_hit_effect, search_for, modal_after_look, looks, looks_again, search_drawn, onward, modal_with_query, modal_after_erase, modal_with_char, is_place, line_at_place}
 use Rattle.line_editor.specs.Values.{Value, Setting, value_with_edit, completion_reply, then_do}

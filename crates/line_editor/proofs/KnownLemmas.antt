@@ -20,8 +20,6 @@ use Rattle.line_buffer.specs.Range.{deletion_line, from_cursor}
 use Rattle.line_edits.specs.Edits.{clusters_after, replace_group, replace_group_if_any, by}
 use Rattle.line_edits.proofs.StepLemmas.{overwrite_steps_to}
 use Rattle.line_edits.specs.WriteSteps.{with_answer, no_steps, effect_of_steps, Written}
-use Rattle.line_edits.specs.Written.{Written}
-use Rattle.line_buffer.specs.Replay.{insertion as told_insertion}
 use Rattle.line_buffer.specs.Printable.{is_plain_byte, is_plain}
 use Rattle.line_editor.specs.RenderCalls.{IsKnown, known_within}
 

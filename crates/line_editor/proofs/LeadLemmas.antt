@@ -42,7 +42,7 @@ use Rattle.line_editor.specs.RenderCalls.{Marks}
 use Rattle.line_editor.specs.Redraws.{Redraw, info_text}
 use Rattle.line_editor.specs.Redraws.Redraw.{Drawn, DrawnFrom, Moved, Typed, Appended, Taken, Erased, PutIn, TakenOut, Cleared}
 use Rattle.line_editor.specs.SharedStyles.{styles_to, told_styles}
-use Rattle.line_editor.specs.Sights.{PartSpans, drawn_spans, Sight, InPart, sight_as, sight, sight_all, Fits, FitsAll, Turns, info_one, info_after, sight_of, no_sight}
+use Rattle.line_editor.specs.Sights.{PartSpans, drawn_spans, Sight, InPart, sight_as, sight, sight_all, Fits, FitsAll, Turns, info_after, sight_of, no_sight}
 use Rattle.line_editor.specs.Values.{Value, Setting, EditStep, Effect, Transition, no_effect, then_do, hint_reply, help_steps, value_with_edit, edit_effect, at_line, with_mark, marks_seen, shown_marks, shown_hint, line_and_record_of, draw_effect}
 use Rattle.line_editor.specs.Values.EditStep.{Draws, Edits, TakesBack, Takes}
 use Rattle.line_editor.proofs.ApartLemmas.{apart_before}

@@ -17,8 +17,8 @@ use Rattle.line_record.specs.Held.{HeldItem}
 use Rattle.line_editor.specs.Candidates.{only_text, candidate_at, several, is_ambiguous, modal_after_offer, cycle_at, cycle_back, cycle_effect, modal_after_ask, offer_effect, list_shown, only_put}
 use Rattle.line_editor.specs.Completing.{begins_word, common_text_among, common_text, word_updated, complete_effect, candidates_given, candidates_asked, word_completed}
 use Rattle.line_editor.specs.Drawing.{refresh_effect, beep_effect, effect_if}
-use Rattle.line_editor.specs.History.{leave_effect, value_on_leaving}
-use Rattle.line_editor.specs.ModalCommands.{meeting_effect, meeting_at_rest, meeting_in_prefixes, meeting_after_tab, meeting_anew, meeting_in_list, meeting_in_cycle, meeting_in, meeting_in_search, meeting_on, is_prefix, is_own, earlier, later, rises}
+use Rattle.line_editor.specs.History.{leave_effect}
+use Rattle.line_editor.specs.ModalCommands.{meeting_effect, meeting_at_rest, meeting_anew, meeting_in, meeting_in_search, meeting_on, is_prefix, is_own, earlier, later, rises}
 use Rattle.line_editor.specs.Modal.{Modal, modal_at_rest, pass_meeting, takes, goes, wish_of}
 use Rattle.line_editor.specs.Searching.{modal_after_erase, looks_again, modal_with_char, search_for, onward, hit_undo_effect, put_hit_effect, is_place, place_effect, give_up_effect, hit_again, search_again_meeting, act_of, begin_search, modal_at_search_start}
 use Rattle.line_editor.specs.Values.{Value, Setting, Saved, no_effect, then_do, completion_reply, edit_effect, at_line, close_groups}

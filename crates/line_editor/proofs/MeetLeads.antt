@@ -17,11 +17,10 @@ use Rattle.line_editor.specs.Completing.{common_text, updates, word_updated, wor
 use Rattle.line_edits.specs.Edits.{update_group}
 use Rattle.line_editor.specs.Drawing.{draw_effect_behind, ask_anew_effect, refresh_effect, refresh_effect_behind, beep_effect}
 use Rattle.line_editor.specs.Redraws.{Redraw}
-use Rattle.line_editor.specs.ModalCommands.{meeting_at_rest, meeting_in_prefixes, meeting_after_tab, meeting_anew, meeting_in_list, meeting_in_cycle, meeting_in, sight_in_mode, modal_seen, meeting_in_search, meeting_on, is_prefix, is_own, earlier, later, rises}
-use Rattle.line_editor.specs.Modal.{Modal, Meeting, modal_first, first_standing, modal_at_rest, pass_meeting, takes, goes, wish_of}
-use Rattle.line_editor.specs.Prefixes.{is_prefix, is_own, earlier, later, rises_if}
+use Rattle.line_editor.specs.ModalCommands.{meeting_at_rest, meeting_anew, meeting_in, sight_in_mode, modal_seen, meeting_in_search, meeting_on, is_prefix, is_own, earlier, later, rises}
+use Rattle.line_editor.specs.Modal.{Modal, Meeting, modal_first, modal_at_rest, pass_meeting, takes, goes, wish_of}
 use Rattle.line_editor.specs.History.{with_saved_line, leave_effect, save_effect}
-use Rattle.line_editor.specs.Searching.{search_prompt, modal_with_query, modal_after_erase, search_for, modal_after_look, onward, hit_undo_effect, put_hit_effect, search_drawn, modal_with_char, looks, looks_typed, looks_again, modal_with_empty_query, empty_query_effect, place_effect, modal_at_search_start, begin_search, search_start_if, hit_again, search_again_meeting, act_of}
+use Rattle.line_editor.specs.Searching.{search_prompt, modal_with_query, modal_after_erase, search_for, modal_after_look, onward, hit_undo_effect, put_hit_effect, search_drawn, modal_with_char, looks, looks_typed, looks_again, modal_with_empty_query, place_effect, modal_at_search_start, begin_search, hit_again, search_again_meeting, act_of}
 use Rattle.line_editor.specs.Sights.{Sight, sight_with, sight_of, sight_all, FitsAll, info_after}
 use Rattle.line_editor.specs.Values.{Value, Setting, EditStep, no_effect, then_do, hint_reply, help_steps, shown_hint, shown_marks, completion_reply, update_reply, edit_effect, close_groups}
 use Rattle.line_editor.specs.Values.EditStep.{Draws, Edits, TakesBack, Takes}

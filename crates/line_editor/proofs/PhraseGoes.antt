@@ -19,7 +19,6 @@ use Rattle.line_editor.specs.LineScripts.{LineAsk, LineAnswer, LineScript, scrip
 use Rattle.line_editor.specs.Modal.{Modal}
 use Rattle.line_editor.specs.States.{value_of, setting_of, surface_of, display_of, Stays, Does, stage_of, world_of}
 use Rattle.line_editor.specs.EditSteps.{calls_of_steps, CutEditSteps, CallsMade}
-use Rattle.line_editor.specs.Turn.{stage_of, world_of}
 use Rattle.line_editor.specs.Values.{Setting, Transition}
 use Rattle.line_editor.specs.declared.renderer as renderers
 use Rattle.line_editor.specs.declared.state.State.{State}

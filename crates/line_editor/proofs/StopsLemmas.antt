@@ -11,8 +11,8 @@ use Rattle.line_editor.specs.RenderCalls.{Call, Canvas, Marks, Ruler, MadeIn, Cu
 use Rattle.line_editor.specs.RenderCalls.Call.{Help}
 use Rattle.line_editor.specs.Completing.{updates}
 use Rattle.line_editor.specs.Redraws.{Redraw, RedrawCalls, calls_of_redraw, then_asked}
-use Rattle.line_editor.specs.States.{fails_by, IsHelpFault}
-use Rattle.line_editor.specs.EditSteps.{one, calls_of_steps, Surface, surface, CutHelp, UndonePartly, CutEditSteps, CallsMade, SameBeside, StepMade}
+use Rattle.line_editor.specs.States.{fails_by}
+use Rattle.line_editor.specs.EditSteps.{one, calls_of_steps, Surface, surface, CutHelp, UndonePartly, CutEditSteps, CallsMade}
 use Rattle.line_editor.specs.Values.{Value, EditStep, line_and_record_of, value_with_edit, help_steps, shown_marks}
 use Rattle.line_editor.specs.Values.EditStep.{Draws, Edits, TakesBack, Takes}
 

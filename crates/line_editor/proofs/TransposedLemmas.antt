@@ -12,9 +12,7 @@ use Rattle.line_buffer.specs.Printable.{is_printable, is_plain}
 use Rattle.line_buffer.specs.Transpositions.{between_clusters, clusters_at, clusters_around, later_first, transposes_chars, transpose_chars as transposed_in}
 use Rattle.line_editor.specs.Inserting.{is_bare}
 use Rattle.line_editor.specs.RenderCalls.{IsKnown}
-use Rattle.line_editor.specs.Rewriting.{has_letters, may_be_rewritten}
-use Rattle.line_editor.specs.Transforms.{pair_end, has_letters, may_be_rewritten}
-use Rattle.line_editor.specs.KnownPlaces.{IsKnown}
+use Rattle.line_editor.specs.Transforms.{has_letters, may_be_rewritten, pair_end}
 use Rattle.line_editor.specs.Values.{Value, Setting}
 use Rattle.line_editor.proofs.KnownLemmas.{Begins, behind_place, known_at, known_nothing, plain_boundary}
 use Rattle.line_editor.proofs.PlainClusters.{clusters_plain, plain_split, one_back, one_on}

@@ -28,8 +28,8 @@ use Rattle.line_keys.specs.declared.command.Cmd.TheVariants.{BeginningOfHistory,
 use Rattle.line_editor.specs.Commands.{Means, effect}
 use Rattle.line_editor.specs.Completing.{word_put}
 use Rattle.line_editor.specs.Leads.{Reaches, Sound}
-use Rattle.line_editor.specs.History.{at_place, recall, history_step, history_end, history_search, entry_shown, leave_effect, save_effect, with_saved_line, value_on_leaving, hit_effect}
-use Rattle.line_editor.specs.Returns.{ValueStep, value_after, BegunSound, UndoesAll, Along}
+use Rattle.line_editor.specs.History.{at_place, recall, history_step, history_end, history_search, entry_shown, leave_effect, save_effect, with_saved_line}
+use Rattle.line_editor.specs.Returns.{ValueStep, value_after, UndoesAll, Along}
 use Rattle.line_editor.specs.Returns.ValueStep.{Done, Asked, Met}
 use Rattle.line_editor.specs.Values.{Value, Setting, value_with_edit, line_and_record_of, no_effect}
 use Rattle.line_editor.proofs.CommandKeeps.{KeptByCommands, either_holds, found_holds, command_keeps}

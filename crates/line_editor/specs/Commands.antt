@@ -16,10 +16,9 @@ use Rattle.line_edits.specs.Edits.{ring_without_kill, replace_group_if_any, over
 use Rattle.line_editor.specs.Accepting.{bare, newline, accept, accepts, accept_or_insert, verdict}
 use Rattle.line_editor.specs.Completing.{complete, complete_hint}
 use Rattle.line_editor.specs.Drawing.{refresh_effect, clear_and_draw_effect, cursor_end_effect}
-use Rattle.line_editor.specs.Inserting.{insert_char, clusters_replaced, replace_char, overwrite_char}
-use Rattle.line_editor.specs.Killing.{kill_effect, replace, copy_effect, ring_with_kill_of, ring_with_copy}
-use Rattle.line_editor.specs.Moving.{move_by, move_line_up, move_line_down}
-use Rattle.line_editor.specs.Hinting.{complete_hint}
+use Rattle.line_editor.specs.Inserting.{insert_char, clusters_replaced}
+use Rattle.line_editor.specs.Killing.{kill_effect, replace, copy_effect}
+use Rattle.line_editor.specs.Moving.{move_by}
 use Rattle.line_editor.specs.History.{history_step, history_end, history_search}
 use Rattle.line_editor.specs.Transforms.{transpose_chars_effect, transpose_words_effect, edit_word_effect, indent_by_setting, undo}
 use Rattle.line_editor.specs.Values.{Value, Setting, Transition, no_effect}

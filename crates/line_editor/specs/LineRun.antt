@@ -16,9 +16,8 @@ use Rattle.line_editor.specs.LineScripts.{LineState, LineStage, line_state, line
 use Rattle.line_editor.specs.Modal.{Modal, modal_first}
 use Rattle.line_editor.specs.Redraws.{fresh}
 use Rattle.line_editor.specs.EditSteps.{surface}
-use Rattle.line_editor.specs.Turn.{cause_of}
-use Rattle.line_editor.specs.Values.{Value, Setting, first_value, IsFailing, empty_at}
 use Rattle.line_editor.specs.States.{cause_of}
+use Rattle.line_editor.specs.Values.{Value, Setting, first_value, IsFailing, empty_at}
 pub use Rattle.line_editor.specs.Values.{Helping, setting_by, helper_from_hooks}
 use Rattle.line_editor.specs.declared.line_run.Ran.{Ran}
 

@@ -11,7 +11,6 @@ use Rattle.line_record.specs.RecordCourse.{record_after_events}
 use Rattle.line_record.proofs.RunLemmas.{told_stand, told_held, stopped_stand, part_stopped, recorded_all-nil}
 use Rattle.line_edits.specs.Edits.{cover_steps}
 use Rattle.line_edits.specs.WriteSteps.{WriteStep, Tells, Leaves, Closes, CutEvents, CutAlong, Rewrites, effect_of_steps, no_steps, single_step, in_turn, with_answer, steps_in_group, WriteSteps, effect_of_step, Written, Writes, line_and_record}
-use Rattle.line_edits.specs.Written.{Written, Writes, line_and_record}
 use Rattle.line_record.proofs.StepLemmas.{items_with_mark}
 
 -- ---- steps

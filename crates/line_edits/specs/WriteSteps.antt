@@ -4,8 +4,6 @@ use Rattle.line_buffer.specs.Edit.{Edit}
 use Rattle.line_buffer.specs.Event.{ChangeEvent, TellsOfChange, line_after_events}
 use Rattle.line_buffer.specs.Line.{Line}
 use Rattle.line_record.specs.Items.{Items, ItemsStand, record_on}
-use Rattle.line_edits.specs.Written.{Written, Writes, line_and_record, line_and_record_in, after_edit, group_opened, group_closed}
-use Rattle.line_buffer.specs.Replay.{TellsOfChange, line_after_events}
 use Rattle.line_record.specs.Held.{HeldItem, Opened, record_after_close}
 use Rattle.line_record.specs.RecordCourse.{record_after_events}
 use Rattle.line_edits.specs.declared.recorded_line.RecordedLine.{RecordedLine}
