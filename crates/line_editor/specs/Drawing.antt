@@ -46,7 +46,7 @@ abbrev pub kept_upto : Since → Setting → Value → ℕ
 kept_upto before s v =
     common_prefix_len same_style before.styles (told_styles before.from (line_spans s v))
 
--- the line with its hint, drawn from there on, if no cluster lies over either place in it
+-- the line with its hint, drawn from there on, if no cluster of it lies over either place
 abbrev pub redraw_since : Option Since → Setting → Value → Redraw
 redraw_since None s v = redraw_of s v
 redraw_since (Some before) s v =
@@ -81,13 +81,13 @@ refresh_effect_since from = then_do ask_anew_effect (draw_effect_since from)
 abbrev pub refresh_effect : Transition
 refresh_effect = refresh_effect_since None
 
--- an effect if a test holds, and none otherwise
-abbrev pub effect_if : Bool → Transition → Transition
-effect_if holds edit s v = if holds then edit s v else no_effect s v
-
 -- the same after another prompt
 abbrev pub refresh_effect_behind : List ℕ → Transition
 refresh_effect_behind prompt = then_do ask_anew_effect (draw_effect_behind prompt false)
+
+-- an effect if a test holds, and none otherwise
+abbrev pub effect_if : Bool → Transition → Transition
+effect_if holds edit s v = if holds then edit s v else no_effect s v
 
 -- a message, if there is one, in place of the hint
 abbrev pub message_effect : Option (List ℕ) → CmdKind → Transition
