@@ -16,8 +16,8 @@ The result of a killed mutant is kept on this machine, beside what `rt ci` keeps
 check read. A later run, in any clone, tries only the mutants for which something changed (tests/mutants/kept.py).
 
 The repository notes the killed ones too, by a checksum of what decides whether a clause is false of each
-(tests/mutants/mutants-rejected.txt). A noted one is not tried again until that changes; those of
-tests/mutants/mutants-named.txt are always tried.
+(tests/mutants/mutants-rejected.txt). A noted one is not tried again until that changes. Of those of
+tests/mutants/mutants-named.txt one crate's are tried all the same; the notes choose the crate.
 
     tests/mutants/mutants.py [CRATE..]          all crates, or these
     tests/mutants/mutants.py --all [CRATE..]    tries the noted ones again, too
@@ -57,7 +57,7 @@ from threading import Thread
 import libraries
 from judging import FALSE, FAULT, OPEN, Said, judged
 from kept import Kept, folder_beside
-from mutant_checks import LEMMAS, Crate, below, crates_of, joined, read, write
+from mutant_checks import LEMMAS, Crate, below, crates_of, joined, read, sum_of, write
 from noted import Noted, noted
 
 TOP = os.path.dirname(os.path.dirname(os.path.dirname(os.path.realpath(__file__))))
@@ -340,6 +340,13 @@ def named():
     return {f"{crate}/{name.strip()}" for _, crate, name in (it for it in rows if len(it) == 3)}
 
 
+def tried_again():
+    """Those of them that are tried though they are noted: those of one crate, which the notes choose."""
+    names = sorted(named())
+    crate, _, _ = names[int(sum_of(read(REJECTED)), 16) % len(names)].partition("/")
+    return {it for it in names if it.startswith(f"{crate}/")}
+
+
 def noted_unasked():
     """The goals that need not be asked of a mutant, by its crate and name."""
     return {name: it.split(", ") for name, it in noted(UNASKED).items()}
@@ -404,7 +411,7 @@ def main(words):
     anew = not {"--anew", "--all-goals"}.isdisjoint(words)
     kept = Kept(TOP, uses, checker.kit, folder_beside(checker.kit), anew)
     crates.sort(key=Crate.weight, reverse=True)
-    rejected = Noted(TOP, uses, REJECTED, noted(REJECTED), named())
+    rejected = Noted(TOP, uses, REJECTED, noted(REJECTED), tried_again())
     is_noted = lambda crate, edit: not (anew or {"--all", "--right"} & {*words}) and rejected.has(crate, edit)
     trials = [Trial(it, checker, by_hand, kept, "--right" in words, [edit for edit in it.edits if is_noted(it, edit)])
               for it in crates]
