@@ -124,8 +124,8 @@ indent_steps movement amount dedent l =
 abbrev pub after_undo : ℕ → Written → Written
 after_undo n w = record { line = line_back (max n 1) w.held w.line; held = drop (max n 1) w.held }
 
--- n items are undone, 0 acting as 1, and can be redone; the answer is if a step was among them.
--- If it fails, the newest changes of these were undone, not the first, and the record is empty
+-- n items are undone, 0 acting as 1, and can be redone; the answer is whether a step was among
+-- them. If it fails, the newest of their changes were undone, never the first; the record is empty
 pub record Undoes {E : Type 0} (n : ℕ) (before after : RecordedLine) (result : Result Bool E)
     : Type 0 where
   pub writes : Writes (after_undo n) (has_step (max n 1) (line_and_record_in before).held)

@@ -40,8 +40,8 @@ pub record Writes {A E : Type 0} (edit : Written → Written) (answer : A) (befo
 
 -- ---- steps
 
--- line and record follow the events together, one after another, and at last the line is this; its
--- cursor was moved, so it is this; a mark is set; all marks are closed
+-- line and record follow the events together, one after another, and at last the line is this; the
+-- cursor was moved, and the line is this; a mark is set; all marks are closed
 pub data WriteStep : Type 0 where
   Tells : (events : List ChangeEvent) (line : Line) → WriteStep
   Leaves : (line : Line) → WriteStep

@@ -1,6 +1,6 @@
 -- Loading: one row after the other.
 use Rattle.std.proofs.Common.{◌≡◌, ◌≢◌, ℕ, ◌<◌, Bool, true, false, List, [], ◌∷◌, ◌++◌, length, refl, sym, ◌∙◌, ap, ap₂, arith, append_assoc, subst, suc}
-use Rattle.std.specs.Prelude.{Result, if◌then◌else◌, ◌&&◌, ◌||◌, not, IsTrue, IsUtf8, IfErr, Ok, Err, IsOk, bytes_eq}
+use Rattle.std.specs.Prelude.{Result, if◌then◌else◌, ◌&&◌, ◌||◌, not, IsUtf8, IfErr, Ok, Err, IsOk, bytes_eq}
 use Rattle.std.proofs.Math.Bool.{and-true, and_assoc}
 use Rattle.std.proofs.lemmas.Bool.{false_from_ne_true}
 use Rattle.std.specs.Result.{is_ok, MatchResult, OnOk}

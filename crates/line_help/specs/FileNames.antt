@@ -1,5 +1,5 @@
 -- Names of files and folders for a partly typed path.
-use Rattle.std.specs.Prelude.{ℕ, ◌+◌, ◌-◌, ◌==◌, ◌||◌, Bool, not, List, [], ◌∷◌, ◌++◌, length, take, drop, map, filter, nat_eq, Option, Some, None, is_some, option_map, if◌then◌else◌}
+use Rattle.std.specs.Prelude.{ℕ, ◌+◌, ◌-◌, ◌==◌, ◌||◌, Bool, not, List, [], ◌∷◌, ◌++◌, length, take, drop, map, filter, nat_eq, Option, Some, is_some, option_map, if◌then◌else◌}
 use Rattle.std.specs.List.{after_last, starts_with, suffix_len}
 use Rattle.std.specs.Option.{option_map_or}
 use Rattle.std.specs.Ordering.{is_lt, nat_cmp}

@@ -276,7 +276,7 @@ pub record LoadsWords (old new : Feed) (result : Result (Vec (String Global)) Re
     : Type 0 where
   pub words : IsTrue new.told → IfOk result
       (λ words. map string_bytes words.items ≡ entries_of false (text_rows old.last old.coming))
-  pub end : IsTrue new.told → IfOk result (λ words. old.last ≡ End)
+  pub ends : IsTrue new.told → IfOk result (λ words. old.last ≡ End)
   pub broken : IsTrue new.told → result ≡ Err NotUtf8
       → has_bad_row (text_rows old.last old.coming) ≡ true
   pub cut : IsTrue new.told → result ≡ Err Reader

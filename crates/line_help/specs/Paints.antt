@@ -65,7 +65,7 @@ abbrev pub match_place : List ℕ → ℕ → Option ℕ
 match_place text pos =
     option_map (λ found. found.1) (match_to_show text (bracket_to_match text pos))
 
--- by the mark's state: 0, a plain span before the match, and it; 1, the match; else nothing
+-- by the mark's state: at 0 a plain span before the match, and the match; at 1 the match
 abbrev pub paints_match : Part → List ℕ → Mark → List Span
 paints_match (Line pos) text from =
     let found : List Span = record { len = 1; style = match_style } ∷ [] in
