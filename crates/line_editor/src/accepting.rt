@@ -1,5 +1,5 @@
 //! Accepts lines.
-ghost use Rattle.std.specs.Prelude.{◌≡◌, IfOk, OnOk, option_copied, is_some};
+ghost use Rattle.std.specs.Prelude.{◌||◌, ◌≡◌, IfOk, OnOk, option_copied, is_some};
 ghost use Rattle.line_editor.specs.Drawing.{effect_if, message_effect};
 
 use crate::faults::error_of;
