@@ -283,7 +283,7 @@ accepted n s custom k text more last free empty grows rests paste comes =
     let enters = turn_ends bare custom n j (with_rest j left) (AcceptOrInsertLine true) rests refl (enter_phrase bare custom n j (0x0D ∷ more) left (free_key custom enter free)) in
     let is = turns_end bare custom (suc n) k j Proceed pastes ∙ turns_end bare custom n j (left_at bare (with_rest j left) (Obeys (AcceptOrInsertLine true))) Submit enters in
     record {
-      outcome = ap (λ e. e.0) is ∙ ap Ok (moved_text (not (w.line.place == length w.line.text)) ForcedRefresh (record w.line { place = length w.line.text }) bare w refl
+      outcome = ap (λ e. e.0) is ∙ ap Ok (moved_text (not (length w.line.text == w.line.place)) ForcedRefresh (record w.line { place = length w.line.text }) bare w refl
           ∙ ap (λ l. l.text) (pasted_line _ text bare k.value grows)
           ∙ put_into_empty _ text k.value.line empty);
       rest_is = ap (λ e. e.1.coming) is;

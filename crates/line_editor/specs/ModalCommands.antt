@@ -75,9 +75,9 @@ abbrev pub meeting_anew : Wish → Modal → Cmd → Setting → Value → Meeti
 meeting_anew wish x cmd s v = then_meets refresh_effect
     (meeting_at_rest wish (modal_at_rest x) cmd) s v
 
--- what goes on: among the entries that begin with the line; after a Tab, where a second one may list
--- the candidates; in a list, which goes with the next key; or at a candidate, from which it goes to
--- the next one, the one before, or the line as it was
+-- what goes on: among the entries that begin with the line; after a Tab, where a second one may
+-- list the candidates; in a list, which goes with the next key; or at a candidate, from which it
+-- goes to the next one, the one before, or the line as it was
 abbrev pub meeting_on : Standing → Wish → Modal → Cmd → Setting → Value → Meeting
 meeting_on Prefixes Up x cmd s v = rises x s v
 meeting_on Prefixes Down x cmd s v = falls x s v
