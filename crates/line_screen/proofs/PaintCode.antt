@@ -8,6 +8,7 @@ use Rattle.std.proofs.lemmas.List.Splits.{slice_split-cons_no}
 use Rattle.unicode_segmentation.specs.Grapheme.{graphemes}
 use Rattle.std.proofs.Math.Seq.{take-nil, drop-nil}
 use Rattle.line_screen.proofs.Items.{no_newline}
+use Rattle.std.specs.Option.{option_map_or}
 use Rattle.line_screen.specs.Display.{is_printable}
 use Rattle.line_screen.specs.Drawing.{Widths, is_letter, drawn_item, split_rows, text_items}
 use Rattle.line_screen.specs.Drawing.DrawnItem.{NewRow, Letter}
