@@ -35,10 +35,9 @@ use Rattle.line_editor.specs.declared.commands.Status.{Status}
 use Rattle.line_editor.proofs.PastLemmas.{plays_past, steps_past, phrase_keeps}
 use Rattle.line_editor.proofs.StopsLemmas.{asked_both}
 use Rattle.line_editor.proofs.ToldLemmas.{PlayedOf, follows, joined_on, played_then, rest_along, steps_both}
-use Rattle.line_screen.specs.ScreenCalls.{Screen, bytes_of, ruler_of}
+use Rattle.line_screen.specs.ScreenCalls.{Screen, bytes_of, ruler_of, widths}
 use Rattle.line_screen.specs.Drawing.{break_if, bytes_of_items, next_row}
 use Rattle.line_screen.specs.Drawing.DrawnItem.{Letter}
-use Rattle.line_screen.specs.Laws.{widths}
 use Rattle.line_screen.specs.Measure.{in_row}
 use Rattle.line_screen.proofs.Items.{letter_items}
 use Rattle.keyline.proofs.ShowSteps.{if_none, small}

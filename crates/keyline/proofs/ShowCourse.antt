@@ -21,11 +21,10 @@ use Rattle.line_editor.specs.Values.EditStep.{Draws as DrawStep}
 use Rattle.line_editor.proofs.LineLeads.{lines_lead, turn_leads}
 use Rattle.line_keys.specs.InputStates.{new_input}
 use Rattle.line_keys.specs.PhraseScripts.{Reads}
-use Rattle.line_screen.specs.ScreenCalls.{Screen, bytes_of, ruler_of}
+use Rattle.line_screen.specs.ScreenCalls.{Screen, bytes_of, ruler_of, widths}
 use Rattle.line_screen.specs.Chain.{Good, Shows, empty_view, finish_of, cursor_of, above}
 use Rattle.line_screen.specs.Display.{Display, Placed, at_cursor}
 use Rattle.line_screen.specs.Drawing.{row_break, next_row}
-use Rattle.line_screen.specs.Laws.{widths}
 use Rattle.line_screen.proofs.LawLemmas.{start_is_empty, shown_is_meant, line_ends_anywhere, ended_line_stays}
 use Rattle.keyline.specs.Events.{SessionEvent, Course, Begins, Draws, Rests, Breaks, asks_events, end_events, events_of, course_after_line, line_course, own_events, line_play_in, session, step_events}
 use Rattle.keyline.specs.Sessions.{Given, LineGiven, SessionState, for_line, setting_in}

@@ -27,12 +27,12 @@ use Rattle.line_editor.specs.Redraws.Redraw.{Drawn, Moved, Typed, Appended, Take
 use Rattle.line_editor.specs.EditSteps.{one}
 use Rattle.line_editor.specs.Values.{shown_marks, EditStep}
 use Rattle.line_editor.specs.Values.EditStep.{Draws, Helped}
-use Rattle.line_screen.specs.ScreenCalls.{Screen, bytes_of, ruler_of, styles_of, line_styles}
+use Rattle.line_screen.specs.ScreenCalls.{Screen, bytes_of, ruler_of, styles_of, line_styles, widths}
 use Rattle.line_screen.specs.Colours.{Styles, span_of}
 use Rattle.line_screen.specs.Chain.{View, Good, Inside, LeadsView, empty_view, Types, with_text, with_line_styles, Picture, shown_items, finish_of, cursor_of, above}
 use Rattle.line_screen.specs.Display.{Placed}
 use Rattle.line_screen.specs.Drawing.{DrawnItem, row_break, text_items, place_after}
-use Rattle.line_screen.specs.Laws.{widths, TellsView}
+use Rattle.line_screen.specs.Laws.{TellsView}
 use Rattle.line_screen.specs.Measure.{measure_of, position_within_limit}
 use Rattle.line_screen.specs.StyledTexts.{first_styles}
 use Rattle.line_screen.proofs.Fitting.{items_fit, fit_append, after_inside}

@@ -16,11 +16,10 @@ use Rattle.line_editor.specs.Sights.{Sight, sight, sight_with, sight_drawn, no_s
 use Rattle.line_editor.specs.EditSteps.{calls_of_steps}
 use Rattle.line_editor.specs.Values.{EditStep, Value, Setting, shown_marks}
 use Rattle.line_editor.specs.Values.EditStep.{Draws as DrawStep}
-use Rattle.line_screen.specs.ScreenCalls.{Screen, bytes_of, ruler_of, styles_of}
+use Rattle.line_screen.specs.ScreenCalls.{Screen, bytes_of, ruler_of, styles_of, widths}
 use Rattle.line_screen.specs.Chain.{View, Good, Picture, Shows, empty_view, finish_of, cursor_of, above}
 use Rattle.line_screen.specs.Display.{Display, Placed, meaning}
 use Rattle.line_screen.specs.Drawing.{row_break}
-use Rattle.line_screen.specs.Laws.{widths}
 use Rattle.line_screen.specs.Measure.{measure_of}
 use Rattle.keyline.specs.Events.{SessionEvent, Begins, Draws, Rests, Breaks, session}
 use Rattle.keyline.specs.Sessions.{Given, LineGiven, SessionState}

@@ -9,13 +9,12 @@ use Rattle.line_buffer.specs.declared.layout.Position.{Position}
 use Rattle.line_config.specs.declared.memory.VecSink.{VecSink}
 use Rattle.line_editor.specs.Redraws.{info_text}
 use Rattle.line_editor.specs.Sights.{Sight}
-use Rattle.line_screen.specs.ScreenCalls.{Screen, styles_of}
+use Rattle.line_screen.specs.ScreenCalls.{Screen, styles_of, widths}
 use Rattle.line_screen.specs.Chain.{Picture, Shows, above, cells_of, cursor_of, down, shown_items, styled_items}
 use Rattle.line_screen.specs.Display.{Cell, Display, Placed, cell_at, meaning, cluster_placed_at, right, style_at}
 use Rattle.line_screen.specs.Display.Cell.{Head, Tail}
 use Rattle.line_screen.specs.Drawing.{DrawnItem, Widths, after_one, blanks, lay_one, lay_run}
 use Rattle.line_screen.specs.Drawing.DrawnItem.{Tab}
-use Rattle.line_screen.specs.Laws.{widths}
 use Rattle.line_screen.specs.StyledTexts.{StyledItem, lay}
 use Rattle.line_screen.proofs.LawLemmas.{cells_are_shown}
 use Rattle.line_screen.proofs.Leading.{shown_styled}

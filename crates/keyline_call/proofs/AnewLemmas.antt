@@ -25,14 +25,13 @@ use Rattle.line_editor.specs.Sights.{Sight, sight_with, no_sight, sight, sight_a
 use Rattle.line_editor.specs.EditSteps.{one}
 use Rattle.line_editor.specs.Values.{EditStep, Value, shown_marks}
 use Rattle.line_editor.specs.Values.EditStep.{Draws}
-use Rattle.line_screen.specs.ScreenCalls.{Screen, bell_bytes, bytes_of, ruler_of, styles_of, line_styles}
+use Rattle.line_screen.specs.ScreenCalls.{Screen, bell_bytes, bytes_of, ruler_of, styles_of, line_styles, widths}
 use Rattle.line_screen.specs.Chain.{Good, empty_view}
-use Rattle.line_screen.specs.Colours.{AreStyles, PaintedItem, Styles, skip, is_style, bytes_of_all_painted, painted_drawing, bytes_of_painted, bytes_of_painted_texts, painted_text, style_bytes, items_without_style, SgrSpan, are_styles, end_of}
+use Rattle.line_screen.specs.Colours.{AreStyles, PaintedItem, Styles, skip, is_style, bytes_of_all_painted, bytes_of_painted, bytes_of_painted_texts, painted_text, style_bytes, items_without_style, SgrSpan, are_styles, end_of}
 use Rattle.line_screen.specs.Colours.PaintedItem.{Bare as Plain, Begins, Shaded, Fenced, Padded}
 use Rattle.line_screen.specs.Display.{Placed, is_parameter, is_text, right}
-use Rattle.line_screen.specs.Drawing.{DrawnItem, Widths, text_items, no_style, break_if, fitted_col, bytes_of_item, bytes_of_items, col_after_one, col_after, control_sequence, erase_to_end, erase_to_row_end, in_fence, open_cell, take_cells_out, col_move, move_bytes, left_col, pushed_on, insertion_bytes, pulled_back, place_after_insertion, place_after_deletion, is_step_back, short_move, begin_inserting, end_inserting, put_in, put_and_pushed, begins_two_rows}
+use Rattle.line_screen.specs.Drawing.{DrawnItem, Widths, text_items, no_style, break_if, fitted_col, bytes_of_item, bytes_of_items, col_after_one, col_after, control_sequence, erase_to_end, erase_to_row_end, in_fence, take_cells_out, col_move, move_bytes, left_col, pushed_on, insertion_bytes, pulled_back, place_after_insertion, place_after_deletion, short_move, put_in, put_and_pushed}
 use Rattle.line_screen.specs.Drawing.DrawnItem.{NewRow, Letter, Cluster, Tab}
-use Rattle.line_screen.specs.Laws.{widths}
 use Rattle.line_screen.specs.Measure.{in_row}
 use Rattle.line_screen.proofs.Draws.{AllFit, AllPainted, Fits as ItemFits, FitsPainted}
 use Rattle.line_screen.proofs.Fitting.{items_fit}
@@ -42,6 +41,7 @@ use Rattle.line_screen.proofs.StyledTextLemmas.{skip_styles, text_painted}
 use Rattle.keyline.specs.Shows.{DisplayHolds, Low, LowStep, LowAll, bytes_for, calls_by_screen, kept_by}
 use Rattle.keyline.proofs.ShowSteps.{drawn_holds, fresh_holds, if_none, rewritten_letters, small, step}
 use Rattle.keyline_call.specs.Laws.{drawing_start, begins_drawing, last_drawing}
+use Rattle.line_screen.proofs.Parts.{painted_drawing, open_cell, is_step_back, begin_inserting, end_inserting, begins_two_rows}
 
 -- ---- bytes in which no drawing begins: each CR is before an LF
 

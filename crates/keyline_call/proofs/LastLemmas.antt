@@ -18,10 +18,9 @@ use Rattle.line_editor.proofs.LineLeads.{lines_lead}
 use Rattle.line_editor.proofs.ToldLemmas.{rest_along}
 use Rattle.line_keys.specs.KeyFeeds.{answer_map}
 use Rattle.line_keys.specs.InputStates.{new_input}
-use Rattle.line_screen.specs.ScreenCalls.{Screen, ruler_of}
+use Rattle.line_screen.specs.ScreenCalls.{Screen, ruler_of, widths}
 use Rattle.line_screen.specs.Chain.{Shows, above, cursor_of, finish_of}
 use Rattle.line_screen.specs.Display.{Display, Placed, meaning}
-use Rattle.line_screen.specs.Laws.{widths}
 use Rattle.line_screen.proofs.LawLemmas.{shown_is_meant, start_is_empty}
 use Rattle.keyline.proofs.EventLemmas.{asks_bytes}
 use Rattle.keyline.specs.Events.{asks_events, bytes_drawn, end_events, line_course, line_play_in}

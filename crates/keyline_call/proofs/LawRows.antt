@@ -2,9 +2,8 @@
 use Rattle.std.specs.Prelude.{◌≡◌, ℕ, false, List, [], ◌∷◌, ◌++◌, Option, None, Some, codes, refl}
 use Rattle.line_buffer.specs.declared.layout.GraphemeClusterMode.TheVariants as Modes
 use Rattle.line_config.specs.declared.settings.BellStyle.TheVariants as Bells
-use Rattle.line_screen.specs.ScreenCalls.{Screen}
+use Rattle.line_screen.specs.ScreenCalls.{Screen, widths}
 use Rattle.line_screen.specs.Display.{Display, Placed, meaning}
-use Rattle.line_screen.specs.Laws.{widths}
 use Rattle.keyline_call.specs.Laws.{last_drawing}
 
 plain : List ℕ

@@ -9,10 +9,9 @@ use Rattle.line_editor.specs.Redraws.{fresh}
 use Rattle.line_editor.specs.Sights.{Sight, no_sight, sight_all}
 use Rattle.line_editor.specs.RenderCalls.{Marks}
 use Rattle.line_editor.specs.Values.{shown_marks}
-use Rattle.line_screen.specs.ScreenCalls.{Screen}
+use Rattle.line_screen.specs.ScreenCalls.{Screen, widths}
 use Rattle.line_screen.specs.Display.{Display, Placed, cell_at, style_at, meaning}
 use Rattle.line_screen.specs.Drawing.{erase_to_end}
-use Rattle.line_screen.specs.Laws.{widths}
 use Rattle.keyline.specs.Events.{line_course, line_play_in}
 use Rattle.keyline.specs.SessionLaws.{steps_in}
 use Rattle.keyline.specs.Sessions.{Given, SessionState, setting_in}

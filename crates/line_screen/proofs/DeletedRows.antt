@@ -6,7 +6,7 @@ use Rattle.std.proofs.lemmas.List.Folds.{list_all-append}
 use Rattle.line_buffer.specs.Printable.{is_printable}
 use Rattle.line_buffer.specs.declared.layout.Position.{Position}
 use Rattle.line_screen.specs.Display.{Placed, right, ends_before}
-use Rattle.line_screen.specs.Drawing.{next_row, place_after, row_break, lay_run, take_cells_out, col_move, pulled_back, deletion_bytes}
+use Rattle.line_screen.specs.Drawing.{next_row, place_after, row_break, lay_run, take_cells_out, col_move, pulled_back}
 use Rattle.line_screen.specs.Drawing.DrawnItem.{Letter}
 use Rattle.line_screen.specs.StyledTexts.{lay}
 use Rattle.line_screen.proofs.Draws.{list_all_since, ends_next, ends_right}
@@ -15,6 +15,7 @@ use Rattle.line_screen.proofs.LetterRows.{letters_laid, fills, letters_below, ru
 use Rattle.line_screen.proofs.Moves.{place}
 use Rattle.line_screen.proofs.RowShifts.{letter_ends_above, letter_ends_on}
 use Rattle.line_screen.proofs.RowSteps.{Holds, breaks, goes_along, writes, takes_out}
+use Rattle.line_screen.proofs.Parts.{deletion_bytes}
 
 -- ---- the bytes, by rows
 

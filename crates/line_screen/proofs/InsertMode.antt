@@ -8,10 +8,11 @@ use Rattle.line_screen.specs.Chain.{Stands}
 use Rattle.line_screen.specs.Display.{Placed, Display, DisplayReading, start, put_cells, put_letters, put_run, is_inside, is_plain_pen, at_cursor, plain_sequence, can_go_right, goes_right, is_pushed_out, step, letter_inserted, after_control, control_in_insert_mode, reading_after_bytes, display_of_reading}
 use Rattle.line_screen.proofs.Puts.{then_put, on_run, in_insert_mode}
 use Rattle.line_screen.specs.Display.DisplayReading.{Text, Inserts, Lost}
-use Rattle.line_screen.specs.Drawing.{next_row, row_break, break_if, left_col, begin_inserting, end_inserting, put_in, pushed_on, put_and_pushed, begins_two_rows, insertion_bytes}
+use Rattle.line_screen.specs.Drawing.{next_row, row_break, break_if, left_col, put_in, pushed_on, put_and_pushed, insertion_bytes}
 use Rattle.line_screen.proofs.Draws.{D}
 use Rattle.line_screen.proofs.RowSteps.{Holds}
 use Rattle.line_screen.proofs.Standing.{printable_text, read-append, step_control, stands_text, stands_settled}
+use Rattle.line_screen.proofs.Parts.{begin_inserting, end_inserting, begins_two_rows}
 
 module _ (columns : ℕ) (wide : List ℕ → Option ℕ) where
   abbrev read : DisplayReading → List ℕ → DisplayReading

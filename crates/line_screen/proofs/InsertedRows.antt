@@ -6,7 +6,7 @@ use Rattle.std.proofs.lemmas.List.Folds.{list_all-append}
 use Rattle.line_buffer.specs.Printable.{is_printable}
 use Rattle.line_buffer.specs.declared.layout.Position.{Position}
 use Rattle.line_screen.specs.Display.{Placed, right, ends_before, is_pushed_out}
-use Rattle.line_screen.specs.Drawing.{next_row, place_after, row_break, break_if, left_col, lay_run, open_cell, pushed_on, put_and_pushed}
+use Rattle.line_screen.specs.Drawing.{next_row, place_after, row_break, break_if, left_col, lay_run, pushed_on, put_and_pushed}
 use Rattle.line_screen.specs.Drawing.DrawnItem.{Letter}
 use Rattle.line_screen.specs.StyledTexts.{lay}
 use Rattle.line_screen.proofs.Draws.{list_all_since, ends_next}
@@ -14,6 +14,7 @@ use Rattle.line_screen.proofs.Ends.{plain_letters, row_after}
 use Rattle.line_screen.proofs.LetterRows.{letters_laid, fills, is_below, letters_below, run_all, split_at}
 use Rattle.line_screen.proofs.RowShifts.{is_beyond, below_beyond, letter_beyond, letter_pushed_out, letter_ends_above}
 use Rattle.line_screen.proofs.RowSteps.{Holds, Around, breaks, puts, opens}
+use Rattle.line_screen.proofs.Parts.{open_cell}
 
 -- ---- the bytes, by rows
 

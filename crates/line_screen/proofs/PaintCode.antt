@@ -8,16 +8,18 @@ use Rattle.std.proofs.lemmas.List.Splits.{slice_split-cons_no}
 use Rattle.unicode_segmentation.specs.Grapheme.{graphemes}
 use Rattle.std.proofs.Math.Seq.{take-nil, drop-nil}
 use Rattle.line_screen.proofs.Items.{no_newline}
+use Rattle.std.specs.Option.{option_map_or}
 use Rattle.line_screen.specs.Display.{is_printable}
 use Rattle.line_screen.specs.Drawing.{Widths, is_letter, drawn_item, split_rows, text_items}
 use Rattle.line_screen.specs.Drawing.DrawnItem.{NewRow, Letter}
-use Rattle.line_screen.specs.Colours.{SgrSpan, span_of, spans_in, IsFirstSpan, skip, PaintedItem, all_unpainted, letters_in_style, painted_letters, items_painted_after, painted_clusters, painted_row, painted_rows, painted_text, next_painted, spans_behind, bare_letters}
+use Rattle.line_screen.specs.Colours.{SgrSpan, span_of, spans_in, skip, PaintedItem, letters_in_style, painted_letters, painted_clusters, painted_row, painted_rows, painted_text, bare_letters}
 use Rattle.line_screen.specs.Colours.PaintedItem.{Bare}
 use Rattle.line_screen.proofs.StyledTextLemmas.{bare_of, text_unpainted}
 use Rattle.line_screen.specs.declared.drawing.painted.Spans as spans
 use Rattle.line_help.specs.declared.helpers.style.Span as span
 use Rattle.line_help.specs.declared.helpers.style.Mark.{Mark}
 use Rattle.line_help.specs.Paints.{IsNextSpan, first_mark}
+use Rattle.line_screen.proofs.Parts.{all_unpainted, items_painted_after, next_painted, spans_behind}
 
 -- letters span by span: `one` are those of one span, `all` those of all spans
 module _ {Y : Type 0} (one : List ℕ → List ℕ → List Y) (all : List SgrSpan → List ℕ → List Y)
@@ -41,7 +43,8 @@ module _ {Y : Type 0} (one : List ℕ → List ℕ → List Y) (all : List SgrSp
   no_letters none last spans (c ∷ letters) h = let zero = eqb-true (length (c ∷ letters)) 0 h in absurd (omega arith)
 
 -- nothing is left of a span that was returned
-pub asked : (paints : Mark → List span.Span) (left : spans.Spans) (next : Option (span.Span × Mark)) → left.first ≡ None → IsNextSpan paints left.mark next → IsFirstSpan paints left next
+pub asked : (paints : Mark → List span.Span) (left : spans.Spans) (next : Option (span.Span × Mark)) → left.first ≡ None → IsNextSpan paints left.mark next
+    → spans_in paints left ≡ option_map_or (λ n. span_of n.0 ∷ map span_of (paints n.1)) next []
 asked paints left None is h = ap (λ o. map span_of (option_to_list o ++ paints left.mark)) is ∙ ap (map span_of) h
 asked paints left (Some next) is h = ap (λ o. map span_of (option_to_list o ++ paints left.mark)) is ∙ ap (map span_of) h
 

@@ -11,13 +11,14 @@ use Rattle.line_buffer.specs.declared.layout.Position.{Position}
 use Rattle.line_screen.specs.Chain.{Stands, above, from_top}
 use Rattle.line_screen.specs.Display.{Placed, cluster_placed_at, Display, reading_after_bytes, start, right, ends_before, put_cells, placed_in, touches, is_pushed_out, goes_right, can_go_right, cell_opened, goes_left, is_uncut, is_taken_out}
 use Rattle.line_screen.specs.Display.DisplayReading.{Text, Lost}
-use Rattle.line_screen.specs.Drawing.{next_row, row_break, lay_run, open_cell, take_cells_out, col_move}
+use Rattle.line_screen.specs.Drawing.{next_row, row_break, lay_run, take_cells_out, col_move}
 use Rattle.line_screen.proofs.Draws.{D, list_all_since, put_blank, ends_apart, ends_right, ends_itself}
 use Rattle.line_screen.proofs.LetterRows.{run_both, run_all, is_below}
 use Rattle.line_screen.proofs.ListLemmas.{filter_all, filter_none, list_all_filter, all_by_parts, filter_comm}
 use Rattle.line_screen.proofs.Moves.{place, cells_out_read, col_move_stands}
 use Rattle.line_screen.proofs.RowShifts.{map_same, filter_mapped, placed_between, filter_placed, filter_lost, is_elsewhere, ended_elsewhere, below_elsewhere, is_beyond, below_beyond, beyond_apart, beyond_not_ended, can_go_elsewhere, stays_elsewhere, right_unmoved, letter_can_go, letter_stays, run_goes_right, goes_right_row, left_unmoved, uncut_elsewhere, letter_uncut, kept_elsewhere, letter_taken_out, letter_kept, run_goes_left, goes_left_row}
 use Rattle.line_screen.proofs.Standing.{stands_text, read-append, step_control, step_letter, read_break}
+use Rattle.line_screen.proofs.Parts.{open_cell}
 
 -- ---- tests
 

@@ -6,8 +6,9 @@ use Rattle.std.proofs.lemmas.Bool.{ne_eqb, false≢true, and_from, eq-eqb, lt-lt
 use Rattle.line_config.specs.declared.device.DeviceFailed.{DeviceFailed}
 use Rattle.line_config.specs.Sending.{Takes, TakesSome, Sends}
 use Rattle.line_config.proofs.Taking.{takes_then, some_of_more, some_then, sends_then, sends_cut}
-use Rattle.line_screen.specs.Drawing.{control_sequence, no_style, in_fence, left_col, break_if, break_unless, fitted_col, SendsTo, move_bytes, is_step_back, short_move}
+use Rattle.line_screen.specs.Drawing.{control_sequence, no_style, in_fence, left_col, break_if, break_unless, fitted_col, SendsTo, move_bytes, short_move}
 use Rattle.line_buffer.specs.declared.layout.Position.{Position}
+use Rattle.line_screen.proofs.Parts.{is_step_back}
 
 -- so many BS, of four
 abbrev four_steps : List ℕ

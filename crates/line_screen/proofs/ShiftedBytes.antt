@@ -5,7 +5,8 @@ use Rattle.std.proofs.lemmas.Bool.{ne_eqb, eq-eqb, le-leb, lt-leb, cases_lt}
 use Rattle.std.proofs.lemmas.List.{drop-append-le, take-append-drop, length-take-le}
 use Rattle.line_config.specs.Sending.{Takes, Sends}
 use Rattle.line_config.proofs.Taking.{Underway, sends_then}
-use Rattle.line_screen.specs.Drawing.{row_break, take_cells_out, col_move, begin_inserting, end_inserting, put_in, pushed_on, put_and_pushed, insertion_bytes, pulled_back, deletion_bytes, refilled}
+use Rattle.line_screen.specs.Drawing.{row_break, take_cells_out, col_move, put_in, pushed_on, put_and_pushed, insertion_bytes, pulled_back}
+use Rattle.line_screen.proofs.Parts.{begin_inserting, end_inserting, deletion_bytes, refilled}
 
 module _ {D : Type 0} (held : D → List ℕ) (failed : D → Bool) where
   pub sends_all : {A E : Type 0} (bytes : List ℕ) {a b : D} (x : A) → Takes held a b bytes → failed b ≡ failed a → Sends {A = A} {E = E} held failed bytes a b (Ok x)

@@ -16,8 +16,8 @@ use Rattle.line_screen.specs.ScreenCalls.{styles_of}
 use Rattle.line_screen.specs.Display.{is_parameter}
 use Rattle.line_screen.specs.Drawing.{no_style}
 use Rattle.line_screen.specs.Colours.{AreStyles, is_style, are_styles, span_of, style_bytes}
-use Rattle.line_screen.specs.ColourLaws.{NumbersAreStyles}
-use Rattle.line_screen.specs.Styles.{hue_number, number, numbers_of, flag, flags, colour_codes, colour_numbers, numbers, is_terminal, is_plain_style, flag_number}
+use Rattle.line_screen.specs.Laws.{NumbersAreStyles}
+use Rattle.line_screen.specs.Styles.{hue_number, number, flag, flags, colour_numbers, numbers, is_terminal, flag_number}
 
 digit : (n : ℕ) → n < 10 → is_parameter (48 + n) ≡ true
 digit n h = grind (arith, nat_tests)
@@ -32,10 +32,14 @@ digits_are n h = decimal_by_steps (λ m ds. is_style ds ≡ true) (λ m low. and
 number_is : (n : ℕ) → is_style (number n) ≡ true
 number_is n = and_from _ _ refl (digits_are (n % 256) (omega arith))
 
-codes_are : (codes : List ℕ) → is_style (numbers_of codes) ≡ true
-codes_are [] = refl
-codes_are (c ∷ []) = number_is c
-codes_are (c ∷ (d ∷ codes)) = both (number c) (numbers_of (d ∷ codes)) (number_is c) (codes_are (d ∷ codes))
+colour_is : (front : ℕ) (c : Colour) → is_style (colour_numbers front c) ≡ true
+colour_is front Terminal = refl
+colour_is front (Basic hue) = number_is (front + hue_number hue)
+colour_is front (Bright hue) = number_is (front + 60 + hue_number hue)
+colour_is front (Palette n) = both (number (front + 8)) _ (number_is (front + 8)) (both (number 5) (number n) (number_is 5) (number_is n))
+colour_is front (Rgb r g b) =
+    both (number (front + 8)) _ (number_is (front + 8))
+    (both (number 2) _ (number_is 2) (both (number r) _ (number_is r) (both (number g) (number b) (number_is g) (number_is b))))
 
 flag_is : (b : Bool) (n : ℕ) → is_style (flag b n) ≡ true
 flag_is true n = number_is n
@@ -45,7 +49,7 @@ pub numbers_are : NumbersAreStyles
 numbers_are s =
     both (flags s) _
     (both (flag s.bold 1) _ (flag_is s.bold 1) (both (flag s.faint 2) _ (flag_is s.faint 2) (both (flag s.italic 3) _ (flag_is s.italic 3) (both (flag s.underline 4) _ (flag_is s.underline 4) (flag_is s.reverse 7)))))
-    (both (colour_numbers 30 s.text) (colour_numbers 40 s.background) (codes_are (colour_codes 30 s.text)) (codes_are (colour_codes 40 s.background)))
+    (both (colour_numbers 30 s.text) (colour_numbers 40 s.background) (colour_is 30 s.text) (colour_is 40 s.background))
 
 spans_are : (spans : List span.Span) → are_styles (map span_of spans) ≡ true
 spans_are [] = refl
@@ -61,23 +65,30 @@ none_of : (xs ys : List ℕ) → (length (xs ++ ys) == 0) ≡ ((length xs == 0) 
 none_of [] ys = refl
 none_of (x ∷ xs) ys = grind (arith, nat_tests)
 
-no_code : (c : ℕ) (codes : List ℕ) → (length (numbers_of (c ∷ codes)) == 0) ≡ false
-no_code c [] = grind (arith, nat_tests)
-no_code c (d ∷ codes) = grind (arith, nat_tests)
+no_code : (c : ℕ) → (length (number c) == 0) ≡ false
+no_code c = grind (arith, nat_tests)
+
+no_codes : (c : ℕ) (more : List ℕ) → (length (number c ++ more) == 0) ≡ false
+no_codes c more = grind (arith, nat_tests)
 
 flag_none : (b : Bool) (n : ℕ) → (length (flag b n) == 0) ≡ not b
-flag_none true n = no_code n []
+flag_none true n = no_code n
 flag_none false n = refl
 
 colour_none : (front : ℕ) (c : Colour) → (length (colour_numbers front c) == 0) ≡ is_terminal c
 colour_none front Terminal = refl
-colour_none front (Basic hue) = no_code (front + hue_number hue) []
-colour_none front (Bright hue) = no_code (front + 60 + hue_number hue) []
-colour_none front (Palette n) = no_code (front + 8) (5 ∷ (n ∷ []))
-colour_none front (Rgb r g b) = no_code (front + 8) (2 ∷ (r ∷ (g ∷ (b ∷ []))))
+colour_none front (Basic hue) = no_code (front + hue_number hue)
+colour_none front (Bright hue) = no_code (front + 60 + hue_number hue)
+colour_none front (Palette n) = no_codes (front + 8) (number 5 ++ number n)
+colour_none front (Rgb r g b) = no_codes (front + 8) (number 2 ++ (number r ++ (number g ++ number b)))
 
 then_none : (xs ys : List ℕ) (a b : Bool) → (length xs == 0) ≡ a → (length ys == 0) ≡ b → (length (xs ++ ys) == 0) ≡ (a && b)
 then_none xs ys a b h k = none_of xs ys ∙ ap (λ x. x && (length ys == 0)) h ∙ ap (λ y. a && y) k
+
+abbrev is_plain_style : Style → Bool
+is_plain_style s =
+    (not s.bold && (not s.faint && (not s.italic && (not s.underline && not s.reverse))))
+    && (is_terminal s.text && is_terminal s.background)
 
 pub plain_none : (s : Style) → is_plain_style s ≡ (length (numbers s) == 0)
 plain_none s = sym (then_none (flags s) _ _ _

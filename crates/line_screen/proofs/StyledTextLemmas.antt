@@ -7,13 +7,14 @@ use Rattle.std.proofs.lemmas.List.{drop-drop, length-append, map-append}
 use Rattle.std.proofs.lemmas.List.Concat.{flat_map-append}
 use Rattle.unicode_segmentation.specs.Grapheme.{graphemes}
 use Rattle.line_buffer.specs.declared.layout.Position.{Position}
-use Rattle.line_screen.specs.Colours.{SgrSpan, is_style, are_styles, skip, first_style, PaintedItem, items_without_style, all_unpainted, bare_letters, letters_in_style, painted_letters, painted_item, items_painted_after, painted_clusters, painted_row, painted_rows, painted_text, bytes_of_all_painted}
+use Rattle.line_screen.specs.Colours.{SgrSpan, is_style, are_styles, skip, first_style, PaintedItem, items_without_style, bare_letters, letters_in_style, painted_letters, painted_item, painted_clusters, painted_row, painted_rows, painted_text, bytes_of_all_painted}
 use Rattle.line_screen.specs.Colours.PaintedItem.{Bare, Begins, Shaded, Fenced, Padded}
 use Rattle.line_screen.specs.Display.{Placed, DisplayReading, reading_after_bytes, is_printable}
 use Rattle.line_screen.specs.Drawing.{Widths, DrawnItem, is_letter, is_tab, drawn_cluster, item_of_cluster, drawn_item, row_items, join_rows, split_rows, text_items, lay_one, after_one, place_after}
 use Rattle.line_screen.specs.Drawing.DrawnItem.{NewRow, Letter, Cluster, Tab}
 use Rattle.line_screen.specs.StyledTexts.{byte_styles, first_of, StyledItem, row_clusters, styled_clusters, styled_rows, styled_text, lay}
 use Rattle.line_screen.proofs.Draws.{D, Open, Ready, AllFit, AllPainted, AllPens, pen_after_one, pen_after, lay_painted, draws}
+use Rattle.line_screen.proofs.Parts.{all_unpainted, items_painted_after}
 
 -- ---- the items with styles of what is drawn
 

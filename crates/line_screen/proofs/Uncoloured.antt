@@ -19,14 +19,13 @@ use Rattle.line_editor.specs.Redraws.{Redraw, RedrawCalls, calls_of_redraw, full
 use Rattle.line_editor.proofs.ShortCalls.{move_call, char_call, append_call, put_in_short, taken_out_short, write_over_call}
 use Rattle.line_editor.specs.Redraws.Redraw.{Drawn, DrawnFrom, Moved, Typed, Appended, Taken, Erased, PutIn, TakenOut, Bared, ToEnd, Beeped, Cleared, Rewritten}
 use Rattle.line_editor.specs.Values.{shown_marks}
-use Rattle.line_screen.specs.ScreenCalls.{Screen, bytes_of, bell_bytes, old_row, ruler_of}
+use Rattle.line_screen.specs.ScreenCalls.{Screen, bytes_of, bell_bytes, old_row, ruler_of, widths}
 use Rattle.line_screen.specs.Chain.{View, Good, Picture, Inside, Replaces, LeadsView, TakesOut, DrawsRest, picture_of_line, cursor_of}
-use Rattle.line_screen.specs.ColourLaws.{BeginsNoStyle, has_no_marks, UnmarkedCallsBeginNone, ScreensWithoutColours, Uncoloured}
-use Rattle.line_screen.specs.Colours.{no_styles, all_unpainted, painted_text, bytes_of_all_painted, rest_drawing}
+use Rattle.line_screen.specs.Laws.{OnEachScreen, BeginsNoStyle, has_no_marks, UnmarkedCallsBeginNone, ScreensWithoutColours, Uncoloured}
+use Rattle.line_screen.specs.Colours.{no_styles, painted_text, bytes_of_all_painted, rest_drawing}
 use Rattle.line_screen.specs.Display.{Placed, is_text, right}
-use Rattle.line_screen.specs.Drawing.{DrawnItem, Widths, blanks, text_items, no_style, in_fence, break_if, break_unless, fitted_col, cluster_in_fence, bytes_of_item, col_after_one, bytes_of_items, col_after, control_sequence, erase_to_end, erase_to_row_end, open_cell, take_cells_out, row_break, left_col, begin_inserting, end_inserting, put_in, pushed_on, put_and_pushed, begins_two_rows, insertion_bytes, pulled_back, deletion_bytes, place_after_insertion, place_after_deletion, row_move, col_move, move_bytes, clearing_bytes, shown_text, is_step_back, short_move}
+use Rattle.line_screen.specs.Drawing.{DrawnItem, Widths, blanks, text_items, no_style, in_fence, break_if, break_unless, fitted_col, bytes_of_item, col_after_one, bytes_of_items, col_after, control_sequence, erase_to_end, erase_to_row_end, take_cells_out, row_break, left_col, put_in, pushed_on, put_and_pushed, insertion_bytes, pulled_back, place_after_insertion, place_after_deletion, row_move, col_move, move_bytes, clearing_bytes, shown_text, short_move}
 use Rattle.line_screen.specs.Drawing.DrawnItem.{NewRow, Letter, Cluster, Tab}
-use Rattle.line_screen.specs.Laws.{widths}
 use Rattle.line_screen.specs.Measure.{cluster_width, widths_by, in_row}
 use Rattle.line_screen.proofs.Standing.{printable_text}
 use Rattle.line_screen.proofs.Draws.{Fits, AllFit, list_all_since}
@@ -39,6 +38,7 @@ use Rattle.line_screen.proofs.Leading.{no_styles_are, redraw_drawable}
 use Rattle.std.specs.Prelude.{encode_utf8, length, replicate, slice_range}
 use Rattle.std.proofs.lemmas.Str.{encode_ascii}
 use Rattle.line_buffer.proofs.JoinLemmas.{printable_ascii}
+use Rattle.line_screen.proofs.Parts.{all_unpainted, cluster_in_fence, open_cell, begin_inserting, end_inserting, begins_two_rows, deletion_bytes, is_step_back}
 
 -- ---- sequences that begin otherwise
 
@@ -402,7 +402,7 @@ calls_free s low high (call ∷ calls) bytes over a b g h plain =
     let led = calls_lead s low high bytes over a h.0 call g h.1 in
     free_then (bytes_of s call) (flat_map (bytes_of s) calls) (call_free s (omega arith) (omega arith) a h.0 call g.inside led.1.inside h.1 parts.0) (calls_free s low high calls (bytes ++ bytes_of s call) led.0 h.0 b led.1 h.2 parts.1)
 
-unmarked_begin_none : UnmarkedCallsBeginNone
+unmarked_begin_none : OnEachScreen UnmarkedCallsBeginNone
 unmarked_begin_none s low high calls bytes over a b g h plain = free_begins_none (flat_map (bytes_of s) calls) (calls_free s low high calls bytes over a b g h plain)
 
 -- ---- screens without colours

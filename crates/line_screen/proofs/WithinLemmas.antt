@@ -8,11 +8,12 @@ use Rattle.line_config.specs.Sending.{Sends, Takes, TakesSome}
 use Rattle.line_config.proofs.Taking.{Underway, underway_some, underway_end, sends_then, sends_refused}
 use Rattle.line_screen.specs.Drawing.{break_if, col_after, no_style}
 use Rattle.line_screen.specs.Drawing.DrawnItem.{Letter}
-use Rattle.line_screen.specs.Colours.{SgrSpan, style_bytes, letters_in_style, painted_letters, letters_within, spans_within, bare_letters, shaded_break, all_unpainted, bytes_of_all_painted, end_of, SendsPainted}
+use Rattle.line_screen.specs.Colours.{SgrSpan, style_bytes, letters_in_style, painted_letters, letters_within, spans_within, bare_letters, bytes_of_all_painted, end_of, SendsPainted}
 use Rattle.line_screen.specs.Colours.PaintedItem.{Shaded, Begins}
 use Rattle.line_screen.proofs.Runs.{sent_run, col_after_run}
 use Rattle.line_screen.proofs.StyledTextLemmas.{bare_of}
 use Rattle.line_screen.proofs.PaintRuns.{shaded_run, shades_are, items_bare, items_sent, painted-append, framed_bytes}
+use Rattle.line_screen.proofs.Parts.{shaded_break, all_unpainted}
 
 -- ---- what is sent
 

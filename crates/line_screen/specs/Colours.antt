@@ -1,6 +1,6 @@
 -- Drawings with styles: texts with a style for each cluster, and the bytes that draw them. Each
 -- cluster has the cells that it has without styles.
-use Rattle.std.specs.Prelude.{◌≡◌, option_map, option_copied, option_to_list, Result, Some, None, ℕ, ◌+◌, ◌-◌, ◌==◌, nat_lt, nat_le, Bool, true, false, List, [], ◌∷◌, ◌++◌, length, take, drop, Option, if◌then◌else◌, map}
+use Rattle.std.specs.Prelude.{◌≡◌, option_map, option_copied, option_to_list, Result, ℕ, ◌+◌, ◌-◌, ◌==◌, nat_lt, nat_le, Bool, true, false, List, [], ◌∷◌, ◌++◌, length, take, drop, Option, if◌then◌else◌, map}
 use Rattle.std.specs.List.{list_all, flat_map}
 use Rattle.std.specs.Option.{option_map_or}
 use Rattle.unicode_segmentation.specs.Grapheme.{graphemes}
@@ -69,12 +69,9 @@ items_without_style (Shaded style c) = Letter c ∷ []
 items_without_style (Fenced style bytes width) = Cluster bytes width ∷ []
 items_without_style (Padded style apart) = Tab apart ∷ []
 
-abbrev pub all_unpainted : List PaintedItem → List DrawnItem
-all_unpainted xs = flat_map items_without_style xs
-
 -- the column after items
 abbrev pub end_of : ℕ → List PaintedItem → ℕ → ℕ
-end_of columns xs col = col_after columns (all_unpainted xs) col
+end_of columns xs col = col_after columns (flat_map items_without_style xs) col
 
 abbrev pub bare_letters : List ℕ → List PaintedItem
 bare_letters letters = map Bare (map Letter letters)
@@ -100,49 +97,38 @@ painted_item (p ∷ style) (Letter c) = letters_in_style (p ∷ style) (c ∷ []
 painted_item (p ∷ style) (Cluster bytes width) = Fenced (p ∷ style) bytes width ∷ []
 painted_item (p ∷ style) (Tab apart) = Padded (p ∷ style) apart ∷ []
 
--- letters, and a cluster after them
-abbrev pub items_painted_after : Widths → List SgrSpan → List ℕ → List ℕ → List PaintedItem
-items_painted_after wide spans letters cluster = painted_letters spans letters
-    ++ painted_item (first_style (skip (length letters) spans)) (drawn_item wide cluster)
-
 -- the clusters of a row, after letters: letters side by side are drawn span by span, too
 abbrev pub painted_clusters : Widths → List SgrSpan → List ℕ → List (List ℕ) → List PaintedItem
 painted_clusters wide spans letters [] = painted_letters spans letters
 painted_clusters wide spans letters (cluster ∷ clusters) =
     if is_letter cluster then painted_clusters wide spans (letters ++ cluster) clusters
-    else (items_painted_after wide spans letters cluster
+    else ((painted_letters spans letters
+    ++ painted_item (first_style (skip (length letters) spans)) (drawn_item wide cluster))
     ++ painted_clusters wide (skip (length cluster) (skip (length letters) spans)) [] clusters)
 
 abbrev pub painted_row : Widths → List SgrSpan → List ℕ → List PaintedItem
 painted_row wide spans row = if list_all is_printable row then painted_letters spans row
     else painted_clusters wide spans [] (graphemes true row)
 
--- the first row, or a row after another, and what is left of the spans after it
-abbrev pub next_painted : Widths → Bool → List SgrSpan → List ℕ → List PaintedItem
-next_painted wide is_first spans row = if is_first then painted_row wide spans row
-    else Bare NewRow ∷ painted_row wide (skip 1 spans) row
-
-abbrev pub spans_behind : Bool → List SgrSpan → List ℕ → List SgrSpan
-spans_behind is_first spans row = skip (length row) (if is_first then spans else skip 1 spans)
-
+-- the first row, or a row after another, and those after it with what is left of the spans
 abbrev pub painted_rows : Widths → Bool → List SgrSpan → List (List ℕ) → List PaintedItem
 painted_rows wide is_first spans [] = []
-painted_rows wide is_first spans (row ∷ rows) = next_painted wide is_first spans row
-    ++ painted_rows wide false (spans_behind is_first spans row) rows
+painted_rows wide is_first spans (row ∷ rows) =
+    (if is_first then painted_row wide spans row
+    else Bare NewRow ∷ painted_row wide (skip 1 spans) row)
+    ++ painted_rows wide false (skip (length row) (if is_first then spans else skip 1 spans)) rows
 
 abbrev pub painted_text : Widths → List SgrSpan → List ℕ → List PaintedItem
 painted_text wide spans text = painted_rows wide true spans (split_rows text)
 
 -- ---- the bytes that draw them
 
--- the next row begins without style, so that a terminal that fills new rows fills them plain
-abbrev pub shaded_break : List ℕ → Bool → List ℕ
-shaded_break style b = if b then no_style ++ row_break ++ style_bytes style else []
-
+-- a row begins without style, so that a terminal that fills new rows fills them plain
 abbrev pub bytes_of_painted : ℕ → PaintedItem → ℕ → List ℕ
 bytes_of_painted columns (Bare item) col = bytes_of_item columns item col
 bytes_of_painted columns (Begins style) col = style_bytes style
-bytes_of_painted columns (Shaded style c) col = c ∷ shaded_break style (col + 1 == columns)
+bytes_of_painted columns (Shaded style c) col =
+    c ∷ (if col + 1 == columns then no_style ++ row_break ++ style_bytes style else [])
 bytes_of_painted columns (Fenced style bytes width) col =
     break_unless (nat_le (col + width) columns) ++ (style_bytes style ++ bytes ++ no_style)
     ++ break_if (fitted_col columns width col + width == columns)
@@ -191,46 +177,30 @@ bytes_of_painted_texts columns wide styles prompt line info =
     no_style ++ bytes_of_all_painted columns a 0 ++ no_style ++ bytes_of_all_painted columns b end
     ++ no_style ++ bytes_of_all_painted columns c (end_of columns b end) ++ no_style
 
-abbrev pub painted_drawing : ℕ → Widths → Styles → List ℕ → List ℕ → List ℕ → Position → Position
-    → List ℕ
-painted_drawing columns wide styles prompt line info finish cursor =
-    bytes_of_painted_texts columns wide styles prompt line info ++ move_bytes finish cursor
-
-abbrev pub painted_full_drawing : ℕ → Widths → Styles → ℕ → List ℕ → List ℕ → List ℕ
-    → Position → Position → List ℕ
-painted_full_drawing columns wide styles old_row prompt line info finish cursor =
-    clearing_bytes old_row ++ painted_drawing columns wide styles prompt line info finish cursor
-
+-- in place of an older drawing with its cursor in this row, if there is one; and then the way from
+-- the end to the cursor
 abbrev pub painted_bytes : ℕ → Widths → Styles → Option ℕ → List ℕ → List ℕ → List ℕ
     → Position → Position → List ℕ
-painted_bytes columns wide styles None prompt line info finish cursor =
-    painted_drawing columns wide styles prompt line info finish cursor
-painted_bytes columns wide styles (Some row) prompt line info finish cursor =
-    painted_full_drawing columns wide styles row prompt line info finish cursor
+painted_bytes columns wide styles old_row prompt line info finish cursor =
+    option_map_or clearing_bytes old_row []
+    ++ (bytes_of_painted_texts columns wide styles prompt line info ++ move_bytes finish cursor)
 
--- a text from a place on, with what is left of its spans there
-abbrev pub painted_rest : Widths → List SgrSpan → List ℕ → ℕ → List PaintedItem
-painted_rest wide spans text from = painted_text wide (skip from spans) (drop from text)
-
--- the rest of a line from a place on, in a column, and what stands after it
+-- the rest of a line from a place on, with what is left of its spans there, in a column, and what
+-- stands after it
 abbrev pub rest_bytes : ℕ → Widths → Styles → List ℕ → ℕ → List ℕ → ℕ → List ℕ
 rest_bytes columns wide styles text from info col =
-    let items = painted_rest wide styles.line text from in
+    let items = painted_text wide (skip from styles.line) (drop from text) in
     let behind = painted_text wide styles.info info in
     bytes_of_all_painted columns items col
     ++ in_fence info (bytes_of_all_painted columns behind (end_of columns items col))
 
--- a move, everything from there on erased, and the rest drawn there
-abbrev pub rest_from : ℕ → Widths → Styles → List ℕ → ℕ → List ℕ → Position → Position → List ℕ
-rest_from columns wide styles text from info old at =
-    move_bytes old at
-    ++ (erase_to_end ++ rest_bytes columns wide styles text from info (in_row columns at).col)
-
--- then the move to the cursor
+-- a move, everything from there on erased, the rest drawn there, and the move to the cursor
 abbrev pub rest_drawing : ℕ → Widths → Styles → List ℕ → ℕ → List ℕ → Position → Position
     → Position → Position → List ℕ
 rest_drawing columns wide styles text from info old at finish cursor =
-    rest_from columns wide styles text from info old at ++ move_bytes finish cursor
+    (move_bytes old at
+    ++ (erase_to_end ++ rest_bytes columns wide styles text from info (in_row columns at).col))
+    ++ move_bytes finish cursor
 
 -- ---- the spans of a highlighter
 
@@ -264,8 +234,3 @@ abbrev pub SendsPainted : {D : Type 0} → List PaintedItem → ℕ → ℕ → 
     → D → D → Result ℕ DeviceFailed → Type 0
 SendsPainted xs start columns = SendsTo (bytes_of_all_painted columns xs start)
     (end_of columns xs start) columns
-
--- the first of the remaining spans, and the mark from which others follow; none if nothing remains
-abbrev pub IsFirstSpan : (Mark → List span.Span) → spans.Spans → Option (span.Span × Mark) → Type 0
-IsFirstSpan paints s None = spans_in paints s ≡ []
-IsFirstSpan paints s (Some next) = spans_in paints s ≡ span_of next.0 ∷ map span_of (paints next.1)

@@ -1,7 +1,7 @@
 -- The meaning of bytes on a display: the part of ECMA-48 that a line editor sends. The display has
 -- unlimited rows of `columns` columns. `wide` says of a text whether it is one cluster that fits on
 -- a row, and how many columns it takes.
-use Rattle.std.specs.Prelude.{ℕ, ◌+◌, ◌-◌, ◌*◌, ◌==◌, nat_lt, nat_le, Bool, true, not, ◌&&◌, ◌||◌, List, [], ◌∷◌, ◌++◌, length, map, codes, Option, Some, None, if◌then◌else◌}
+use Rattle.std.specs.Prelude.{ℕ, ◌+◌, ◌-◌, ◌*◌, ◌==◌, nat_lt, nat_le, Bool, not, ◌&&◌, ◌||◌, List, [], ◌∷◌, ◌++◌, length, map, codes, Option, Some, None, if◌then◌else◌}
 use Rattle.std.specs.List.{list_all, filter}
 use Rattle.std.specs.Option.{option_and_then, option_map_or}
 use Rattle.line_buffer.specs.Cells.{origin}
@@ -65,21 +65,14 @@ placed_in at new [] = new ∷ []
 placed_in at new (p ∷ ps) =
     if ends_before at p then p ∷ placed_in at new ps else new ∷ p ∷ ps
 
-abbrev pub put_down : ℕ → List ℕ → Display → Display
-put_down width run d =
-    let new = cluster_placed_at d.pen run width d.cursor in
-    record d { placed = placed_in d.cursor new d.placed; cursor = right width d.cursor }
-
--- without the clusters in these cells
-abbrev pub with_blank_cells : ℕ → Display → Display
-with_blank_cells width d =
-    record d { placed = filter (λ p. not (touches d.cursor width p)) d.placed }
-
 -- in the cursor's row, in place of the clusters that stand there, of which none may be cut
 abbrev pub put_cells : ℕ → ℕ → List ℕ → Display → Option Display
 put_cells columns width bytes d =
     if nat_le (d.cursor.col + width) columns && list_all (is_uncut width d.cursor) d.placed
-    then Some (put_down width bytes (with_blank_cells width d)) else None
+    then (let stay = filter (λ p. not (touches d.cursor width p)) d.placed in
+    let new = cluster_placed_at d.pen bytes width d.cursor in
+    Some (record d { placed = placed_in d.cursor new stay; cursor = right width d.cursor }))
+    else None
 
 -- one cell for each
 abbrev pub put_letters : ℕ → List ℕ → Display → Option Display
@@ -201,27 +194,19 @@ plain_sequence columns d byte =
 -- ESC [ n A (CUU) up, B (CUD) down, C (CUF) right, D (CUB) left, without leaving the display; there
 -- is no last row. ESC [ n P (DCH) takes cells out of the cursor's row. ESC [ 4 h (SM, IRM) begins
 -- insert mode
-abbrev pub moves_inside : ℕ → Position → ℕ → ℕ → Bool
-moves_inside columns at count final =
-    if final == 0x41 then nat_le count at.row
-    else if final == 0x42 then true
-    else if final == 0x43 then nat_lt (at.col + count) columns
-    else (final == 0x44) && nat_le count at.col
-
-abbrev pub position_after_move : Position → ℕ → ℕ → Position
-position_after_move at count final =
-    if final == 0x41 then record at { row = at.row - count }
-    else if final == 0x42 then record at { row = at.row + count }
-    else if final == 0x43 then record at { col = at.col + count }
-    else record at { col = at.col - count }
-
 abbrev pub numbered_sequence : ℕ → Display → ℕ → ℕ → DisplayReading
 numbered_sequence columns d count final =
-    if is_inside columns d && moves_inside columns d.cursor count final
-    then Text (at_cursor (position_after_move d.cursor count final) d) []
-    else if is_inside columns d && (final == 0x50) then cells_taken_out columns count d
-    else if is_inside columns d && ((final == 0x68) && ((count == 4) && is_plain_pen d))
-    then Inserts d [] else Lost
+    let at = d.cursor in
+    if not (is_inside columns d) then Lost
+    else if (final == 0x41) && nat_le count at.row
+    then Text (at_cursor (record at { row = at.row - count }) d) []
+    else if final == 0x42 then Text (at_cursor (record at { row = at.row + count }) d) []
+    else if (final == 0x43) && nat_lt (at.col + count) columns
+    then Text (at_cursor (record at { col = at.col + count }) d) []
+    else if (final == 0x44) && nat_le count at.col
+    then Text (at_cursor (record at { col = at.col - count }) d) []
+    else if final == 0x50 then cells_taken_out columns count d
+    else if (final == 0x68) && ((count == 4) && is_plain_pen d) then Inserts d [] else Lost
 
 -- the parameters of a style: digits and semicolons
 abbrev pub is_parameter : ℕ → Bool

@@ -1,5 +1,5 @@
 -- The bytes of each drawing call on a screen, and the effect of a call on the screen and its sink.
-use Rattle.std.specs.Prelude.{◌≡◌, ℕ, Bool, true, false, encode_utf8, IsTrue, List, [], ◌∷◌, ◌++◌, Option, map, option_map, Result}
+use Rattle.std.specs.Prelude.{◌≡◌, ℕ, Bool, true, false, encode_utf8, IsTrue, List, [], ◌∷◌, ◌++◌, Option, length, map, option_map, Result}
 use Rattle.line_buffer.specs.declared.layout.GraphemeClusterMode.{GraphemeClusterMode}
 use Rattle.line_buffer.specs.declared.layout.Layout.{Layout}
 use Rattle.line_config.specs.declared.errors.ReadlineError.{ReadlineError}
@@ -8,13 +8,14 @@ use Rattle.line_config.specs.declared.settings.BellStyle.{BellStyle}
 use Rattle.line_config.specs.declared.settings.BellStyle.TheVariants.{Audible}
 use Rattle.line_editor.specs.RenderCalls.{Call, Canvas, Ruler, Draw, Move, Write, Beep, ClearScreen, ClearRows, ClearToEol, MoveAndClearToEol, InsertChar, MoveAndDelete, Append, DrawRest, WriteOver}
 use Rattle.line_editor.specs.Redraws.{info_text}
-use Rattle.line_screen.specs.Drawing.{text_items, bytes_of_items, clearing_bytes, move_bytes, erase_to_end, erase_to_row_end, go_home, insertion_bytes, deletion_bytes, place_after_insertion, place_after_deletion, writing_bytes}
+use Rattle.line_screen.specs.Drawing.{Widths, text_items, bytes_of_items, clearing_bytes, move_bytes, erase_to_end, erase_to_row_end, go_home, insertion_bytes, pulled_back, place_after_insertion, place_after_deletion, short_move}
+use Rattle.line_screen.specs.Display.{right}
 use Rattle.line_editor.specs.Sights.{PartSpans, drawn_spans}
 use Rattle.line_help.specs.Paints.{Marks}
-use Rattle.line_screen.specs.Colours.{Styles, SgrSpan, span_of, painted_bytes, rest_drawing}
+use Rattle.line_screen.specs.Colours.{Styles, span_of, painted_bytes, rest_drawing}
 use Rattle.line_screen.specs.Measure.{widths_by, measure_of, in_row}
 use Rattle.line_screen.specs.declared.renderer.ScreenRenderer.{ScreenRenderer}
-use Rattle.script.specs.Scripts.{World, Goes}
+use Rattle.script.specs.Scripts.{Goes}
 use Rattle.line_keys.specs.CustomBindings.{Custom}
 use Rattle.line_editor.specs.LineScripts.{LineStage, line_script, line_world}
 use Rattle.line_editor.specs.Values.{Setting}
@@ -40,6 +41,10 @@ screen_of r = record {
 abbrev pub sink_of : {D : Type 0} → ScreenRenderer D → D
 sink_of r = r.sink
 
+-- the columns of its clusters and tabs
+abbrev pub widths : Screen → Widths
+widths s = widths_by s.mode s.tab s.columns
+
 -- its measures: it has the most rows that can be counted
 abbrev pub ruler_of : Screen → Ruler
 ruler_of s = record {
@@ -59,10 +64,6 @@ abbrev pub styles_of : PartSpans → Styles
 styles_of x = let of = map span_of in
     record { prompt = of x.prompt; line = of x.line; info = of x.info }
 
--- the styles of what stands after a line
-abbrev pub info_styles : Option Marks → List ℕ → List SgrSpan
-info_styles marks info = (styles_of (drawn_spans marks true [] [] 0 info)).info
-
 -- the styles of a line and of what stands after it
 abbrev pub line_styles : Option Marks → List ℕ → ℕ → List ℕ → Styles
 line_styles marks text place info =
@@ -76,8 +77,8 @@ bell_bytes style = []
 abbrev pub bytes_of : Screen → Call → List ℕ
 bytes_of s (Draw prompt text place info old new marks) =
     let spans = drawn_spans marks new.default_prompt prompt text place (info_text info) in
-    painted_bytes s.columns (widths_by s.mode s.tab s.columns) (styles_of spans) (old_row old)
-    prompt text (info_text info) new.end new.cursor
+    painted_bytes s.columns (widths s) (styles_of spans) (old_row old) prompt text (info_text info)
+    new.end new.cursor
 bytes_of s (Move old new) = move_bytes old new
 bytes_of s (Write text) = text
 bytes_of s Beep = bell_bytes s.bell
@@ -89,16 +90,15 @@ bytes_of s (InsertChar c rest old new finish) =
     insertion_bytes s.columns old.col (encode_utf8 c) rest
     ++ move_bytes (place_after_insertion old new finish) new
 bytes_of s (MoveAndDelete old new count rest finish) = move_bytes old new
-    ++ (deletion_bytes s.columns count new.col rest
+    ++ (pulled_back s.columns count new.col new.col rest
     ++ move_bytes (place_after_deletion new finish) new)
 bytes_of s (Append text at) =
-    bytes_of_items s.columns (text_items (widths_by s.mode s.tab s.columns) text)
-    (in_row s.columns at).col
+    bytes_of_items s.columns (text_items (widths s) text) (in_row s.columns at).col
 bytes_of s (DrawRest text from place info old at new marks) =
-    rest_drawing s.columns (widths_by s.mode s.tab s.columns)
-    (line_styles marks text place (info_text info)) text from (info_text info) old at
-    new.end new.cursor
-bytes_of s (WriteOver letters old at new) = writing_bytes letters old at new
+    rest_drawing s.columns (widths s) (line_styles marks text place (info_text info)) text from
+    (info_text info) old at new.end new.cursor
+bytes_of s (WriteOver letters old at new) =
+    short_move old at ++ (letters ++ short_move (right (length letters) at) new)
 bytes_of s call = []
 
 -- bytes were sent and passed on: if nothing was buffered before, nothing is buffered now. The sink
@@ -131,14 +131,6 @@ canvas_of held waits failed = record {
 abbrev pub NothingWaits : {D : Type 0} → (D → List ℕ) → (D → Bool) → D → Type 0
 NothingWaits waits failed d = failed d ≡ false → waits d ≡ []
 
--- a world in which this holds at each request, and after it
-abbrev pub world_holding : {A : Type 0} {R : A → Type 0} {S E : Type 0} → (S → Type 0)
-    → World A R S E → World A R S E
-world_holding Holds w = record {
-  made = λ x ask a y. Holds x × w.made x ask a y × Holds y;
-  cut = λ x ask e y. Holds x × w.cut x ask e y × Holds y;
-}
-
 -- if nothing is buffered as a line begins, nothing is buffered at any request of its script, such
 -- as the read of a key. Nor is it at the script's end, whether it goes to its answer or a fault
 -- cuts it
@@ -151,4 +143,8 @@ ReadsFindNothingWaiting {D} held waits failed =
     (x y : LineStage (ScreenRenderer D)) (result : Result (List ℕ) ReadlineError)
     → let w = line_world (canvas_of held waits failed) r s in Rests x
     → Goes w (line_script n custom) x result y
-    → Goes (world_holding Rests w) (line_script n custom) x result y × Rests y
+    → let resting = record w {
+      made = λ x ask a y. Rests x × w.made x ask a y × Rests y;
+      cut = λ x ask e y. Rests x × w.cut x ask e y × Rests y;
+    } in
+    Goes resting (line_script n custom) x result y × Rests y

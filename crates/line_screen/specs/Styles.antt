@@ -1,5 +1,5 @@
 -- The numbers of a style in the control sequence SGR (ECMA-48, 8.3.117).
-use Rattle.std.specs.Prelude.{ℕ, ◌+◌, ◌%◌, ◌==◌, ◌&&◌, not, Bool, true, false, List, [], ◌∷◌, ◌++◌, decimal, if◌then◌else◌}
+use Rattle.std.specs.Prelude.{ℕ, ◌+◌, ◌%◌, ◌==◌, Bool, true, false, List, [], ◌∷◌, ◌++◌, decimal, if◌then◌else◌}
 use Rattle.line_help.specs.declared.helpers.style.Hue.{Hue}
 use Rattle.line_help.specs.declared.helpers.style.Hue.TheVariants as hues
 use Rattle.line_help.specs.declared.helpers.style.Colour.{Colour}
@@ -16,28 +16,21 @@ hue_number hues.Magenta = 5
 hue_number hues.Cyan = 6
 hue_number hues.White = 7
 
--- of a text from 30 on, of its background from 40 on
-abbrev pub colour_codes : ℕ → Colour → List ℕ
-colour_codes front Terminal = []
-colour_codes front (Basic hue) = (front + hue_number hue) ∷ []
-colour_codes front (Bright hue) = (front + 60 + hue_number hue) ∷ []
-colour_codes front (Palette n) = (front + 8) ∷ 5 ∷ n ∷ []
-colour_codes front (Rgb r g b) = (front + 8) ∷ 2 ∷ r ∷ g ∷ b ∷ []
-
 -- a number of one byte after its semicolon
 abbrev pub number : ℕ → List ℕ
 number n = 0x3B ∷ decimal (n % 256)
 
-abbrev pub numbers_of : List ℕ → List ℕ
-numbers_of [] = []
-numbers_of (c ∷ []) = number c
-numbers_of (c ∷ (d ∷ codes)) = number c ++ numbers_of (d ∷ codes)
-
 abbrev pub flag : Bool → ℕ → List ℕ
 flag b n = if b then number n else []
 
+-- of a text from 30 on, of its background from 40 on
 abbrev pub colour_numbers : ℕ → Colour → List ℕ
-colour_numbers front c = numbers_of (colour_codes front c)
+colour_numbers front Terminal = []
+colour_numbers front (Basic hue) = number (front + hue_number hue)
+colour_numbers front (Bright hue) = number (front + 60 + hue_number hue)
+colour_numbers front (Palette n) = number (front + 8) ++ (number 5 ++ number n)
+colour_numbers front (Rgb r g b) =
+    number (front + 8) ++ (number 2 ++ (number r ++ (number g ++ number b)))
 
 abbrev pub flags : Style → List ℕ
 flags s = flag s.bold 1
@@ -50,11 +43,6 @@ numbers s = flags s ++ (colour_numbers 30 s.text ++ colour_numbers 40 s.backgrou
 abbrev pub is_terminal : Colour → Bool
 is_terminal Terminal = true
 is_terminal c = false
-
-abbrev pub is_plain_style : Style → Bool
-is_plain_style s =
-    (not s.bold && (not s.faint && (not s.italic && (not s.underline && not s.reverse))))
-    && (is_terminal s.text && is_terminal s.background)
 
 -- the number of a flag; nothing for 0
 abbrev pub flag_number : ℕ → List ℕ

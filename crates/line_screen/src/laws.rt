@@ -2,16 +2,15 @@
 
 ghost use Rattle.line_screen.specs.Input.{EncodedCharsAreRead, CharsAreEncoded};
 ghost use Rattle.line_screen.specs.KeyGrammar.{WholeKeysStay, PastedTextIsBeforeItsMark, PastedTextIsCutOff, ControlIsOneKey};
-ghost use Rattle.line_screen.specs.Laws.{TypingLeads, AppendingLeads, KillingLeads, ErasingLeads, PuttingInLeads, TakingOutLeads, DrawingRestLeads, FullDrawingShows, PlainDrawingsAreDrawings, StartIsEmpty, CallsLead, ChainsLead, PlaceIsFree, LineEndsAnywhere, EndedLineStays, MeasuresGoOn, ShownIsMeant, CellsAreShown, WritingOverLeads};
+ghost use Rattle.line_screen.specs.Laws.{OnEachScreen, ColoursStand, NumbersAreStyles, Uncoloured, TypingLeads, AppendingLeads, KillingLeads, ErasingLeads, PuttingInLeads, TakingOutLeads, DrawingRestLeads, FullDrawingShows, PlainDrawingsAreDrawings, StartIsEmpty, CallsLead, ChainsLead, PlaceIsFree, LineEndsAnywhere, EndedLineStays, MeasuresGoOn, ShownIsMeant, CellsAreShown, WritingOverLeads};
 ghost use Rattle.line_screen.specs.ScreenCalls.{ReadsFindNothingWaiting};
-ghost use Rattle.line_screen.specs.ColourLaws.{ColoursStand, NumbersAreStyles, Uncoloured};
 
 use line_config::Sink;
 
 /// A full drawing shows the given value, each cluster with its style, whatever was shown from its
 /// top on, and keeps the rows above. No style may stand before it, and none stands after it.
 pub fn full_drawing()
-    ensures { FullDrawingShows }
+    ensures { OnEachScreen FullDrawingShows }
 {}
 
 /// A drawing without styles sends no bytes for them.
@@ -21,7 +20,7 @@ pub fn plain_drawing()
 
 /// Each cluster of a drawing with styles has its own, and none stands at its end.
 pub fn styles_stand()
-    ensures { ColoursStand }
+    ensures { OnEachScreen ColoursStand }
 {}
 
 /// The numbers of each style are digits and semicolons.
@@ -37,7 +36,7 @@ pub fn uncoloured()
 
 /// Before the first call nothing is shown.
 pub fn start()
-    ensures { StartIsEmpty }
+    ensures { OnEachScreen StartIsEmpty }
 {}
 
 /// Each call leads from a display that shows one view to one that shows the next, if it is allowed
@@ -45,7 +44,7 @@ pub fn start()
 /// character put before others, characters taken out before others, a text drawn behind the others,
 /// a line's rest drawn from a cell on, letters written over as many, a beep, a clearing and CR LF.
 pub fn calls()
-    ensures { CallsLead }
+    ensures { OnEachScreen CallsLead }
 {}
 
 /// If nothing is buffered in the screen's sink as a line begins, nothing is buffered at any request
@@ -57,54 +56,54 @@ pub fn reads_find_nothing_waiting<D: Sink>()
 
 /// If the editor writes only a typed character's byte, this leads to the line with it.
 pub fn short_insertions()
-    ensures { TypingLeads }
+    ensures { OnEachScreen TypingLeads }
 {}
 
 /// If the editor draws only a character typed apart from the line's end, this leads to the line
 /// with it, and cursor and end are where the character's own drawing ends.
 pub fn appended_characters()
-    ensures { AppendingLeads }
+    ensures { OnEachScreen AppendingLeads }
 {}
 
 /// If the editor deletes a line's end by a move and the erasure of the row's end, this leads to the
 /// line without it.
 pub fn short_kills()
-    ensures { KillingLeads }
+    ensures { OnEachScreen KillingLeads }
 {}
 
 /// The same of a character apart from the line, deleted at its end by the erasure of its cells.
 pub fn erased_characters()
-    ensures { ErasingLeads }
+    ensures { OnEachScreen ErasingLeads }
 {}
 
 /// If the editor puts a character before others, this leads to the line with it. Cursor and end go
 /// one cell on.
 pub fn row_insertions()
-    ensures { PuttingInLeads }
+    ensures { OnEachScreen PuttingInLeads }
 {}
 
 /// If the editor takes characters of a row out before others, this leads to the line without them.
 /// The end goes back by as many cells.
 pub fn row_kills()
-    ensures { TakingOutLeads }
+    ensures { OnEachScreen TakingOutLeads }
 {}
 
 /// If the editor draws the rest of a line from a place on, before which the line stays, this leads
 /// to the line with it and to the hint or message after it. No cluster may lie over that place.
 pub fn drawn_rests()
-    ensures { DrawingRestLeads }
+    ensures { OnEachScreen DrawingRestLeads }
 {}
 
 /// If the editor writes letters over as many in a row, this leads to the line with them. The end
 /// stays.
 pub fn row_rewritings()
-    ensures { WritingOverLeads }
+    ensures { OnEachScreen WritingOverLeads }
 {}
 
 /// Calls one after the other lead from what is shown before them to what is shown after them. The
 /// rows above stay until the screen is cleared.
 pub fn chains()
-    ensures { ChainsLead }
+    ensures { OnEachScreen ChainsLead }
 {}
 
 /// The cursor's place in the line may change without any call, because no cell depends on it.
@@ -121,7 +120,7 @@ pub fn line_ends()
 /// CR LF at the drawing's end leads to the next line's top, and the accepted line's cells stay
 /// above it.
 pub fn ended_lines()
-    ensures { EndedLineStays }
+    ensures { OnEachScreen EndedLineStays }
 {}
 
 /// A drawing's cursor and its end are measured part by part: prompt, line, and the hint or message

@@ -3,7 +3,7 @@
 ghost use Rattle.std.specs.Prelude.{◌≡◌, ◌≤◌, [], false, option_copied, option_map};
 ghost use Rattle.std.specs.Result.{result_map_both};
 ghost use Rattle.line_config.specs.declared.errors.ReadlineError.TheVariants.{Display};
-ghost use Rattle.line_screen.specs.ScreenCalls.{screen_of, sink_of, canvas_of, styles_of, info_styles, line_styles};
+ghost use Rattle.line_screen.specs.ScreenCalls.{screen_of, sink_of, canvas_of, styles_of, line_styles};
 ghost use Rattle.line_screen.specs.Colours.{brush_spans, styles_in, styles_after};
 ghost use Rattle.line_editor.specs.Sights.{drawn_spans};
 ghost use Rattle.line_editor.specs.Values.{marks_seen};
@@ -374,8 +374,9 @@ fn brush_of_info<'a, H: Highlighter>(
     info: &'a str,
 ) -> Brush<'a, H>
     ensures styles { brush_spans H.marks result
-        ≡ info_styles (marks_seen false told (option_map H.marks (option_copied highlighter.entry)))
-        info.now }
+        ≡ (line_styles
+        (marks_seen false told (option_map H.marks (option_copied highlighter.entry)))
+        [] 0 info.now).info }
     ensures text { result.text.now ≡ info.now }
 {
     let part = if told { Part::Message } else { Part::Hint };

@@ -7,10 +7,10 @@ use Rattle.line_editor.specs.RenderCalls.{Marks}
 use Rattle.line_editor.specs.Sights.{Sight, sight_with}
 use Rattle.line_screen.specs.Chain.{above, cells_of, cursor_of, down, down_placed, from_top}
 use Rattle.line_screen.specs.Display.{Display, Placed, meaning}
-use Rattle.line_screen.specs.Laws.{widths}
 use Rattle.keyline.specs.Events.{SessionEvent, Begins, Breaks, Draws, Rests}
 use Rattle.keyline.specs.Shows.{EachShown, Face, below, blank, face_on_new_row, face_with_drawing, picture}
 use Rattle.worked_rows.specs.Playing.{Row, course_of, screen_in}
+use Rattle.line_screen.specs.ScreenCalls.{widths}
 
 abbrev pub same_position : Position → Position → Bool
 same_position a b = (a.col == b.col) && (a.row == b.row)

@@ -1,7 +1,8 @@
 //! Letters written over others.
 
-ghost use Rattle.std.specs.Prelude.{◌≡◌, ◌+◌, ◌≤◌, [], length, OnOk};
-ghost use Rattle.line_screen.specs.Drawing.{writing_bytes};
+ghost use Rattle.std.specs.Prelude.{◌≡◌, ◌+◌, ◌≤◌, ◌++◌, [], length, OnOk};
+ghost use Rattle.line_screen.specs.Display.{right};
+ghost use Rattle.line_screen.specs.Drawing.{short_move};
 ghost use Rattle.line_config.specs.Sending.{Sends};
 
 use crate::drawing::sequences::{flush, send, send_short_move};
@@ -17,7 +18,8 @@ pub(crate) fn write_letters<D: Sink>(
     new: Position,
 ) -> Result<(), DeviceFailed>
     requires room { at.col + length letters.now ≤ 65535 }
-    ensures sends { Sends D.held D.has_failed (writing_bytes letters.now old at new)
+    ensures sends { Sends D.held D.has_failed
+        (short_move old at ++ (letters.now ++ short_move (right (length letters.now) at) new))
         sink.old sink.new result }
     ensures passes { OnOk result (D.waits sink.new ≡ []) }
 {

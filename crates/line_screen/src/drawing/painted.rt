@@ -1,14 +1,15 @@
 //! A text with styles, in the cells that it has without them.
 
-ghost use Rattle.std.specs.Prelude.{◌∷◌, ◌≡◌, ◌≤◌, ◌<◌, ◌==◌, ◌+◌, ◌++◌, [], true, IsTrue, IsCharBoundary, OnOk, OnErr, IfOk, None, length, map, nat_le};
+ghost use Rattle.std.specs.Prelude.{◌∷◌, ◌≡◌, ◌≤◌, ◌<◌, ◌==◌, ◌+◌, ◌++◌, [], true, IsTrue, IsCharBoundary, OnOk, OnErr, IfOk, None, length, drop, map, nat_le, if◌then◌else◌};
+ghost use Rattle.std.specs.Option.{option_map_or};
 ghost use Rattle.unicode_segmentation.specs.Grapheme.{graphemes};
-ghost use Rattle.line_screen.specs.Drawing.{left_col, drawn_item, SendsTo, col_after, break_if, break_unless, fitted_col, col_after_one, no_style};
-ghost use Rattle.line_screen.specs.Drawing.DrawnItem.{Cluster, Tab};
+ghost use Rattle.line_screen.specs.Drawing.{left_col, drawn_item, SendsTo, col_after, break_if, break_unless, fitted_col, col_after_one, no_style, row_break};
+ghost use Rattle.line_screen.specs.Drawing.DrawnItem.{NewRow, Cluster, Tab};
 ghost use Rattle.line_screen.specs.Measure.{widths_by};
-ghost use Rattle.line_screen.specs.Colours.{end_of, bytes_of_all_painted, style_bytes, letters_within, spans_within, shaded_break, letters_in_style, painted_letters, items_painted_after, painted_clusters, painted_row, painted_text, painted_rest, painted_item, bytes_of_painted, SendsPainted, spans_in, span_of, brush_paints, brush_spans, first_style, skip, next_painted, spans_behind, IsFirstSpan};
+ghost use Rattle.line_screen.specs.Colours.{end_of, bytes_of_all_painted, style_bytes, letters_within, spans_within, letters_in_style, painted_letters, painted_clusters, painted_row, painted_text, painted_item, bytes_of_painted, SendsPainted, spans_in, span_of, brush_paints, brush_spans, first_style, skip};
 ghost use Rattle.line_screen.specs.Styles.{numbers};
 ghost use Rattle.line_help.specs.Paints.{IsNextSpan, first_mark};
-ghost use Rattle.line_screen.specs.Colours.PaintedItem.{Shaded, Fenced, Padded};
+ghost use Rattle.line_screen.specs.Colours.PaintedItem.{Bare, Shaded, Fenced, Padded};
 ghost use Rattle.line_config.specs.Sending.{Sends};
 
 use crate::drawing::sequences::send;
@@ -62,7 +63,9 @@ impl Spans {
 
     /// The first of them, and the mark from which the others follow.
     fn next<H: Highlighter>(self, brush: &Brush<'_, H>) -> Option<(Span, Mark)>
-        ensures { IsFirstSpan (brush_paints H.marks brush.now) self result }
+        ensures { spans_in (brush_paints H.marks brush.now) self
+            ≡ option_map_or (λ n. span_of n.0 ∷ map span_of (brush_paints H.marks brush.now n.1))
+            result [] }
     {
         match self.first {
             Some(span) => Some((span, self.mark)),
@@ -118,7 +121,8 @@ fn leave_shaded<D: Sink>(
     col: Unit,
 ) -> Result<Unit, DeviceFailed>
     requires inside { col ≤ grid.columns }
-    ensures { SendsTo (shaded_break (numbers style) (col == grid.columns))
+    ensures { SendsTo
+        (if col == grid.columns then no_style ++ row_break ++ style_bytes (numbers style) else [])
         (left_col grid.columns col)
         grid.columns D.held D.has_failed sink.old sink.new result }
 {
@@ -365,8 +369,11 @@ fn send_painted_after<D: Sink, H: Highlighter>(
     cluster: &str,
 ) -> Result<Unit, DeviceFailed>
     requires inside { start < grid.columns }
-    ensures { SendsPainted (items_painted_after (widths_by grid.mode grid.tab grid.columns)
-        (spans_in (brush_paints H.marks brush.now) spans) letters.now cluster.now) start
+    ensures { SendsPainted
+        (painted_letters (spans_in (brush_paints H.marks brush.now) spans) letters.now
+        ++ painted_item (first_style (skip (length letters.now)
+        (spans_in (brush_paints H.marks brush.now) spans)))
+        (drawn_item (widths_by grid.mode grid.tab grid.columns) cluster.now)) start
         grid.columns D.held D.has_failed sink.old sink.new result }
 {
     let col = send_spans(sink, grid, start, brush, spans, letters)?;
@@ -437,8 +444,11 @@ fn send_next_painted<D: Sink, H: Highlighter>(
     row: &str,
 ) -> Result<Unit, DeviceFailed>
     requires inside { start < grid.columns }
-    ensures { SendsPainted (next_painted (widths_by grid.mode grid.tab grid.columns) is_first
-        (spans_in (brush_paints H.marks brush.now) spans) row.now) start
+    ensures { SendsPainted
+        (if is_first then painted_row (widths_by grid.mode grid.tab grid.columns)
+        (spans_in (brush_paints H.marks brush.now) spans) row.now
+        else Bare NewRow ∷ painted_row (widths_by grid.mode grid.tab grid.columns)
+        (skip 1 (spans_in (brush_paints H.marks brush.now) spans)) row.now) start
         grid.columns D.held D.has_failed sink.old sink.new result }
 {
     if is_first {
@@ -456,7 +466,8 @@ fn behind_row<H: Highlighter>(
     row: &str,
 ) -> Spans
     ensures { spans_in (brush_paints H.marks brush.now) result
-        ≡ spans_behind is_first (spans_in (brush_paints H.marks brush.now) spans) row.now }
+        ≡ skip (length row.now) (if is_first then spans_in (brush_paints H.marks brush.now) spans
+        else skip 1 (spans_in (brush_paints H.marks brush.now) spans)) }
 {
     let here = if is_first {
         spans
@@ -588,8 +599,8 @@ pub(crate) fn send_painted_from<D: Sink, H: Highlighter>(
 ) -> Result<Unit, DeviceFailed>
     requires inside { start < grid.now.columns }
     requires boundary { IsCharBoundary brush.now.text.now from }
-    ensures { SendsPainted (painted_rest (widths_by grid.now.mode grid.now.tab grid.now.columns)
-        (brush_spans H.marks brush.now) brush.now.text.now from) start
+    ensures { SendsPainted (painted_text (widths_by grid.now.mode grid.now.tab grid.now.columns)
+        (skip from (brush_spans H.marks brush.now)) (drop from brush.now.text.now)) start
         grid.now.columns D.held D.has_failed sink.old sink.new result }
 {
     let rest = &brush.text[from..];

@@ -1,9 +1,9 @@
 //! Draws the rest of a line from a cell on, and what stands after it.
 
 ghost use Rattle.std.specs.Prelude.{◌≡◌, ◌<◌, ◌++◌, [], IsTrue, IsCharBoundary, OnOk, OnErr, IfOk};
-ghost use Rattle.line_screen.specs.Drawing.{in_fence};
-ghost use Rattle.line_screen.specs.Colours.{bytes_of_all_painted, painted_text, brush_spans, styles_after, rest_bytes, rest_from, rest_drawing};
-ghost use Rattle.line_screen.specs.Measure.{widths_by};
+ghost use Rattle.line_screen.specs.Drawing.{in_fence, move_bytes, erase_to_end};
+ghost use Rattle.line_screen.specs.Colours.{bytes_of_all_painted, painted_text, brush_spans, styles_after, rest_bytes, rest_drawing};
+ghost use Rattle.line_screen.specs.Measure.{widths_by, in_row};
 ghost use Rattle.line_config.specs.Sending.{Sends};
 
 use crate::drawing::painted::{Brush, send_painted_from};
@@ -75,9 +75,10 @@ fn draw_at<D: Sink, H: Highlighter>(
 ) -> Result<(), DeviceFailed>
     requires boundary { IsCharBoundary rest.now.line.text.now rest.now.from }
     ensures { Sends D.held D.has_failed
-        (rest_from grid.now.columns (widths_by grid.now.mode grid.now.tab grid.now.columns)
+        (move_bytes old at ++ (erase_to_end
+        ++ rest_bytes grid.now.columns (widths_by grid.now.mode grid.now.tab grid.now.columns)
         (styles_after H.marks rest.now) rest.now.line.text.now rest.now.from
-        rest.now.info.text.now old at)
+        rest.now.info.text.now (in_row grid.now.columns at).col))
         sink.old sink.new result }
 {
     send_move(sink, old, at)?;

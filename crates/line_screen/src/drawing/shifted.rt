@@ -1,7 +1,7 @@
 //! Letters that move in their rows: a character put before them, and cells taken out before them.
 
-ghost use Rattle.std.specs.Prelude.{◌≡◌, ◌+◌, ◌<◌, ◌≤◌, ◌++◌, [], encode_utf8, OnOk};
-ghost use Rattle.line_screen.specs.Drawing.{move_bytes, take_cells_out, put_in, pushed_on, put_and_pushed, insertion_bytes, refilled, deletion_bytes, place_after_insertion, place_after_deletion};
+ghost use Rattle.std.specs.Prelude.{◌≡◌, ◌+◌, ◌-◌, ◌<◌, ◌≤◌, ◌++◌, [], nat_le, length, drop, encode_utf8, OnOk, if◌then◌else◌};
+ghost use Rattle.line_screen.specs.Drawing.{move_bytes, take_cells_out, put_in, pushed_on, put_and_pushed, insertion_bytes, col_move, pulled_back, place_after_insertion, place_after_deletion};
 ghost use Rattle.line_config.specs.Sending.{Sends};
 
 use crate::drawing::sequences::{flush, send, send_col_move, send_control, send_move};
@@ -142,8 +142,11 @@ fn refill_row<D: Sink>(
     row: &[u8],
 ) -> Result<(), DeviceFailed>
     requires room { start + count ≤ columns }
-    ensures { Sends D.held D.has_failed (refilled columns count start row.now) sink.old sink.new
-        result }
+    ensures { Sends D.held D.has_failed
+        (if nat_le (length row.now) (columns - start - count) then []
+        else take_cells_out count
+        ++ (col_move start (columns - count) ++ drop (columns - start - count) row.now))
+        sink.old sink.new result }
 {
     let kept = usize::from(columns - start - count);
     if row.len() <= kept {
@@ -164,7 +167,7 @@ fn pull_back<D: Sink>(
 ) -> Result<(), DeviceFailed>
     requires some { 0 < count }
     requires room { col + count ≤ columns }
-    ensures { Sends D.held D.has_failed (deletion_bytes columns count col letters.now)
+    ensures { Sends D.held D.has_failed (pulled_back columns count col col letters.now)
         sink.old sink.new result }
 {
     let mut start = col;
@@ -207,7 +210,7 @@ pub(crate) fn move_and_take_out<D: Sink>(
     requires some { 0 < count }
     requires room { new.col + count ≤ columns }
     ensures sends { Sends D.held D.has_failed
-        (move_bytes old new ++ (deletion_bytes columns count new.col rest.now
+        (move_bytes old new ++ (pulled_back columns count new.col new.col rest.now
         ++ move_bytes (place_after_deletion new end) new))
         sink.old sink.new result }
     ensures passes { OnOk result (D.waits sink.new ≡ []) }

@@ -1,10 +1,10 @@
 //! The control sequence that begins a style.
 
-ghost use Rattle.std.specs.Prelude.{IfSome, ◌≡◌, ◌≤◌, ◌<◌, ◌+◌, ◌%◌, ◌++◌, ◌∷◌, [], IsTrue, OnOk, OnErr, decimal};
+ghost use Rattle.std.specs.Prelude.{IfSome, ◌≡◌, ◌&&◌, not, ◌≤◌, ◌<◌, ◌+◌, ◌%◌, ◌++◌, ◌∷◌, [], IsTrue, OnOk, OnErr, decimal};
 ghost use Rattle.line_config.specs.Sending.{Sends};
 ghost use Rattle.line_screen.specs.Colours.{style_bytes};
 ghost use Rattle.line_screen.specs.Drawing.{no_style};
-ghost use Rattle.line_screen.specs.Styles.{hue_number, number, numbers_of, colour_numbers, flag, flags, numbers, is_terminal, is_plain_style, flag_number};
+ghost use Rattle.line_screen.specs.Styles.{hue_number, number, colour_numbers, flag, flags, numbers, is_terminal, flag_number};
 
 use crate::drawing::sequences::send;
 use line_config::{DeviceFailed, Sink};
@@ -21,7 +21,9 @@ fn is_terminal(colour: Colour) -> bool
 
 /// Whether a style is plain.
 pub(crate) fn is_plain(style: Style) -> bool
-    ensures { result ≡ is_plain_style style }
+    ensures { result ≡ ((not style.bold && (not style.faint && (not style.italic
+        && (not style.underline && not style.reverse))))
+        && (is_terminal style.text && is_terminal style.background)) }
 {
     let flags = style.bold || style.faint || style.italic || style.underline || style.reverse;
     !flags && is_terminal(style.text) && is_terminal(style.background)
@@ -77,7 +79,7 @@ fn send_flags<D: Sink>(sink: &mut D, style: Style) -> Result<(), DeviceFailed>
 }
 
 fn send_palette<D: Sink>(sink: &mut D, front: u8, n: u8) -> Result<(), DeviceFailed>
-    ensures { Sends D.held D.has_failed (numbers_of (front ∷ (5 ∷ (n ∷ []))))
+    ensures { Sends D.held D.has_failed (number front ++ (number 5 ++ number n))
         sink.old sink.new result }
 {
     send_number(sink, front)?;
@@ -93,7 +95,8 @@ fn send_rgb<D: Sink>(
     blue: u8,
 ) -> Result<(), DeviceFailed>
     ensures { Sends D.held D.has_failed
-        (numbers_of (front ∷ (2 ∷ (red ∷ (green ∷ (blue ∷ [])))))) sink.old sink.new result }
+        (number front ++ (number 2 ++ (number red ++ (number green ++ number blue))))
+        sink.old sink.new result }
 {
     send_number(sink, front)?;
     send_number(sink, 2)?;

@@ -1,11 +1,11 @@
 //! Draws a text on rows of cells: a full row is left at once, and what doesn't fit goes to the next
 //! row.
 
-ghost use Rattle.std.specs.Prelude.{◌≡◌, ◌≤◌, ◌<◌, ◌∷◌, ◌==◌, ◌+◌, nat_le, true, IsTrue, OnOk, OnErr, IfOk, length, map, chars, encode_utf8};
+ghost use Rattle.std.specs.Prelude.{◌≡◌, ◌≤◌, ◌<◌, ◌∷◌, ◌++◌, ◌==◌, ◌+◌, nat_le, true, IsTrue, OnOk, OnErr, IfOk, length, map, chars, encode_utf8};
 ghost use Rattle.std.specs.List.{list_all};
 ghost use Rattle.unicode_segmentation.specs.Grapheme.{graphemes};
 ghost use Rattle.line_screen.specs.Display.{is_printable};
-ghost use Rattle.line_screen.specs.Drawing.{drawn_item, row_items, next_items, text_items, break_if, break_unless, left_col, fitted_col, cluster_in_fence, bytes_of_item, col_after_one, bytes_of_items, col_after, SendsTo, SendsItems};
+ghost use Rattle.line_screen.specs.Drawing.{drawn_item, row_items, next_items, text_items, break_if, break_unless, left_col, fitted_col, no_style, bytes_of_item, col_after_one, bytes_of_items, col_after, SendsTo, SendsItems};
 ghost use Rattle.line_screen.specs.Drawing.DrawnItem.{Letter, Cluster, Tab};
 ghost use Rattle.line_screen.specs.Measure.{widths_by};
 ghost use Rattle.line_config.specs.Sending.{Sends};
@@ -56,7 +56,7 @@ pub(crate) fn make_room<D: Sink>(
 /// The text of a cluster between two sequences without effect. A cluster of two or three bytes, as
 /// most letters have, is one write.
 fn send_fenced<D: Sink>(sink: &mut D, cluster: &str) -> Result<(), DeviceFailed>
-    ensures { Sends D.held D.has_failed (cluster_in_fence cluster.now) sink.old sink.new result }
+    ensures { Sends D.held D.has_failed (no_style ++ cluster.now ++ no_style) sink.old sink.new result }
 {
     let bytes = cluster.as_bytes();
     if let [a, b] = *bytes {

@@ -2,9 +2,10 @@ use Rattle.std.proofs.Common.{Bool, List, ℕ, [], ◌++◌, append-nil, sym, su
 use Rattle.std.proofs.lemmas.Bool.{eq-eqb}
 use Rattle.line_screen.specs.Styles.{numbers}
 use Rattle.line_screen.specs.Drawing.{no_style, row_break, left_col, SendsTo}
-use Rattle.line_screen.specs.Colours.{shaded_break, style_bytes}
+use Rattle.line_screen.specs.Colours.{style_bytes}
 use Rattle.line_screen.proofs.Sendings.{sends_to_then, sends_to_cut}
 use Rattle.line_screen.proofs.drawing.painted.leave_shaded.Goals as goal
+use Rattle.line_screen.proofs.Parts.{shaded_break}
 
 pub returns-in_err-send : goal.returns-in_err-send
 returns-in_err-send g c =

@@ -1,10 +1,11 @@
 -- The step to the next row, and the row.
 use Rattle.std.proofs.Common.{Bool, sym, subst}
-use Rattle.line_screen.specs.Colours.{end_of, next_painted, painted_row, spans_in, brush_paints, skip, bytes_of_all_painted, SendsPainted}
+use Rattle.line_screen.specs.Colours.{end_of, painted_row, spans_in, brush_paints, skip, bytes_of_all_painted, SendsPainted}
 use Rattle.line_screen.specs.Drawing.{row_break}
 use Rattle.line_screen.specs.Measure.{widths_by}
 use Rattle.line_screen.proofs.Sendings.{sends_to_cut}
 use Rattle.line_screen.proofs.drawing.painted.send_next_painted.Goals as goal
+use Rattle.line_screen.proofs.Parts.{next_painted}
 
 pub returns-in_err-send : goal.returns-in_err-send
 returns-in_err-send g c =

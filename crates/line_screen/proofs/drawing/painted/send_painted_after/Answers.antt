@@ -1,12 +1,13 @@
 -- Letters, and the cluster after them.
 use Rattle.std.proofs.Common.{length, refl, sym, ap, ◌∙◌}
 use Rattle.line_screen.specs.Styles.{numbers}
-use Rattle.line_screen.specs.Colours.{painted_letters, painted_item, items_painted_after, first_style, spans_in, brush_paints, skip}
+use Rattle.line_screen.specs.Colours.{painted_letters, painted_item, first_style, spans_in, brush_paints, skip}
 use Rattle.line_screen.specs.Drawing.{drawn_item}
 use Rattle.line_screen.specs.Measure.{widths_by}
 use Rattle.line_screen.proofs.PaintRuns.{of_painted}
 use Rattle.line_screen.proofs.Runs.{so_far_start, so_far_steps, so_far_cut, so_far_then}
 use Rattle.line_screen.proofs.drawing.painted.send_painted_after.Goals as goal
+use Rattle.line_screen.proofs.Parts.{items_painted_after}
 
 pub returns-in_err-col : goal.returns-in_err-col
 returns-in_err-col g c =

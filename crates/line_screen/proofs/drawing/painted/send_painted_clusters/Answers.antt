@@ -4,12 +4,13 @@ use Rattle.std.specs.List.{concat}
 use Rattle.unicode_segmentation.specs.Grapheme.{graphemes, is_grapheme_break}
 use Rattle.unicode_segmentation.specs.Iter.{graphemes_left}
 use Rattle.unicode_segmentation.proofs.SegmentsLemmas.{concat-segments}
-use Rattle.line_screen.specs.Colours.{painted_letters, items_painted_after, painted_clusters, spans_in, brush_paints, skip}
+use Rattle.line_screen.specs.Colours.{painted_letters, painted_clusters, spans_in, brush_paints, skip}
 use Rattle.line_screen.specs.Measure.{widths_by}
 use Rattle.line_screen.proofs.PaintRuns.{of_painted}
 use Rattle.line_screen.proofs.Runs.{SoFar, so_far_start, so_far_steps, so_far_cut, so_far_then}
 use Rattle.line_screen.proofs.PaintCode.{next_other, letters_taken, tail_dropped}
 use Rattle.line_screen.proofs.drawing.painted.send_painted_clusters.Goals as goal
+use Rattle.line_screen.proofs.Parts.{items_painted_after}
 
 pub loop-cluster-init : goal.loop-cluster-init
 loop-cluster-init g c =

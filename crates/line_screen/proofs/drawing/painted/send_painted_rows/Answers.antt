@@ -3,13 +3,14 @@ use Rattle.std.proofs.Common.{◌≤◌, ◌++◌, ◌∷◌, [], false, length,
 use Rattle.std.proofs.lemmas.List.{length_push, drop_all}
 use Rattle.std.proofs.lemmas.Iterator.Consumers.{YieldsList-turn, YieldsList-end}
 use Rattle.std.proofs.lemmas.Iterator.Splits.{YieldsList-from_str_split}
-use Rattle.line_screen.specs.Colours.{painted_text, next_painted, spans_in, brush_paints, spans_behind}
+use Rattle.line_screen.specs.Colours.{painted_text, spans_in, brush_paints}
 use Rattle.line_screen.specs.Drawing.{split_rows}
 use Rattle.line_screen.specs.Measure.{widths_by}
 use Rattle.line_screen.proofs.PaintRuns.{of_painted}
 use Rattle.line_screen.proofs.Runs.{so_far_start, so_far_steps, so_far_done, so_far_cut}
 use Rattle.line_screen.proofs.PaintCode.{painted_from, rows_take, rows_end}
 use Rattle.line_screen.proofs.drawing.painted.send_painted_rows.Goals as goal
+use Rattle.line_screen.proofs.Parts.{next_painted, spans_behind}
 
 pub loop-row-init : goal.loop-row-init
 loop-row-init g c =

@@ -2,11 +2,12 @@
 use Rattle.std.proofs.Common.{ℕ, ◌+◌, ◌==◌, List, length, map, sym, subst}
 use Rattle.line_screen.specs.Styles.{numbers}
 use Rattle.line_screen.specs.Drawing.{left_col, SendsTo}
-use Rattle.line_screen.specs.Colours.{end_of, shaded_break, bytes_of_all_painted}
+use Rattle.line_screen.specs.Colours.{end_of, bytes_of_all_painted}
 use Rattle.line_screen.specs.Colours.PaintedItem.{Shaded}
 use Rattle.line_screen.proofs.PaintRuns.{shaded_run, shaded_end}
 use Rattle.line_screen.proofs.Sendings.{sends_to_then, sends_to_cut}
 use Rattle.line_screen.proofs.drawing.painted.send_shaded_run.Goals as goal
+use Rattle.line_screen.proofs.Parts.{shaded_break}
 
 pub returns-in_err-send : goal.returns-in_err-send
 returns-in_err-send g c =

@@ -1,9 +1,10 @@
 -- The rest, and then the way to the cursor, passed on.
 use Rattle.line_config.proofs.Taking.{sends_then, sends_cut, sends_refused, sends_flushed}
 use Rattle.line_screen.specs.Drawing.{move_bytes}
-use Rattle.line_screen.specs.Colours.{rest_from, styles_after}
+use Rattle.line_screen.specs.Colours.{styles_after}
 use Rattle.line_screen.specs.Measure.{widths_by}
 use Rattle.line_screen.proofs.drawing.rest.draw_rest.Goals as goal
+use Rattle.line_screen.proofs.Parts.{rest_from}
 
 pub returns-in_err-draw_at-clause-sends : goal.returns-in_err-draw_at-clause-sends
 returns-in_err-draw_at-clause-sends g c =

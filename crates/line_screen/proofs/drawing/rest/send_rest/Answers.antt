@@ -3,9 +3,10 @@ use Rattle.std.proofs.Common.{ℕ, subst}
 use Rattle.line_config.specs.Sending.{Sends}
 use Rattle.line_config.proofs.Taking.{sends_then, sends_cut}
 use Rattle.line_screen.specs.Drawing.{in_fence, col_after}
-use Rattle.line_screen.specs.Colours.{all_unpainted, bytes_of_all_painted, painted_text, painted_rest, brush_spans}
+use Rattle.line_screen.specs.Colours.{bytes_of_all_painted, painted_text, brush_spans}
 use Rattle.line_screen.specs.Measure.{widths_by}
 use Rattle.line_screen.proofs.drawing.rest.send_rest.Goals as goal
+use Rattle.line_screen.proofs.Parts.{all_unpainted, painted_rest}
 
 pub returns-in_err-end : goal.returns-in_err-end
 returns-in_err-end g c =

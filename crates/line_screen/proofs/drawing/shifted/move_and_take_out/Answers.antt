@@ -2,8 +2,9 @@
 use Rattle.std.proofs.Common.{◌++◌, subst}
 use Rattle.line_config.specs.Sending.{Takes, TakesSome}
 use Rattle.line_config.proofs.Taking.{sends_then, sends_cut, sends_refused, sends_flushed}
-use Rattle.line_screen.specs.Drawing.{move_bytes, deletion_bytes, place_after_deletion}
+use Rattle.line_screen.specs.Drawing.{move_bytes, place_after_deletion}
 use Rattle.line_screen.proofs.drawing.shifted.move_and_take_out.Goals as goal
+use Rattle.line_screen.proofs.Parts.{deletion_bytes}
 
 pub returns-in_err-send_move-clause-sends : goal.returns-in_err-send_move-clause-sends
 returns-in_err-send_move-clause-sends g c =

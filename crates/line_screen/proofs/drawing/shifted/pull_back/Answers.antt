@@ -1,9 +1,10 @@
 -- Row by row.
 use Rattle.std.proofs.Common.{◌++◌, arith}
 use Rattle.line_config.proofs.Taking.{underway_start, underway_on, sends_then, sends_cut}
-use Rattle.line_screen.specs.Drawing.{deletion_bytes, refilled, row_break, take_cells_out}
+use Rattle.line_screen.specs.Drawing.{row_break, take_cells_out}
 use Rattle.line_screen.proofs.ShiftedBytes.{underway_sends, pulls_row, pulls_last}
 use Rattle.line_screen.proofs.drawing.shifted.pull_back.Goals as goal
+use Rattle.line_screen.proofs.Parts.{deletion_bytes, refilled}
 
 pub loop-rest-init : goal.loop-rest-init
 loop-rest-init g c = record {

@@ -1,7 +1,7 @@
 use Rattle.std.proofs.Common.{◌+◌, ◌≤◌, length}
 use Rattle.line_config.proofs.Taking.{Underway}
-use Rattle.line_screen.specs.Drawing.{deletion_bytes}
 use Rattle.line_screen.proofs.drawing.shifted.pull_back.Given as goal
+use Rattle.line_screen.proofs.Parts.{deletion_bytes}
 
 abbrev pub invariant-loop-rest : goal.invariant-loop-rest
 invariant-loop-rest g l = record {

@@ -2,9 +2,9 @@
 use Rattle.std.proofs.Common.{true, false, subst}
 use Rattle.line_config.specs.Sending.{Sends}
 use Rattle.line_config.proofs.Taking.{sends_then, sends_cut}
-use Rattle.line_screen.specs.Drawing.{open_cell}
 use Rattle.line_screen.proofs.ShiftedBytes.{put_in_by}
 use Rattle.line_screen.proofs.drawing.shifted.put_in.Goals as goal
+use Rattle.line_screen.proofs.Parts.{open_cell}
 
 pub returns-then-inserting : goal.returns-then-inserting
 returns-then-inserting g c =

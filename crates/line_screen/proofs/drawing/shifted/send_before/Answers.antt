@@ -3,9 +3,10 @@ use Rattle.std.proofs.Common.{true, ◌++◌, arith, sym, subst}
 use Rattle.std.specs.Prelude.{encode_utf8}
 use Rattle.line_config.specs.Sending.{Sends}
 use Rattle.line_config.proofs.Taking.{sends_then, sends_cut}
-use Rattle.line_screen.specs.Drawing.{begin_inserting, end_inserting, put_and_pushed}
+use Rattle.line_screen.specs.Drawing.{put_and_pushed}
 use Rattle.line_screen.proofs.ShiftedBytes.{not_inserting, inserting_them}
 use Rattle.line_screen.proofs.drawing.shifted.send_before.Goals as goal
+use Rattle.line_screen.proofs.Parts.{begin_inserting, end_inserting}
 
 pub returns-then-rest-two_rows : goal.returns-then-rest-two_rows
 returns-then-rest-two_rows g c =
