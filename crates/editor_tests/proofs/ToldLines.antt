@@ -8,10 +8,10 @@ use Rattle.line_config.specs.declared.errors.ReadlineError.{ReadlineError}
 use Rattle.line_config.specs.declared.errors.ReadlineError.TheVariants.{Eof, Interrupted, NotUtf8, PasteOutOfPlace, Reader, Display, Lines, HistoryText, Helper, Handler, Memory}
 use Rattle.line_keys.specs.KeyFeeds.{Key, Paste}
 use Rattle.line_screen.specs.Reader.{coming_in}
-use Rattle.keyline.specs.Endings.{ending_of}
+use Rattle.keyline.specs.SessionEffects.{error_of}
 use Rattle.keyline.specs.Events.{SessionEvent, Begins, Takes, Helped, Draws, Hears, Rests, Breaks, Keeps, Writes, lines_written, session}
 use Rattle.keyline.specs.SessionEffects.{KnownDevices, AreDone, CutSessionEvent, Stands, Went, Work, ending_after, work}
-use Rattle.keyline.specs.Program.{PlaysBytes, config_of, given_by, start_by}
+use Rattle.keyline.specs.Program.{PlaysBytes, config_of, given_with, nothing_bound, start_by}
 use Rattle.keyline.specs.Sessions.{each, lines_text}
 use Rattle.keyline.specs.declared.ending.Ending.{Ending}
 use Rattle.keyline.specs.declared.ending.Ending.TheVariants as how
@@ -19,7 +19,7 @@ use Rattle.keyline.specs.declared.options.Options.{Options}
 use Rattle.keyline.specs.declared.session.Ended.{Ended}
 
 -- only the end of the input ends a session so
-eof_alone : (why : ReadlineError) (saved : Bool) → ending_of (ending_after why saved) ≡ how.Eof → why ≡ Eof
+eof_alone : (why : ReadlineError) (saved : Bool) → ending_after why saved ≡ Eof → why ≡ Eof
 eof_alone Eof saved is = refl
 eof_alone Interrupted true is = absurd (cc)
 eof_alone Interrupted false is = absurd (cc)
@@ -70,12 +70,12 @@ module _ {D L : Type 0} (shown : D → List ℕ) (written_in : L → List ℕ) (
 
 pub lines_by : {S D L T : Type 0} (known : KnownDevices S D L) (held : T → List ℕ) (failed : T → Bool) (options : Options) (words : Option (List (List ℕ))) (old bytes : List ℕ) (last : Last)
     (ended : Ended S D L T) → PlaysBytes known held failed true (config_of options) options words [] [] old bytes last ended → ended.ending ≡ how.Eof → (n : ℕ) → 2 ^ 63 < n
-    → (let g = given_by (config_of options) options words in
+    → (let g = given_with (config_of options) nothing_bound options words in
     known.written_in ended.lines ≡ lines_text (flat_map lines_written (session n g (each g) (start_by (config_of options) old bytes last)).events))
 lines_by known held failed options words old bytes last ended p is n low =
-    let g = given_by (config_of options) options words in
+    let g = given_with (config_of options) nothing_bound options words in
     let start = start_by (config_of options) old bytes last in
     let lines = session n g (each g) start in
     let then_left = work (known.shown ended.display) (known.written_in ended.lines) p.desk.history (coming_in known.feed p.desk.reader) in
     all_written (λ (d : List ℕ). d) (λ (l : List ℕ). l) g.config.auto_add_history lines.events (work [] [] start.history start.coming) then_left p.why
-    (p.why ≡ lines.answer) (eof_alone p.why p.finishes.saved (sym p.finishes.ending_is ∙ is)) refl (p.goes n low).went
+    (p.why ≡ lines.answer) (eof_alone p.why p.finishes.saved (sym p.finishes.ending_is ∙ ap error_of is)) refl (p.goes n low).went

@@ -1,7 +1,7 @@
 -- The end of a line: an exit for each fault, and the one where all went well.
 use Rattle.std.proofs.Common.{◌≡◌, ℕ, append-nil, Bool, true, false, ◌&&◌, List, [], ◌∷◌, inl, inr, refl, sym, ap, subst, IsTrue, Result, Ok, Err, IfErr}
 use Rattle.std.specs.Global.{Global}
-use Rattle.std.specs.Prelude.{IfOk, MatchResult, OnErr, OnOk, String, if◌then◌else◌, string_bytes}
+use Rattle.std.specs.Prelude.{IfOk, MatchResult, OnErr, OnOk, ⊤, String, if◌then◌else◌, string_bytes}
 use Rattle.line_config.specs.declared.errors.ReadlineError.{ReadlineError}
 use Rattle.line_config.specs.declared.errors.ReadlineError.TheVariants.{Display, Lines, Memory}
 use Rattle.line_config.specs.Sending.{Takes, TakesSome, Sends}
@@ -14,7 +14,7 @@ use Rattle.line_screen.specs.ScreenCalls.{NothingWaits, Sent, CutSending, sink_o
 use Rattle.line_screen.specs.Drawing.{row_break, break_if}
 use Rattle.line_screen.specs.declared.renderer.ScreenRenderer.{ScreenRenderer}
 use Rattle.line_screen.proofs.WaitingLemmas.{sent_rests, unsent_rests}
-use Rattle.keyline.specs.SessionEffects.{AreDone, Closes, DrawsEnd, EndIsCut, EndIsDrawn, CutSessionEvent, RowIsCut, RowIsDrawn, WantsMemory, Went, Work, breaks, work}
+use Rattle.keyline.specs.SessionEffects.{AreDone, Closes, DrawsEnd, CutSessionEvent, RowIsCut, RowIsDrawn, WantsMemory, Went, Work, breaks, work}
 use Rattle.keyline.specs.Events.{SessionEvent, Breaks, Keeps, Writes, end_events}
 use Rattle.keyline.specs.Sessions.{history_after, history_with_if, line_text}
 use Rattle.keyline.proofs.EventLemmas.{none_done, remembered_none}
@@ -23,6 +23,13 @@ true_not_false : (b : Bool) → b ≡ true → b ≡ false → ⊥
 true_not_false b one other = absurd (cc)
 
 -- ---- the end of a line on the display and in the history
+
+module _ {D : Type 0} (shown : D → List ℕ) (show_failed : D → Bool) (adds : Bool) (outcome : Result (List ℕ) ReadlineError) (d d' : D) (h h' : Filed) where
+  abbrev pub EndIsDrawn : Type 0
+  EndIsDrawn = DrawsEnd shown show_failed adds outcome d d' h h' (Ok (tt {0}))
+
+  abbrev pub EndIsCut : ReadlineError → Type 0
+  EndIsCut e = DrawsEnd shown show_failed adds outcome d d' h h' {A = ⊤} (Err e)
 
 module _ {D : Type 0} (held waits : D → List ℕ) (failed : D → Bool) where
   pub row_drawn : {A : Type 0} (asked : Bool) (old new : ScreenRenderer D) (result : Result A ReadlineError) → asked ≡ true → OnOk result (Sent held waits failed row_break old new) → OnErr result (CutSending held failed row_break old new) → IfErr result (λ e. e ≡ Display)
@@ -56,12 +63,12 @@ module _ {D : Type 0} (shown : D → List ℕ) (show_failed : D → Bool) (adds 
   -- an accepted line is in the history, or memory ran out for it
   pub end_kept : {A : Type 0} (text : List ℕ) (h' : Filed) (result : Result A ReadlineError) → outcome ≡ Ok text → Row → OnOk result (h' ≡ history_with_if adds (text ∷ []) h) → OnErr result (h' ≡ h)
       → IfErr result (λ e. (e ≡ Memory) × IsTrue (adds && takes h text)) → End h' result
-  end_kept text h' (Ok x) is row added kept fault = record { row = row; kept = subst (λ o. h' ≡ history_after adds o h) (sym is) added }
+  end_kept text h' (Ok x) is row added kept fault = (row, subst (λ o. h' ≡ history_after adds o h) (sym is) added)
   end_kept text h' (Err e) is row added kept fault = rw fault.0 (row, subst (λ o. WantsMemory adds h o Memory) (sym is) (refl, fault.1), kept)
 
   -- no line was accepted
   pub end_other : (e : ReadlineError) → outcome ≡ Err e → Row → EndIsDrawn shown show_failed adds outcome d d' h h
-  end_other e is row = record { row = row; kept = sym (ap (λ o. history_after adds o h) is) }
+  end_other e is row = (row, sym (ap (λ o. history_after adds o h) is))
 
 -- ---- and the line that is written
 
@@ -196,13 +203,13 @@ module _ {D L : Type 0} (shown : D → List ℕ) (show_failed : D → Bool) (wri
       → Ends adds outcome (work d l h) (work d' l' h') (answer_map string_bytes result)
   closes_accepted adds text outcome d d' l l' h h' result is end wrote named same =
       let drawn = subst (λ o. EndIsDrawn shown show_failed adds o d d' h h') is end in
-      rw (is, sym (same_text text result same)) (closes_written adds text d d' l l' h h' result drawn.row.drawn drawn.row.works drawn.kept wrote named)
+      rw (is, sym (same_text text result same)) (closes_written adds text d d' l l' h h' result drawn.0.drawn drawn.0.works drawn.1 wrote named)
 
   pub closes_refused : (adds : Bool) (e : ReadlineError) (outcome : Result (List ℕ) ReadlineError) (d d' : D) (l : L) (h h' : Filed)
       → outcome ≡ Err e → EndIsDrawn shown show_failed adds outcome d d' h h' → Ends adds outcome (work d l h) (work d' l h') (Err e)
   closes_refused adds e outcome d d' l h h' is end =
       let drawn = subst (λ o. EndIsDrawn shown show_failed adds o d d' h h') is end in
-      rw (is, drawn.kept) (closes_other adds e d d' l h drawn.row.drawn drawn.row.works drawn.row.stays)
+      rw (is, drawn.1) (closes_other adds e d d' l h drawn.0.drawn drawn.0.works drawn.0.stays)
 
   -- its end was cut
   pub closes_cut : (adds : Bool) (outcome : Result (List ℕ) ReadlineError) (d d' : D) (l : L) (h h' : Filed) (result : Result (List ℕ) ReadlineError) (e : ReadlineError)

@@ -1,5 +1,5 @@
 -- A line at a desk: what `run` gives, and then the line's end.
-use Rattle.std.proofs.Common.{◌≡◌, ℕ, suc, ◌<◌, Bool, true, false, List, [], ◌∷◌, ◌++◌, inl, inr, refl, sym, ap, ◌∙◌, subst, IsTrue, Option, Result, Ok, Err, IfErr, OnOk, le_refl}
+use Rattle.std.proofs.Common.{◌≡◌, ℕ, suc, ◌<◌, Bool, true, false, ◌⊎◌, List, [], ◌∷◌, ◌++◌, inl, inr, refl, sym, ap, ◌∙◌, subst, IsTrue, Option, Result, Ok, Err, IfErr, OnOk, le_refl}
 use Rattle.std.specs.List.{flat_map}
 use Rattle.std.specs.Prelude.{⊤, String, if◌then◌else◌, string_bytes}
 use Rattle.std.specs.Global.{Global}
@@ -17,14 +17,14 @@ use Rattle.line_editor.specs.States.{reason_of, cause_of}
 use Rattle.line_editor.specs.EditSteps.{surface}
 use Rattle.line_editor.specs.Values.{Setting}
 use Rattle.line_editor.specs.declared.line_run.Ran.{Ran}
-use Rattle.line_screen.specs.ScreenCalls.{canvas_of, screen_of, sink_of, ruler_of}
+use Rattle.line_screen.specs.ScreenCalls.{NothingWaits, canvas_of, screen_of, sink_of, ruler_of}
 use Rattle.line_screen.specs.Reader.{items_of}
 use Rattle.line_screen.specs.declared.reading.reader.KeyReader.{KeyReader}
 use Rattle.line_screen.specs.declared.renderer.ScreenRenderer.{ScreenRenderer}
 use Rattle.line_screen.proofs.CallLemmas.{goes_stay}
 use Rattle.line_screen.proofs.WaitingLemmas.{reads_find_nothing_waiting}
 use Rattle.keyline.specs.Desks.{TakesLine, DeskReason, desk_feed, session_state_of, work_of}
-use Rattle.keyline.specs.SessionEffects.{KnownDevices, HasPassedOn, HasPassedLines, AreDone, Closes, CloseReason, SessionReason, Went, Work, work}
+use Rattle.keyline.specs.SessionEffects.{KnownDevices, AreDone, Closes, SessionReason, WantsMemory, Went, Work, work}
 use Rattle.keyline.specs.Events.{SessionEvent, Course, Begins, Breaks, events_of, end_events, line_course, lines_kept, line_play_in}
 use Rattle.keyline.specs.Sessions.{Given, SessionState, given_of, history_after, history_with_if, state_at}
 use Rattle.keyline.specs.Shows.{EachShown}
@@ -94,7 +94,7 @@ module _ {S H D L K T : Type 0} (k : KnownDevices S D L) (helps : Option H → H
       goes_stay k.shown k.waits k.show_failed (ruler_of (screen_of old.out)) setting (line_script n custom) first (last runs) (outcome_of ran) (runs.goes t n (le_refl _))
 
   -- nothing waits after the line if nothing waited before it
-  line_passes : RunsAt → IsTrue (items_of k.feed reader).told → HasPassedOn k (sink_of old.out) → HasPassedOn k (sink_of ran.out)
+  line_passes : RunsAt → IsTrue (items_of k.feed reader).told → NothingWaits k.waits k.show_failed (sink_of old.out) → NothingWaits k.waits k.show_failed (sink_of ran.out)
   line_passes runs t none =
       let n = suc (desk_feed k old).bound in
       (reads_find_nothing_waiting k.shown k.waits k.show_failed n custom (ruler_of (screen_of old.out)) setting first (last runs) (outcome_of ran) none (runs.goes t n (le_refl _))).1
@@ -170,7 +170,9 @@ module _ {S H D L K T : Type 0} (k : KnownDevices S D L) (helps : Option H → H
         ap (λ s. given_of config custom prompt s (helps ran.helper)) (screen ∙ screen_stays runs t)
         ∙ ap (λ h. given_of config custom prompt (screen_of old.out) h) (runs.helper_stays t)
 
-    reason_of_close : RunsAt → (e : ReadlineError) → CloseReason config.auto_add_history old.history (outcome_of ran) (k.show_failed (sink_of ran.out)) (k.show_failed (sink_of out)) (k.write_failed lines) e
+    reason_of_close : RunsAt → (e : ReadlineError)
+        → ((outcome_of ran ≡ Err e) × (k.show_failed (sink_of out) ≡ k.show_failed (sink_of ran.out))) ⊎ (((e ≡ Display) × IsTrue (k.show_failed (sink_of out)))
+        ⊎ (((e ≡ Lines) × IsTrue (k.write_failed lines)) ⊎ WantsMemory config.auto_add_history old.history (outcome_of ran) e))
         → DeskReason k given new e
     reason_of_close runs e (inl p) =
         let cause = err_given ran.outcome string_bytes e _ runs.reason p.0 in
@@ -180,8 +182,8 @@ module _ {S H D L K T : Type 0} (k : KnownDevices S D L) (helps : Option H → H
     reason_of_close runs e (inr (inr (inl p))) = rw p.0 p.1
     reason_of_close runs e (inr (inr (inr p))) = rw p.0 tt
 
-    pub takes_line : RunsAt → Ends (outcome_of ran) → screen_of out ≡ screen_of ran.out → (HasPassedOn k (sink_of ran.out) → HasPassedOn k (sink_of out))
-        → (HasPassedLines k old.lines → HasPassedLines k lines) → TakesLine k given given' old new result
+    pub takes_line : RunsAt → Ends (outcome_of ran) → screen_of out ≡ screen_of ran.out → (NothingWaits k.waits k.show_failed (sink_of ran.out) → NothingWaits k.waits k.show_failed (sink_of out))
+        → (NothingWaits k.write_waits k.write_failed old.lines → NothingWaits k.write_waits k.write_failed lines) → TakesLine k given given' old new result
     takes_line runs closes screen passes passes_lines = record {
       goes = λ t n b.
           let w = line_goes runs closes t n b in
@@ -190,8 +192,7 @@ module _ {S H D L K T : Type 0} (k : KnownDevices S D L) (helps : Option H → H
       custom = refl;
       told = runs.told;
       falls = line_falls runs (closes.goes left);
-      passes = λ t none. passes (line_passes runs t none);
-      passes_lines = passes_lines;
+      passes = record { display = λ t none. passes (line_passes runs t none); lines = passes_lines };
       ends = record {
         drawn = ran.out;
         layout = runs.layout;

@@ -17,7 +17,7 @@ use Rattle.line_editor.specs.RenderCalls.Call.{Help}
 use Rattle.line_editor.specs.LineScripts.{CutLineAsk, Keys, LineAsk, LineScript, LineStage, LineState, Obeys, Stopped, effect_at, left_at, line_world, line_stage, played_from, steps_along}
 use Rattle.line_editor.specs.Redraws.{RedrawCalls, calls_of_redraw}
 use Rattle.line_editor.specs.States.{reason_of}
-use Rattle.line_editor.specs.EditSteps.{one, surface, Surface, CutStep, CutHelp, CutEditSteps as StepsStop}
+use Rattle.line_editor.specs.EditSteps.{calls_of_steps, one, surface, Surface, CutStep, CutHelp, CutEditSteps as StepsStop}
 use Rattle.line_editor.specs.Values.{Value, Setting, EditStep, shown_marks}
 use Rattle.line_editor.specs.Values.EditStep.{Draws as DrawStep, Helped as HelpStep}
 use Rattle.line_editor.proofs.StopsLemmas.{asked_both}
@@ -28,7 +28,6 @@ use Rattle.line_screen.proofs.CallLemmas.{sent_in_all}
 use Rattle.keyline.specs.Events.{SessionEvent, Takes, Helped, Draws, Hears, AllAnswered, asks_events, bytes_drawn, coming_after_events, lines_kept, lines_written, own_events, step_event, step_events}
 use Rattle.keyline.specs.SessionEffects.{AreDone, CutSessionEvent, Stands, Went, Work, work}
 use Rattle.keyline.specs.Sessions.{line_text, lines_text, history_with_if}
-use Rattle.keyline.specs.Shows.{calls_by_screen}
 use Rattle.keyline.proofs.ShowCourse.{all_of_map}
 
 -- ---- events, some after others
@@ -63,11 +62,11 @@ module _ (s : Screen) where
   abbrev drawn_in : List SessionEvent → List ℕ
   drawn_in events = flat_map bytes_drawn events
 
-  step_bytes : (l : Layout) (rs : List EditStep) → drawn_in (step_events s l rs) ≡ flat_map (bytes_of s) (calls_by_screen s l rs).calls
+  step_bytes : (l : Layout) (rs : List EditStep) → drawn_in (step_events s l rs) ≡ flat_map (bytes_of s) (calls_of_steps (ruler_of s) l rs).calls
   step_bytes l [] = refl
   step_bytes l (DrawStep v marks redraw ∷ rs) =
       let a = calls_of_redraw (ruler_of s) (shown_marks v marks) l redraw in
-      let more = (calls_by_screen s a.layout rs).calls in
+      let more = (calls_of_steps (ruler_of s) a.layout rs).calls in
       ap (λ b. b ++ drawn_in (step_events s a.layout rs)) (all_of_map (bytes_of s) a.calls)
       ∙ ap (λ b. flat_map (bytes_of s) a.calls ++ b) (step_bytes a.layout rs)
       ∙ sym (flat_map-append (bytes_of s) a.calls more)
@@ -88,34 +87,34 @@ module _ (s : Screen) where
     own_bytes k (Keys (Reads item)) more = refl
     own_bytes k _ more = refl
 
-    pub asks_bytes : (l : Layout) (k : LineState) (asks : List LineAsk) → drawn_in (asks_events s a l k asks) ≡ flat_map (bytes_of s) (calls_by_screen s l (steps_along a k asks)).calls
+    pub asks_bytes : (l : Layout) (k : LineState) (asks : List LineAsk) → drawn_in (asks_events s a l k asks) ≡ flat_map (bytes_of s) (calls_of_steps (ruler_of s) l (steps_along a k asks)).calls
     asks_bytes l k [] = refl
     asks_bytes l k (ask ∷ asks) =
         let rs = (effect_at a k ask).steps in
         let left = left_at a k ask in
-        let x = calls_by_screen s l rs in
+        let x = calls_of_steps (ruler_of s) l rs in
         let more = asks_events s a x.layout left asks in
         let later = steps_along a left asks in
         flat_map-append bytes_drawn (step_events s l rs) (own_events a k ask ++ more)
         ∙ ap (λ b. b ++ drawn_in (own_events a k ask ++ more)) (step_bytes l rs)
         ∙ ap (λ b. flat_map (bytes_of s) x.calls ++ b) (own_bytes k ask more ∙ asks_bytes x.layout left asks)
-        ∙ sym (flat_map-append (bytes_of s) x.calls (calls_by_screen s x.layout later).calls)
+        ∙ sym (flat_map-append (bytes_of s) x.calls (calls_of_steps (ruler_of s) x.layout later).calls)
         ∙ ap (λ (q : RedrawCalls). flat_map (bytes_of s) q.calls) (sym (asked_both (ruler_of s) l rs later))
 
     -- the events of some asks, and of those after them
     pub asks_both : (l : Layout) (k : LineState) (xs ys : List LineAsk)
-        → asks_events s a l k (xs ++ ys) ≡ asks_events s a l k xs ++ asks_events s a (calls_by_screen s l (steps_along a k xs)).layout (left_along a k xs) ys
+        → asks_events s a l k (xs ++ ys) ≡ asks_events s a l k xs ++ asks_events s a (calls_of_steps (ruler_of s) l (steps_along a k xs)).layout (left_along a k xs) ys
     asks_both l k [] ys = refl
     asks_both l k (ask ∷ xs) ys =
         let rs = (effect_at a k ask).steps in
         let left = left_at a k ask in
-        let m = (calls_by_screen s l rs).layout in
+        let m = (calls_of_steps (ruler_of s) l rs).layout in
         let events = step_events s l rs in
         let own = own_events a k ask in
         let mine = asks_events s a m left xs in
         let after = left_along a left xs in
         let others : Layout → List SessionEvent = λ l. asks_events s a l after ys in
-        let there = (calls_by_screen s m (steps_along a left xs)).layout in
+        let there = (calls_of_steps (ruler_of s) m (steps_along a left xs)).layout in
         ap (λ b. events ++ (own ++ b)) (asks_both m left xs ys)
         ∙ ap (λ b. events ++ b) (sym (append_assoc own mine (others there)))
         ∙ sym (append_assoc events (own ++ mine) (others there))
@@ -241,20 +240,20 @@ module _ {D L : Type 0} (shown : D → List ℕ) (written_in : L → List ℕ) (
         let took = subst (TakesAll shown (sink_of a) (sink_of m)) (append-nil (bytes_of s call)) (calls_sent (call ∷ []) a m is (m, made, refl)) in
         some_then shown (sink_of a) (sink_of m) (sink_of b) (bytes_of s call) (flat_map (bytes_of s) calls) took (calls_break calls m b (screen_kept (call ∷ []) a m is (m, made, refl)) h)
 
-    steps_answered : (l : Layout) (rs : List EditStep) (a b : ScreenRenderer D) → Drawn (calls_by_screen s l rs).calls a b → AllAnswered (step_events s l rs)
+    steps_answered : (l : Layout) (rs : List EditStep) (a b : ScreenRenderer D) → Drawn (calls_of_steps (ruler_of s) l rs).calls a b → AllAnswered (step_events s l rs)
     steps_answered l [] a b made = tt
     steps_answered l (DrawStep v marks redraw ∷ rs) a b made =
         let x = calls_of_redraw (ruler_of s) (shown_marks v marks) l redraw in
-        let parts = folds_apart (MadeIn canvas) x.calls (calls_by_screen s x.layout rs).calls a b made in
+        let parts = folds_apart (MadeIn canvas) x.calls (calls_of_steps (ruler_of s) x.layout rs).calls a b made in
         steps_answered x.layout rs parts.0 b parts.2
     steps_answered l (HelpStep v fails takes ∷ rs) a b made = (made.1.0, steps_answered l rs made.0 b made.2)
     steps_answered l (_ ∷ rs) a b made = steps_answered l rs a b made
 
-    steps_done : (rs : List EditStep) (c : Coming) (a b : Surface (ScreenRenderer D)) → screen_of a.out ≡ s → Drawn (calls_by_screen s a.layout rs).calls a.out b.out → Sums (step_events s a.layout rs) (on a.out c) (on b.out c)
+    steps_done : (rs : List EditStep) (c : Coming) (a b : Surface (ScreenRenderer D)) → screen_of a.out ≡ s → Drawn (calls_of_steps (ruler_of s) a.layout rs).calls a.out b.out → Sums (step_events s a.layout rs) (on a.out c) (on b.out c)
     steps_done rs c a b is made =
         let quiet = step_quiet s a.layout rs in
         record {
-          drawn = subst (TakesAll shown (sink_of a.out) (sink_of b.out)) (sym (step_bytes s a.layout rs)) (calls_sent (calls_by_screen s a.layout rs).calls a.out b.out is made);
+          drawn = subst (TakesAll shown (sink_of a.out) (sink_of b.out)) (sym (step_bytes s a.layout rs)) (calls_sent (calls_of_steps (ruler_of s) a.layout rs).calls a.out b.out is made);
           wrote = subst (λ xs. TakesAll written_in lines lines (lines_text xs)) (sym quiet.1) (takes_none written_in lines lines refl);
           history_is = sym (remembered_none adds history) ∙ ap (λ xs. history_with_if adds xs history) (sym quiet.0);
           left_is = sym (step_left s c a.layout rs);
@@ -307,15 +306,15 @@ module _ {D L : Type 0} (shown : D → List ℕ) (written_in : L → List ℕ) (
       own_done (Keys (Reads item)) k out = record { drawn = takes_none shown (sink_of out) (sink_of out) refl; wrote = takes_none written_in lines lines refl; history_is = sym (remembered_none adds history); left_is = refl; answered = tt }
       own_done _ k out = record { drawn = takes_none shown (sink_of out) (sink_of out) refl; wrote = takes_none written_in lines lines refl; history_is = sym (remembered_none adds history); left_is = refl; answered = tt }
 
-      asks_done : (asks : List LineAsk) (k : LineState) (l : Layout) (x y : ScreenRenderer D) → screen_of x ≡ s → Drawn (calls_by_screen s l (steps_along a k asks)).calls x y
+      asks_done : (asks : List LineAsk) (k : LineState) (l : Layout) (x y : ScreenRenderer D) → screen_of x ≡ s → Drawn (calls_of_steps (ruler_of s) l (steps_along a k asks)).calls x y
           → Sums (asks_events s a l k asks) (on x k.coming) (on y (left_along a k asks).coming)
       asks_done [] k l x y is made = subst (λ y. Sums [] (on x k.coming) (on y k.coming)) made (none_done (on x k.coming))
       asks_done (ask ∷ asks) k l x y is made =
           let rs = (effect_at a k ask).steps in
           let left = left_at a k ask in
-          let m = calls_by_screen s l rs in
+          let m = calls_of_steps (ruler_of s) l rs in
           let later = steps_along a left asks in
-          let parts = folds_apart (MadeIn canvas) m.calls (calls_by_screen s m.layout later).calls x y (subst (λ (q : RedrawCalls). Drawn q.calls x y) (asked_both (ruler_of s) l rs later) made) in
+          let parts = folds_apart (MadeIn canvas) m.calls (calls_of_steps (ruler_of s) m.layout later).calls x y (subst (λ (q : RedrawCalls). Drawn q.calls x y) (asked_both (ruler_of s) l rs later) made) in
           done_both (steps_done rs k.coming (surface x l) (surface parts.0 m.layout) is parts.1)
           (done_both (own_done ask k parts.0) (asks_done asks left m.layout parts.0 y (screen_kept m.calls x parts.0 is parts.1) parts.2))
 
@@ -327,7 +326,7 @@ module _ {D L : Type 0} (shown : D → List ℕ) (written_in : L → List ℕ) (
           → Broken (asks_events s a x.drawn.layout x.kept (ask ∷ asks)) (at x) why (at y)
       ask_stopped ask asks why x y is (inl (stops, leaves)) =
           let rs = (effect_at a x.kept ask).steps in
-          let more = own_events a x.kept ask ++ asks_events s a (calls_by_screen s x.drawn.layout rs).layout (left_at a x.kept ask) asks in
+          let more = own_events a x.kept ask ++ asks_events s a (calls_of_steps (ruler_of s) x.drawn.layout rs).layout (left_at a x.kept ask) asks in
           let events = step_events s x.drawn.layout rs ++ more in
           subst (λ c. Broken events (at x) why (on y.drawn.out c)) (sym (leaves_coming ask x.kept y.kept why leaves))
           (went_before more (steps_stopped rs x.kept.coming why y.kept.value x.drawn y.drawn is stops))
@@ -369,10 +368,10 @@ module _ {D L : Type 0} (shown : D → List ℕ) (written_in : L → List ℕ) (
               let q = played_from a p x.kept in
               let first = subst (λ (k : LineState). Sums (asks_events s a x.drawn.layout x.kept h.done) (at x) (on h.at.drawn.out k.coming)) (sym h.kept_is)
               (asks_done h.done x.kept x.drawn.layout x.drawn.out h.at.drawn.out is h.drawn.0) in
-              let now : screen_of h.at.drawn.out ≡ s = screen_kept (calls_by_screen s x.drawn.layout (steps_along a x.kept h.done)).calls x.drawn.out h.at.drawn.out is h.drawn.0 in
+              let now : screen_of h.at.drawn.out ≡ s = screen_kept (calls_of_steps (ruler_of s) x.drawn.layout (steps_along a x.kept h.done)).calls x.drawn.out h.at.drawn.out is h.drawn.0 in
               let next = ask_stopped h.ask h.others h.fault h.at y now h.stopped in
               let E : Layout → LineState → List SessionEvent = λ l k. asks_events s a l k (h.ask ∷ h.others) in
-              let there = (calls_by_screen s x.drawn.layout (steps_along a x.kept h.done)).layout in
+              let there = (calls_of_steps (ruler_of s) x.drawn.layout (steps_along a x.kept h.done)).layout in
               let placed : Broken (E there (left_along a x.kept h.done)) (at h.at) h.fault (at y) =
               subst (λ k. Broken (E there k) (at h.at) h.fault (at y)) h.kept_is (subst (λ l. Broken (E l h.at.kept) (at h.at) h.fault (at y)) h.drawn.1 next) in
               let mine = asks_events s a x.drawn.layout x.kept h.done in

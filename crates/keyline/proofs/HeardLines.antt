@@ -17,11 +17,14 @@ use Rattle.line_editor.specs.Values.{Setting}
 use Rattle.line_editor.proofs.ToldLemmas.{left_along, played_each}
 use Rattle.line_screen.specs.ScreenCalls.{Screen, ruler_of}
 use Rattle.keyline.specs.Events.{Begins, Breaks, Course, Hears, asks_events, end_events, course_after_line, line_course, own_events, first_in, line_play_in, session, step_events}
-use Rattle.keyline.specs.SessionLaws.{IsBeginning, LinesBegin, SessionsBegin}
-use Rattle.keyline.specs.Sessions.{Given, SessionState, coming_from, setting_in, state_over, LineGiven, for_line}
-use Rattle.keyline.specs.Shows.{calls_by_screen}
+use Rattle.keyline.specs.SessionLaws.{EventsBegin}
+use Rattle.keyline.specs.Sessions.{Given, SessionState, coming_from, setting_in, state_at, LineGiven, for_line}
 use Rattle.keyline.proofs.EventLemmas.{asks_both}
 use Rattle.keyline.proofs.HeardBytes.{NeverEnds, Opens, bytes_open}
+
+-- the one is a prefix of the other
+abbrev IsBeginning : {A : Type 0} → List A → List A → Type 0
+IsBeginning {A} xs ys = (later : List A) × (ys ≡ xs ++ later)
 
 -- ---- a read that fails
 
@@ -151,7 +154,7 @@ module _ (n : ℕ) (g : Given) (x : SessionState) (h : Coming) (on : Opens h x.c
       elim (goes a (line_script n g.custom) k h x.coming on) [
         | inl same ↦ inl (record { events = heard ∙ rw (same.asks, same.answer) refl; answer = rw (same.answer, same.ring, same.modal) refl; rest = same.rest })
         | inr cut ↦
-            let more = asks_events s a (calls_by_screen s l (steps_along a k p.asks)).layout (left_along a k p.asks) cut.later ++ end_events q.answer in
+            let more = asks_events s a (calls_of_steps (ruler_of s) l (steps_along a k p.asks)).layout (left_along a k p.asks) cut.later ++ end_events q.answer in
             let fewer : one.events ≡ Begins s ∷ mine =
             heard ∙ ap (λ events. Begins s ∷ (mine ++ events)) (ap end_events cut.answer ∙ ap (λ b. if b then Breaks ∷ [] else []) cut.unbroken) ∙ ap (λ events. Begins s ∷ events) (append-nil mine) in
             let all : other.events ≡ (Begins s ∷ mine) ++ more =
@@ -188,13 +191,13 @@ session_begins (suc n) g at x h on =
 
 -- ---- the laws
 
-pub lines_begin : LinesBegin
+pub lines_begin : (n : ℕ) (g : Given) → EventsBegin (λ x. (line_course n g x).events)
 lines_begin n g ring query history mode bytes more last =
-    elim (line_goes n g (state_over ring query history mode (bytes ++ more) last) (coming_from mode bytes SourceFailed) (bytes_open mode bytes more last)) [
+    elim (line_goes n g (state_at ring query history (coming_from mode (bytes ++ more) last)) (coming_from mode bytes SourceFailed) (bytes_open mode bytes more last)) [
       | inl same ↦ ([], sym same.events ∙ sym (append-nil _))
       | inr cut ↦ cut.begins
     ]
 
-pub sessions_begin : SessionsBegin
+pub sessions_begin : (n : ℕ) (g : Given) (at : ℕ → LineGiven) → EventsBegin (λ x. (session n g at x).events)
 sessions_begin n g at ring query history mode bytes more last =
-    session_begins n g at (state_over ring query history mode (bytes ++ more) last) (coming_from mode bytes SourceFailed) (bytes_open mode bytes more last)
+    session_begins n g at (state_at ring query history (coming_from mode (bytes ++ more) last)) (coming_from mode bytes SourceFailed) (bytes_open mode bytes more last)

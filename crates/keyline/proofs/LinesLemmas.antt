@@ -1,11 +1,11 @@
 -- Lines in a loop, with one prompt, and with a prompt and columns for each.
 use Rattle.std.proofs.Common.{◌≡◌, ℕ, suc, List, Result, Ok, Err, IsTrue, refl, sym, ap, ◌∙◌, subst}
 use Rattle.line_config.specs.declared.errors.ReadlineError.{ReadlineError}
-use Rattle.line_screen.specs.ScreenCalls.{sink_of}
+use Rattle.line_screen.specs.ScreenCalls.{NothingWaits, sink_of}
 use Rattle.line_screen.specs.declared.renderer.ScreenRenderer.{ScreenRenderer}
 use Rattle.keyline.specs.Desks.{TakesLine, TakesLines, desk_feed, session_state_of}
 use Rattle.keyline.specs.Events.{session}
-use Rattle.keyline.specs.SessionEffects.{KnownDevices, HasPassedOn, Went, Work, work}
+use Rattle.keyline.specs.SessionEffects.{KnownDevices, Went, Work, work}
 use Rattle.keyline.specs.Sessions.{Given, LineGiven, each, for_line}
 use Rattle.keyline.specs.declared.desk.Desk.{Desk}
 use Rattle.keyline.proofs.SessionSteps.{Onward, onward_nowhere, onward_ok, onward_err}
@@ -52,8 +52,7 @@ module _ {S H D L : Type 0} (k : KnownDevices S D L) where
   onward_redrawn : (g : Given) (at at' : ℕ → LineGiven) (first now : Desk S H D L) (out : ScreenRenderer D) → sink_of out ≡ sink_of now.out → Onward k g at at' first now → Onward k g at at' first (record now { out = out })
   onward_redrawn g at at' first now out same before = record {
     told = before.told;
-    passes = λ t none. subst (HasPassedOn k) (sym same) (before.passes t none);
-    passes_lines = before.passes_lines;
+    passes = record { display = λ t none. subst (NothingWaits k.waits k.show_failed) (sym same) (before.passes.display t none); lines = before.passes.lines };
     onward = λ t n b.
         let so = before.onward t n b in
         let lines = session so.0 g at' (session_state_of k now) in

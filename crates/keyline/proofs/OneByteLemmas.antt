@@ -28,7 +28,7 @@ use Rattle.line_editor.specs.Redraws.{RedrawCalls, full, rest_call, nothing_aske
 use Rattle.line_editor.proofs.ShortCalls.{move_call, char_call, append_call, put_in_short, taken_out_short, write_over_call}
 use Rattle.line_editor.specs.Redraws.Redraw.{Drawn, Moved, Typed, Appended, Taken, Erased, PutIn, TakenOut, DrawnFrom, Bared, ToEnd, Cleared, Rewritten}
 use Rattle.line_editor.specs.Sights.{Sight, sight, Fits}
-use Rattle.line_editor.specs.EditSteps.{one}
+use Rattle.line_editor.specs.EditSteps.{calls_of_steps, one}
 use Rattle.line_editor.specs.Values.{shown_marks, Value, Setting, Effect, EditStep, help_steps, hint_reply, no_effect}
 use Rattle.line_editor.specs.Values.EditStep.{Draws, Helped}
 use Rattle.line_editor.specs.declared.commands.Status.{Status}
@@ -41,7 +41,7 @@ use Rattle.line_screen.specs.Drawing.DrawnItem.{Letter}
 use Rattle.line_screen.specs.Measure.{in_row}
 use Rattle.line_screen.proofs.Items.{letter_items}
 use Rattle.keyline.proofs.ShowSteps.{if_none, small}
-use Rattle.keyline.specs.Shows.{TellsSight, LayoutsTell, TypedAtEnd, OneByte, ReadAlone, calls_by_screen, bytes_for}
+use Rattle.keyline.specs.Shows.{TellsSight, LayoutsTell, TypedAtEnd, OneByte, ReadAlone, bytes_for}
 use Rattle.script.specs.Scripts.{Asks, Ends}
 
 -- ---- the layout that is kept
@@ -123,8 +123,8 @@ shown_short a u step c false way from room after = cc
 -- neither sends anything
 help_bytes : {A : Type 0} (s : Screen) (l : Layout) (u : Value) (step : EditStep) (reply : Option (Reply A)) (steps : List EditStep) → one (ruler_of s) l step ≡ nothing_asked l
     → bytes_for s l (step ∷ (help_steps u reply ++ steps)) ≡ bytes_for s l steps
-help_bytes s l u step None steps nothing = ap (λ a. flat_map (bytes_of s) (a.calls ++ (calls_by_screen s a.layout steps).calls)) nothing
-help_bytes s l u step (Some reply) steps nothing = ap (λ a. flat_map (bytes_of s) (a.calls ++ (calls_by_screen s a.layout (Helped u (fails reply) reply.takes ∷ steps)).calls)) nothing
+help_bytes s l u step None steps nothing = ap (λ a. flat_map (bytes_of s) (a.calls ++ (calls_of_steps (ruler_of s) a.layout steps).calls)) nothing
+help_bytes s l u step (Some reply) steps nothing = ap (λ a. flat_map (bytes_of s) (a.calls ++ (calls_of_steps (ruler_of s) a.layout (Helped u (fails reply) reply.takes ∷ steps)).calls)) nothing
 
 sent_short : (s : Screen) (l : Layout) (a : Setting) (u : Value) (step : EditStep) (c : ℕ) (b : Bool) (way : Way) (from : Option Since) → b ≡ true
     → (let shown = show_inserted_effect c way from a u in let e : Effect = if b then record { value = shown.value; steps = step ∷ shown.steps } else no_effect a u in
@@ -197,7 +197,7 @@ turned_steps n a custom k c rests alone =
     ∙ ap (λ steps. first ++ steps) (append-nil (insert_char c 1 a k.value).steps)
 
 -- after steps that call nothing
-unasked_bytes : (s : Screen) (l : Layout) (xs ys : List EditStep) → calls_by_screen s l xs ≡ nothing_asked l → bytes_for s l (xs ++ ys) ≡ bytes_for s l ys
+unasked_bytes : (s : Screen) (l : Layout) (xs ys : List EditStep) → calls_of_steps (ruler_of s) l xs ≡ nothing_asked l → bytes_for s l (xs ++ ys) ≡ bytes_for s l ys
 unasked_bytes s l xs ys none = rw (asked_both (ruler_of s) l xs ys, none) refl
 
 pub one_byte : OneByte

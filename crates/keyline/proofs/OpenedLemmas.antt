@@ -8,7 +8,7 @@ use Rattle.line_keys.specs.CustomBindings.{Custom, custom_of, Meaning}
 use Rattle.line_screen.specs.ScreenCalls.{Screen, screen_of}
 use Rattle.keyline.specs.Desks.{desk_feed, session_state_of}
 use Rattle.keyline.specs.SessionEffects.{KnownDevices}
-use Rattle.keyline.specs.Program.{EditHelper, edit_helping, start_by, EditsBy, given_to, helper_of, nothing_bound}
+use Rattle.keyline.specs.Program.{EditHelper, edit_helping, start_by, EditsBy, helper_of, nothing_bound}
 use Rattle.keyline.specs.SessionCalls.{Opens, history_loaded_from, RunsSession}
 use Rattle.keyline.specs.Sessions.{coming_from, given_of, Given}
 use Rattle.keyline.specs.declared.desk.Desk.{Desk}
@@ -54,14 +54,14 @@ module _ {F S D L T : Type 0} (loads : F → Feed) (k : KnownDevices S D L) (hel
       → config' ≡ config → prompt ≡ string_bytes options.prompt → helper ≡ helper_of config options words → text' ≡ text → custom ≡ nothing_bound
       → EditsBy loads k held failed asked config options words history source display lines text ended
   edited asked config options words history source display lines text text' ended desk config' custom prompt helper opens runs config_is prompt_is helper_is text_is custom_is =
-      let given : given_of config' custom prompt (screen_of desk.out) (edit_helping desk.helper) ≡ given_to config options desk =
+      let given : given_of config' custom prompt (screen_of desk.out) (edit_helping desk.helper) ≡ given_of config nothing_bound (string_bytes options.prompt) (screen_of desk.out) (edit_helping desk.helper) =
       given_as config config' nothing_bound custom (string_bytes options.prompt) prompt (screen_of desk.out) (screen_of desk.out) desk.helper desk.helper
       config_is custom_is prompt_is refl refl in
       let runs' = subst (λ (x : Given). RunsSession k held failed asked x desk text' ended) given runs in
       record {
         desk = desk;
         opens = subst (λ (x : Option EditHelper). Opens loads k.feed config history x source options.columns display lines desk) helper_is opens;
-        runs = subst (λ (x : T). RunsSession k held failed asked (given_to config options desk) desk x ended) text_is runs';
+        runs = subst (λ (x : T). RunsSession k held failed asked (given_of config nothing_bound (string_bytes options.prompt) (screen_of desk.out) (edit_helping desk.helper)) desk x ended) text_is runs';
       }
 
 -- ---- closed

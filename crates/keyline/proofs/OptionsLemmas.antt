@@ -8,7 +8,7 @@ use Rattle.clap.specs.declared.parser.matches.ArgMatches.{ArgMatches}
 use Rattle.clap.specs.declared.error.kind.ErrorKind.{ErrorKind}
 use Rattle.clap.specs.declared.error.kind.ErrorKind.TheVariants.{DisplayHelp, InvalidValue, OutOfMemory}
 use Rattle.clap.proofs.OnLiterals.{clap_on_literals}
-use Rattle.keyline.specs.Options.{ParsesTo, FailsBy, TakesOptions, Says, command_line}
+use Rattle.keyline.specs.Options.{ParsesTo, FailsBy, Says, command_line}
 use Rattle.keyline.specs.declared.options.Options.{Options}
 use Rattle.keyline.specs.declared.options.Parsed.{Parsed}
 use Rattle.keyline.specs.declared.options.Parsed.TheVariants.{Run, Help, Usage, Memory}
@@ -52,6 +52,7 @@ fails_by app words e is kinds = elim (subst (λ a. is_simple_and_free a ≡ true
   | inr among ↦ inr (inl among)
 ]
 
-pub fails_with : (words : List Text) (e : Error) (r : Result Options Error) → FailsBy words (kind_of e) → IsErrAnd r (λ x. x ≡ e) → TakesOptions words r
+pub fails_with : (words : List Text) (e : Error) (r : Result Options Error) → FailsBy words (kind_of e) → IsErrAnd r (λ x. x ≡ e)
+    → MatchResult r (λ options. ParsesTo words (Run options)) (λ error. FailsBy words (kind_of error))
 fails_with words e (Ok options) fails same = absurd same
 fails_with words e (Err x) fails same = subst (λ (y : Error). FailsBy words (kind_of y)) (sym same) fails

@@ -8,9 +8,8 @@ use Rattle.line_editor.specs.LineRun.{breaks_after}
 use Rattle.line_editor.specs.Redraws.{fresh}
 use Rattle.keyline.specs.Events.{SessionEvent, Course, Breaks, Keeps, Writes, LinesInOrder, end_events, events_of, first_in, asks_events, own_events, step_events, course_after_line, line_course, lines_kept, lines_written, line_play_in, session}
 use Rattle.keyline.specs.Sessions.{Given, LineGiven, SessionState, for_line, setting_in}
-use Rattle.keyline.specs.Shows.{calls_by_screen}
 use Rattle.line_buffer.specs.declared.layout.Layout.{Layout}
-use Rattle.line_editor.specs.EditSteps.{one}
+use Rattle.line_editor.specs.EditSteps.{calls_of_steps, one}
 use Rattle.line_editor.specs.LineScripts.{Keys, LineAsk, LineState, effect_at, left_at}
 use Rattle.line_editor.specs.Values.{EditStep, Setting}
 use Rattle.line_editor.specs.Values.EditStep.{Draws}
@@ -39,7 +38,7 @@ module _ (s : Screen) (tail : List SessionEvent) (rest : Ordered [] tail) where
   asks_first a l k [] = rest
   asks_first a l k (ask ∷ asks) =
       let steps = (effect_at a k ask).steps in
-      let m = (calls_by_screen s l steps).layout in
+      let m = (calls_of_steps (ruler_of s) l steps).layout in
       rw (append_assoc (step_events s l steps) _ tail, append_assoc (own_events a k ask) _ tail)
       (steps_first l steps (own_events a k ask ++ (asks_events s a m (left_at a k ask) asks ++ tail)) (own_first a k ask (asks_events s a m (left_at a k ask) asks ++ tail) (asks_first a m (left_at a k ask) asks)))
 
@@ -97,11 +96,5 @@ lines_in_order n g at x done next =
       sym (all.kept ∙ ap (λ hand. flat_map lines_written events ++ hand) all.rest ∙ append-nil (flat_map lines_written events)),
       λ split.
           let r = hand_of [] done next (search arith) (subst (λ events. Ordered [] events) split at_once) in
-          record {
-            in_hand = r.in_hand;
-            others = flat_map lines_kept next;
-            one = r.one;
-            kept = r.kept;
-            first = ap (λ events. flat_map lines_kept events) split ∙ flat_map-append lines_kept done next;
-          },
+          (r.in_hand, flat_map lines_kept next, r.one, r.kept, ap (λ events. flat_map lines_kept events) split ∙ flat_map-append lines_kept done next),
     )

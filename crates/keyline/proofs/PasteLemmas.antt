@@ -30,7 +30,7 @@ use Rattle.line_editor.specs.NextCommand.{with_group_begun, ring_after_reset}
 use Rattle.line_editor.specs.Values.{Setting, Value, empty_at, first_value, at_line, then_do, memory_effect}
 use Rattle.line_screen.specs.KeyGrammar.{coming_of, marker, paste_start, with_newlines}
 use Rattle.line_screen.proofs.Pasting.{pasted_text_is_before_its_mark}
-use Rattle.keyline.specs.Pasting.{paste_bytes, IsFree, IsPasteable, Accepts, IsUnbound, PastedLinesAreAccepted, PastesAreAccepted, PastesGoIn, line_with_paste}
+use Rattle.keyline.specs.Pasting.{paste_bytes, IsPasteable, IsUnbound, PastedLinesAreAccepted, PastesAreAccepted, PastesGoIn, line_with_paste}
 use Rattle.keyline.specs.Sessions.{coming_from, setting_in}
 use Rattle.std.proofs.Math.Seq.{take-nil, drop-nil}
 use Rattle.std.proofs.lemmas.Bool.Decides.{nat_tests}
@@ -59,6 +59,11 @@ use Rattle.keyline.specs.Program.{nothing_bound}
 use Rattle.keyline.specs.declared.session.TheConstants.{KILL_RING_SIZE}
 
 -- ---- what no binding answers, the tables do
+
+-- no binding is for this key
+record IsFree (custom : Custom) (k : KeyEvent) : Type 0 where
+  own : custom.answers (single k) ≡ None
+  any : custom.answers Any ≡ None
 
 unbound_answer : (s : Situation) (k : KeyEvent) → IsFree s.custom k → custom_answer s k ≡ gives_at_once None
 unbound_answer s k free =
@@ -258,14 +263,18 @@ module _ (s : Setting) (custom : Custom) where
       ap (λ script. ending (behind_key s (suc n) k rest script)) (enters input.mode input.input_mode custom input.last input.search input.modal_commands (shown_in k.value) n free)
 
 pub pastes_go_in : PastesGoIn
-pastes_go_in n s custom k text more last free grows rests paste comes =
-    let is = paste_turn s custom n k text more last free rests paste comes in (
+pastes_go_in n s custom k text more last own any grows rests paste comes =
+    let is = paste_turn s custom n k text more last (record { own = own; any = any }) rests paste comes in (
       ap (λ e. e.0) is,
       ap (λ e. e.1.coming) is,
       ap (λ e. e.1.value.line) is ∙ pasted_line _ text s k.value grows ∙ ap (λ b. line_with_paste b text k.value.line) (same_mode k.input.mode text k.input k),
     )
 
 -- ---- a whole line
+
+-- the text is accepted, and this remains of the input
+abbrev Accepts : Played LineAsk LineState ReadlineError (List ℕ) → List ℕ → Coming → Type 0
+Accepts p text rest = (p.answer ≡ Ok text) × (p.rest.coming ≡ rest)
 
 moved_text : (b : Bool) (kind : CmdKind) (l : Line) (s : Setting) (v : Value) → l.text ≡ v.line.text → (cursor_moved_if kind b l s v).value.line.text ≡ v.line.text
 moved_text true kind l s v is = is
@@ -281,13 +290,12 @@ accepted n s custom k text more last free empty grows rests paste comes =
     let w : Value = (accept_or_insert true bare j.value).value in
     let pastes = paste_turn bare custom n k text (0x0D ∷ more) last (free_key custom paste_start free) rests paste comes in
     let enters = turn_ends bare custom n j (with_rest j left) (AcceptOrInsertLine true) rests refl (enter_phrase bare custom n j (0x0D ∷ more) left (free_key custom enter free)) in
-    let is = turns_end bare custom (suc n) k j Proceed pastes ∙ turns_end bare custom n j (left_at bare (with_rest j left) (Obeys (AcceptOrInsertLine true))) Submit enters in
-    record {
-      outcome = ap (λ e. e.0) is ∙ ap Ok (moved_text (not (length w.line.text == w.line.place)) ForcedRefresh (record w.line { place = length w.line.text }) bare w refl
+    let is = turns_end bare custom (suc n) k j Proceed pastes ∙ turns_end bare custom n j (left_at bare (with_rest j left) (Obeys (AcceptOrInsertLine true))) Submit enters in (
+      ap (λ e. e.0) is ∙ ap Ok (moved_text (not (length w.line.text == w.line.place)) ForcedRefresh (record w.line { place = length w.line.text }) bare w refl
           ∙ ap (λ l. l.text) (pasted_line _ text bare k.value grows)
-          ∙ put_into_empty _ text k.value.line empty);
-      rest_is = ap (λ e. e.1.coming) is;
-    }
+          ∙ put_into_empty _ text k.value.line empty),
+      ap (λ e. e.1.coming) is,
+    )
 
 pub pastes_are_accepted : PastesAreAccepted
 pastes_are_accepted n s custom k text more last none free empty grows rests paste comes =
@@ -299,8 +307,7 @@ pasted_lines_are_accepted n g x text more last none free paste is =
     let s : Setting = setting_in g x.history.kept.entries in
     let e = (then_do memory_effect refresh_effect) s (first_value s) in
     let k = line_state e.value (new_input g.config) x.ring (modal_first g.config x.query) x.coming in
-    let a = pastes_are_accepted n s g.custom k text more last none free refl refl (first_rests g.config.modal_commands) paste is in
-    record { outcome = a.outcome; rest_is = a.rest_is }
+    pastes_are_accepted n s g.custom k text more last none free refl refl (first_rests g.config.modal_commands) paste is
 
 -- ---- worked rows
 
@@ -342,13 +349,13 @@ pasted_in input_mode text = played_from plain_setting (turns_script 2 nothing_bo
 
 pasted_row : Accepts (pasted_in Inserting (codes "a")) (codes "a") later
 unfolding turns_script turn_script answer_part memory_then with_read from_key show_then keep_then reply_then and_then common_action insert_action insert_table vi_insert pasted_in line_at plain_setting before_keys later lib.Utf8.encode
-pasted_row = record { outcome = refl; rest_is = refl }
+pasted_row = (refl, refl)
 
 empty_row : Accepts (pasted_in Command []) [] later
 unfolding turns_script turn_script answer_part memory_then with_read from_key show_then keep_then reply_then and_then common_action action_of command_table vi_counted vi_command pasted_in line_at plain_setting before_keys later lib.Utf8.encode
-empty_row = record { outcome = refl; rest_is = refl }
+empty_row = (refl, refl)
 
 -- a CR is a newline
 return_row : Accepts (pasted_in Overwriting (0x0D ∷ [])) (0x0A ∷ []) later
 unfolding turns_script turn_script answer_part memory_then with_read from_key show_then keep_then reply_then and_then common_action insert_action insert_table vi_insert pasted_in line_at plain_setting before_keys later lib.Utf8.encode
-return_row = record { outcome = refl; rest_is = refl }
+return_row = (refl, refl)

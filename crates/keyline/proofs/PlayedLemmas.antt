@@ -1,6 +1,6 @@
 -- A session by options, over all that is said of its keys.
 use Rattle.std.proofs.Common.{◌≡◌, ℕ, ◌+◌, ◌<◌, ◌^◌, Bool, false, IsTrue, List, [], ◌∷◌, ◌++◌, Option, refl, sym, ap, subst, ◌∙◌, append-nil, arith}
-use Rattle.std.specs.Prelude.{IsErr, IsOk, None, OnOk, Result, Ok, Err, is_err}
+use Rattle.std.specs.Prelude.{IsErr, IsOk, None, OnOk, Result, Ok, Err, is_err, string_bytes}
 use Rattle.line_config.specs.Feed.{AlwaysTold, Feed, fresh_feed}
 use Rattle.line_config.specs.Adapters.{to_come}
 use Rattle.line_config.specs.declared.config.Config.{Config}
@@ -14,9 +14,10 @@ use Rattle.std.specs.Option.{option_len}
 use Rattle.keyline.specs.Desks.{DeskReason, GoesShown, desk_feed, session_state_of, work_of}
 use Rattle.keyline.specs.Events.{SessionEvent, Takes, Helped, Draws, Hears, Breaks, Keeps, Writes, session}
 use Rattle.keyline.specs.SessionEffects.{KnownDevices, CutSessionEvent, SessionReason, Stands, Work, work}
-use Rattle.keyline.specs.Program.{EditsBy, given_by, given_to, helper_of, PlaysBytes, start_by}
+use Rattle.keyline.specs.Program.{EditsBy, edit_helping, given_with, helper_of, nothing_bound, PlaysBytes, start_by}
 use Rattle.keyline.specs.SessionCalls.{loads}
-use Rattle.keyline.specs.Sessions.{Given, SessionState, each}
+use Rattle.line_screen.specs.ScreenCalls.{screen_of}
+use Rattle.keyline.specs.Sessions.{Given, SessionState, each, given_of}
 use Rattle.keyline.specs.declared.options.Options.{Options}
 use Rattle.keyline.specs.declared.session.Ended.{Ended}
 use Rattle.keyline.proofs.OpenedLemmas.{given_as, state_first}
@@ -108,9 +109,9 @@ module _ {F S D L T : Type 0} (text_of : F → Feed) (k : KnownDevices S D L) (h
       let left_desk = edits.runs.last in
       let end = edits.runs.finishes in
       let why = edits.runs.why in
-      let g = given_by config options words in
+      let g = given_with config nothing_bound options words in
       let start = start_by config old bytes last in
-      let given_is : given_to config options desk ≡ g =
+      let given_is : given_of config nothing_bound (string_bytes options.prompt) (screen_of desk.out) (edit_helping desk.helper) ≡ g =
       given_as _ _ _ _ _ _ _ _ _ _ refl refl refl opens.screen opens.helper_is in
       let start_is : session_state_of k desk ≡ start =
       state_first text_of k config history (helper_of config options words) source options.columns display lines desk old bytes last opens always text_is coming_is last_is in

@@ -8,16 +8,15 @@ use Rattle.line_config.specs.declared.errors.ReadlineError.{ReadlineError}
 use Rattle.line_editor.specs.LineScripts.{LineAsk, LineState, effect_at, left_at, steps_along, played_from, line_script}
 use Rattle.line_editor.specs.Redraws.{fresh}
 use Rattle.line_editor.specs.LineRun.{first_line_state}
-use Rattle.line_editor.specs.EditSteps.{one}
+use Rattle.line_editor.specs.EditSteps.{one, calls_of_steps}
 use Rattle.line_editor.specs.Values.{EditStep, Setting, shown_marks}
 use Rattle.line_editor.specs.Values.EditStep.{Draws as DrawStep, Helped as HelpStep}
 use Rattle.line_help.specs.History.{Filed, nothing_filed, ignores_line, history_with_lines, newest, entries_after}
 use Rattle.line_help.proofs.NewestLemmas.{all_new, length-newest, newest_behind}
 use Rattle.line_screen.specs.ScreenCalls.{Screen, ruler_of}
 use Rattle.keyline.specs.Events.{Course, Begins, Takes, Helped, Draws, asks_events, end_events, events_first, course_after_line, line_course, lines_kept, own_events, session, step_events}
-use Rattle.keyline.specs.SessionLaws.{at_columns, prompt_column, event_without_columns, ColumnsAreFree, LineColumnsAreFree, lines_taken, LastAreKept}
+use Rattle.keyline.specs.SessionLaws.{at_columns, prompt_column, event_without_columns, ColumnsAreFree, lines_taken, LastAreKept}
 use Rattle.keyline.specs.Sessions.{Given, SessionState, each, history_after, setting_in, state_at}
-use Rattle.keyline.specs.Shows.{calls_by_screen}
 
 -- ---- columns
 
@@ -35,12 +34,12 @@ module _ (s t : Screen) where
       let rs = (effect_at a k ask).steps in
       let left = left_at a k ask in
       let own = own_events a k ask in
-      let one_rest = asks_events s a (calls_by_screen s l rs).layout left asks in
-      let other_rest = asks_events t a (calls_by_screen t m rs).layout left asks in
+      let one_rest = asks_events s a (calls_of_steps (ruler_of s) l rs).layout left asks in
+      let other_rest = asks_events t a (calls_of_steps (ruler_of t) m rs).layout left asks in
       map-append event_without_columns (step_events s l rs) (own ++ one_rest)
       ∙ ap (λ events. events ++ map event_without_columns (own ++ one_rest)) (step_alike l m rs)
       ∙ ap (λ events. map event_without_columns (step_events t m rs) ++ events) (map-append event_without_columns own one_rest
-      ∙ ap (λ events. map event_without_columns own ++ events) (asks_alike a (calls_by_screen s l rs).layout (calls_by_screen t m rs).layout left asks)
+      ∙ ap (λ events. map event_without_columns own ++ events) (asks_alike a (calls_of_steps (ruler_of s) l rs).layout (calls_of_steps (ruler_of t) m rs).layout left asks)
       ∙ sym (map-append event_without_columns own other_rest))
       ∙ sym (map-append event_without_columns (step_events t m rs) (own ++ other_rest))
 
@@ -123,11 +122,9 @@ sessions_alike (suc n) g columns t e x =
     line_first (line_course (suc n) other x) (line_course (suc n) g x) (session n other (each other)) (session n g (each g)) (lines_alike (suc n) g x columns t e) (sessions_alike n g columns t e)
 
 pub columns_are_free : ColumnsAreFree
-columns_are_free n g x columns none e = let h = sessions_alike n g columns (untabbed g columns none) e x in (h.events, h.answer)
-
-pub line_columns_are_free : LineColumnsAreFree
 unfolding setting_at
-line_columns_are_free n g x columns none e =
+columns_are_free n g x columns none e =
+    let h = sessions_alike n g columns (untabbed g columns none) e x in
     let at : ℕ → Option TabStops → Setting = setting_at g x.history.kept.entries in
     let own = prompt_column g in
     let tabs = tabs_of (at_columns columns g) in
@@ -135,6 +132,8 @@ line_columns_are_free n g x columns none e =
     let first : Setting → LineState = λ a. first_line_state a x.ring x.query x.coming in
     let played = λ (a : Setting). played_from a (line_script n g.custom) (first_line_state a x.ring x.query x.coming) in
     let stepped = λ (a : Setting). steps_along a (first a) (played a).asks in (
+      h.events,
+      h.answer,
       ap (λ column. played (at column tabs)) e ∙ ap (λ tabs. played (at own tabs)) t,
       ap (λ column. stepped (at column tabs)) e ∙ ap (λ tabs. stepped (at own tabs)) t,
     )

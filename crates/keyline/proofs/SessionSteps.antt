@@ -4,10 +4,9 @@ use Rattle.line_config.specs.declared.errors.ReadlineError.{ReadlineError}
 use Rattle.line_config.specs.declared.errors.ReadlineError.TheVariants.{Handler}
 use Rattle.script.proofs.ScriptLaws.{fault_or, ok_not_err}
 use Rattle.line_keys.specs.CustomBindings.{HandlerFails}
-use Rattle.line_screen.specs.ScreenCalls.{sink_of}
-use Rattle.keyline.specs.Desks.{TakesLine, TakesLines, DeskReason, desk_feed, session_state_of, work_of}
+use Rattle.keyline.specs.Desks.{PassesOn, TakesLine, TakesLines, DeskReason, desk_feed, session_state_of, work_of}
 use Rattle.keyline.specs.Events.{Course, events_first, course_after_line, line_course, session}
-use Rattle.keyline.specs.SessionEffects.{KnownDevices, HasPassedOn, HasPassedLines, AreDone, Went, Work}
+use Rattle.keyline.specs.SessionEffects.{KnownDevices, AreDone, Went, Work}
 use Rattle.keyline.specs.Sessions.{Given, LineGiven, SessionState, for_line}
 use Rattle.keyline.specs.Shows.{EachShown}
 use Rattle.keyline.specs.declared.desk.Desk.{Desk}
@@ -29,14 +28,13 @@ module _ {S H D L : Type 0} (k : KnownDevices S D L) where
 -- lines were taken: what is read, drawn, kept and written from here on is, with them, what is so from the first desk on
 pub record Onward {S H D L : Type 0} (k : KnownDevices S D L) (g : Given) (at at' : ℕ → LineGiven) (first now : Desk S H D L) : Type 0 where
   pub told : IsTrue (desk_feed k now).told → IsTrue (desk_feed k first).told
-  pub passes : IsTrue (desk_feed k now).told → HasPassedOn k (sink_of first.out) → HasPassedOn k (sink_of now.out)
-  pub passes_lines : HasPassedLines k first.lines → HasPassedLines k now.lines
+  pub passes : PassesOn k first now
   pub onward : IsTrue (desk_feed k now).told → (n : ℕ) → (desk_feed k first).bound < n → (m : ℕ) × ((desk_feed k now).bound < m)
       × ((end : Work D L) (why : ReadlineError) → Onwards k m g at' now end why → Onwards k n g at first end why)
 
 module _ {S H D L : Type 0} (k : KnownDevices S D L) where
   pub onward_nowhere : (g : Given) (at : ℕ → LineGiven) (d : Desk S H D L) → Onward k g at at d d
-  onward_nowhere g at d = record { told = λ t. t; passes = λ t none. none; passes_lines = λ none. none; onward = λ t n b. (n, b, λ end why r. r) }
+  onward_nowhere g at d = record { told = λ t. t; passes = record { display = λ t none. none; lines = λ none. none }; onward = λ t n b. (n, b, λ end why r. r) }
 
   abbrev LineComes : Given → ℕ → Desk S H D L → Desk S H D L → Result (List ℕ) ReadlineError → Type 0
   LineComes g n now next result =
@@ -78,8 +76,7 @@ module _ {S H D L : Type 0} (k : KnownDevices S D L) where
     pub onward_ok : (text : List ℕ) → result ≡ Ok text → Onward k g at (λ line. at' (suc line)) first next
     onward_ok text is = record {
       told = λ t. before.told (line.told t);
-      passes = λ t none. line.passes t (before.passes (line.told t) none);
-      passes_lines = λ none. line.passes_lines (before.passes_lines none);
+      passes = record { display = λ t none. line.passes.display t (before.passes.display (line.told t) none); lines = λ none. line.passes.lines (before.passes.lines none) };
       onward = λ t n b. let so = before.onward (line.told t) n b in went t so.0 so.1 so.2;
     }
       where
@@ -106,8 +103,7 @@ module _ {S H D L : Type 0} (k : KnownDevices S D L) where
             went = w;
             shows = λ f rest. first_shown w.done w.others f (subst (EachShown f) w.split (sessions_show n g at (session_state_of k first) f rest));
           };
-      passes = λ t none. line.passes t (before.passes (line.told t) none);
-      passes_lines = λ none. line.passes_lines (before.passes_lines none);
+      passes = record { display = λ t none. line.passes.display t (before.passes.display (line.told t) none); lines = λ none. line.passes.lines (before.passes.lines none) };
       reason = let P : Result (List ℕ) ReadlineError → Type 0 = λ result. IfErr result (DeskReason k h next) in reason_kept e (subst P is line.reason);
     }
       where

@@ -1,7 +1,7 @@
 -- The display over a session's events, and over a command and a turn.
 use Rattle.std.proofs.Common.{◌≡◌, ℕ, zero, suc, ◌≤◌, Bool, true, false, List, [], ◌∷◌, ◌++◌, map, Option, None, Some, Result, Ok, Err, refl, sym, ap, ◌∙◌, subst, append_assoc, append-nil, arith, if◌then◌else◌}
 use Rattle.std.specs.List.{concat, filter, flat_map}
-use Rattle.std.specs.Prelude.{⊤, OnOk}
+use Rattle.std.specs.Prelude.{⊤, ◌+◌, OnOk}
 use Rattle.std.proofs.lemmas.Grind.{flat_map-append}
 use Rattle.line_buffer.specs.declared.layout.Layout.{Layout}
 use Rattle.line_config.specs.declared.errors.ReadlineError.{ReadlineError}
@@ -13,7 +13,7 @@ use Rattle.line_editor.specs.Modal.{Modal}
 use Rattle.line_editor.specs.Redraws.{calls_of_redraw, fresh}
 use Rattle.line_editor.specs.LineRun.{first_line_state, breaks_after}
 use Rattle.line_editor.specs.Sights.{Sight, no_sight, sight, sight_all, sight_drawn, sight_with, FitsAll, Turns, sight_of, info_after}
-use Rattle.line_editor.specs.EditSteps.{one}
+use Rattle.line_editor.specs.EditSteps.{calls_of_steps, one}
 use Rattle.line_editor.specs.Values.{EditStep, Setting, Value, shown_marks, Effect}
 use Rattle.line_editor.specs.declared.modal_state.Standing.{Standing}
 use Rattle.line_editor.specs.declared.modal_state.Standing.TheVariants.{Searches}
@@ -28,7 +28,7 @@ use Rattle.line_screen.specs.Drawing.{row_break, next_row}
 use Rattle.line_screen.proofs.LawLemmas.{start_is_empty, shown_is_meant, line_ends_anywhere, ended_line_stays}
 use Rattle.keyline.specs.Events.{SessionEvent, Course, Begins, Draws, Rests, Breaks, asks_events, end_events, events_of, course_after_line, line_course, own_events, line_play_in, session, step_events}
 use Rattle.keyline.specs.Sessions.{Given, LineGiven, SessionState, for_line, setting_in}
-use Rattle.keyline.specs.Shows.{picture, place_in, view_in, DisplayHolds, LowAll, kept_by, kept_drawn, kept_after, next_top, calls_by_screen, bytes_for, Face, face, blank, face_with_drawing, face_on_new_row, below, IsAtRest, BlankIsAtRest, HasMeaning, MomentShown, EachShown, SessionsShow, Lead, sight_behind, CommandsShow, TurnsShow}
+use Rattle.keyline.specs.Shows.{picture, place_in, view_in, DisplayHolds, LowAll, kept_by, kept_drawn, kept_after, bytes_for, Face, face, blank, face_with_drawing, face_on_new_row, below, IsAtRest, IsScreen, HasMeaning, MomentShown, EachShown, Lead, sight_behind, CommandsShow, TurnsShow}
 use Rattle.keyline.proofs.ShowSteps.{fresh_holds, step}
 use Rattle.line_editor.specs.Commands.{effect}
 use Rattle.line_editor.proofs.CommandsLead.{commands_lead}
@@ -45,7 +45,7 @@ some_same e = cc
 module _ (s : Screen) (low : 2 ≤ s.columns) (high : s.columns ≤ 1000) (own : List ℕ) where
   -- steps one after the other
   pub steps : (bytes : List ℕ) (over : List Placed) (top : ℕ) (l : Layout) (x : Sight) (rs : List EditStep) → DisplayHolds s bytes over top l x → FitsAll own x rs → LowAll s x rs
-      → DisplayHolds s (bytes ++ bytes_for s l rs) (kept_after rs over []) (kept_after rs top 0) (calls_by_screen s l rs).layout (sight_all x rs)
+      → DisplayHolds s (bytes ++ bytes_for s l rs) (kept_after rs over []) (kept_after rs top 0) (calls_of_steps (ruler_of s) l rs).layout (sight_all x rs)
   steps bytes over top l x [] h fits rows = subst (λ b. DisplayHolds s b over top l x) (sym (append-nil bytes)) h
   steps bytes over top l x (r ∷ rs) h fits rows =
       let a = one (ruler_of s) l r in
@@ -53,8 +53,8 @@ module _ (s : Screen) (low : 2 ≤ s.columns) (high : s.columns ≤ 1000) (own :
       let first = step s low high own bytes over top l x r h fits.0 rows.0 in
       let rest = steps (bytes ++ new) (kept_by r over []) (kept_by r top 0) a.layout (sight x r) rs first fits.1 rows.1 in
       let joined : (bytes ++ new) ++ bytes_for s a.layout rs ≡ bytes ++ bytes_for s l (r ∷ rs) =
-      append_assoc bytes new (bytes_for s a.layout rs) ∙ ap (λ b. bytes ++ b) (sym (flat_map-append (bytes_of s) a.calls (calls_by_screen s a.layout rs).calls)) in
-      subst (λ b. DisplayHolds s b (kept_after (r ∷ rs) over []) (kept_after (r ∷ rs) top 0) (calls_by_screen s l (r ∷ rs)).layout (sight_all x (r ∷ rs))) joined rest
+      append_assoc bytes new (bytes_for s a.layout rs) ∙ ap (λ b. bytes ++ b) (sym (flat_map-append (bytes_of s) a.calls (calls_of_steps (ruler_of s) a.layout rs).calls)) in
+      subst (λ b. DisplayHolds s b (kept_after (r ∷ rs) over []) (kept_after (r ∷ rs) top 0) (calls_of_steps (ruler_of s) l (r ∷ rs)).layout (sight_all x (r ∷ rs))) joined rest
 
   place_by : (x : Sight) (b : Bool) → x.ended ≡ b → place_in s x ≡ (if b then finish_of s.columns (widths s) (picture x) else cursor_of s.columns (widths s) (picture x))
   place_by x b e = ap (λ t. if t then finish_of s.columns (widths s) (picture x) else cursor_of s.columns (widths s) (picture x)) e
@@ -68,10 +68,11 @@ module _ (s : Screen) (low : 2 ≤ s.columns) (high : s.columns ≤ 1000) (own :
   -- the bytes up to a moment show its value at its top
   moment : (bytes : List ℕ) (over : List Placed) (top : ℕ) (x : Sight) (marks : Option Marks) (given : Bool) (prompt text : List ℕ) (place : ℕ) → Holds bytes over top x → x ≡ sight_with marks given prompt text place x.info
       → MomentShown (face s bytes top over x) marks given prompt text place
+  unfolding meant
   moment bytes over top x marks given prompt text place g is =
       let m = shown_is_meant s bytes over (view_in s top x) g in
       let P : Sight → Type 0 = λ y. Shows s.columns (widths s) (picture y) top m.0 in
-      record { display = m.0; means = m.1; shows = subst P is (m.4 (place_by x false (ap (λ (y : Sight). y.ended) is))); over_is = m.3 }
+      record { means = meant bytes over top x g; shows = subst P is (m.4 (place_by x false (ap (λ (y : Sight). y.ended) is))) }
 
   -- CR LF wherever the cursor stands: every cell stays
   closed : (bytes : List ℕ) (over : List Placed) (top : ℕ) (x : Sight) → Holds bytes over top x → HasMeaning (face_on_new_row (face s bytes top over x))
@@ -85,7 +86,7 @@ module _ (s : Screen) (low : 2 ≤ s.columns) (high : s.columns ≤ 1000) (own :
       → (let f = face_on_new_row (face s bytes top over x) in let m = closed bytes over top x g in IsAtRest (below f m.display))
   unfolding closed
   next_line bytes over top x g ended =
-      let next = next_top s top x in
+      let next = top + (finish_of s.columns (widths s) (picture x)).row + 1 in
       let e = ended_line_stays s low high bytes over (view_in s top x) (empty_view next) row_break g (record { text_is = refl; place_is = place_by x true ended; view = refl }) in
       let closing = line_ends_anywhere s (omega arith) bytes over (view_in s top x) g in
       record {
@@ -97,7 +98,7 @@ module _ (s : Screen) (low : 2 ≤ s.columns) (high : s.columns ≤ 1000) (own :
   -- ---- an edit's steps
 
   steps_shown : (later : List SessionEvent) (rs : List EditStep) (bytes : List ℕ) (over : List Placed) (top : ℕ) (l : Layout) (x : Sight) → DisplayHolds s bytes over top l x → FitsAll own x rs
-      → ((bytes : List ℕ) (over : List Placed) (top : ℕ) → DisplayHolds s bytes over top (calls_by_screen s l rs).layout (sight_all x rs) → EachShown (face s bytes top over (sight_all x rs)) later)
+      → ((bytes : List ℕ) (over : List Placed) (top : ℕ) → DisplayHolds s bytes over top (calls_of_steps (ruler_of s) l rs).layout (sight_all x rs) → EachShown (face s bytes top over (sight_all x rs)) later)
       → EachShown (face s bytes top over x) (step_events s l rs ++ later)
   steps_shown later [] bytes over top l x h fits next = next bytes over top h
   steps_shown later (DrawStep v m redraw ∷ rs) bytes over top l x h fits next = λ rows.
@@ -139,7 +140,7 @@ module _ (s : Screen) (low : 2 ≤ s.columns) (high : s.columns ≤ 1000) (a : S
   asks_shown o later next [] k bytes over top l x h leads = next bytes over top l x h leads
   asks_shown o later next (ask ∷ asks) k bytes over top l x h leads =
       let rs = (effect_at a k ask).steps in
-      let m = (calls_by_screen s l rs).layout in
+      let m = (calls_of_steps (ruler_of s) l rs).layout in
       let y = sight_all x rs in
       let left = left_at a k ask in
       let first = step_events s l rs in
@@ -187,7 +188,7 @@ line_shown n g x more next f rest =
 
 -- ---- a session
 
-pub blank_is_at_rest : BlankIsAtRest
+pub blank_is_at_rest : (s : Screen) → IsScreen s → IsAtRest (blank s)
 blank_is_at_rest s is = record { screen = is; good = start_is_empty s is.least is.most; nothing = refl }
 
 course_shown : (n : ℕ) (g : Given) (x : SessionState) (more : List SessionEvent) → ((f : Face) → After (line_play_in n g x).answer f → EachShown f more)
@@ -206,7 +207,7 @@ on_line : (later : SessionState → Course ReadlineError) (y : SessionState) →
 on_line later y so (Ok text) f rest = so f rest
 on_line later y so (Err e) f rest = tt
 
-pub sessions_show : SessionsShow
+pub sessions_show : (n : ℕ) (g : Given) (at : ℕ → LineGiven) (x : SessionState) (f : Face) → IsAtRest f → EachShown f (session n g at x).events
 unfolding session
 sessions_show zero g at x f rest = tt
 sessions_show (suc n) g at x f rest =
@@ -236,7 +237,7 @@ lines_show n g x f rest =
 -- steps that lead from one sight to the other
 shown_by : (s : Screen) → 2 ≤ s.columns → s.columns ≤ 1000 → (own : List ℕ) (x y : Sight) (xs : List EditStep) → Turns own x xs y → Lead s x xs y
 shown_by s low high own x y xs t bytes over top l h rows =
-    subst (DisplayHolds s (bytes ++ bytes_for s l xs) (kept_after xs over []) (kept_after xs top 0) (calls_by_screen s l xs).layout) t.leads
+    subst (DisplayHolds s (bytes ++ bytes_for s l xs) (kept_after xs over []) (kept_after xs top 0) (calls_of_steps (ruler_of s) l xs).layout) t.leads
     (steps s low high own bytes over top l x xs h t.fits rows)
 
 command_turns : (cmd : Cmd) (a : Setting) (v : Value) (info : Option (List ℕ)) (e : Effect) → CommandLeads cmd a v e
@@ -245,12 +246,12 @@ command_turns Interrupt a v info e h = h info
 command_turns _ a v info e h = h info
 
 pub commands_show : CommandsShow
-commands_show s low high m cmd a v info =
+commands_show s is m cmd a v info =
     let e : Effect = effect m cmd a v in
-    shown_by s low high a.prompt (sight_of a v info) (sight_behind cmd (sight_of a e.value (info_after e.steps info))) e.steps (command_turns cmd a v info e (commands_lead m cmd a v))
+    shown_by s is.least is.most a.prompt (sight_of a v info) (sight_behind cmd (sight_of a e.value (info_after e.steps info))) e.steps (command_turns cmd a v info e (commands_lead m cmd a v))
 
 pub turns_show : TurnsShow
-turns_show s low high n a custom k info status is =
+turns_show s screen n a custom k info status is =
     let x = modal_seen k.modal a k.value info in
     let t : TurnLeads a x info _ _ _ = turn_leads n a custom k info in
-    shown_by s low high a.prompt x _ _ (t.leads status is)
+    shown_by s screen.least screen.most a.prompt x _ _ (t.leads status is)

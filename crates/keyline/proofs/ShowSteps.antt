@@ -240,8 +240,7 @@ module _ (s : Screen) (low : 2 ≤ s.columns) (high : s.columns ≤ 1000) where
         cursor = cursor_is;
         finish = finish_is;
         prompt_size = refl;
-        info_is = refl;
-        given_is = refl;
+        tells = record { info_is = refl; given_is = refl };
       }
 
   -- ---- moves
@@ -261,8 +260,7 @@ module _ (s : Screen) (low : 2 ≤ s.columns) (high : s.columns ≤ 1000) where
         cursor = h.cursor ∙ here;
         finish = h.finish;
         prompt_size = h.prompt_size;
-        info_is = h.info_is;
-        given_is = h.given_is;
+        tells = record { info_is = h.tells.info_is; given_is = h.tells.given_is };
       }
   goes_if bytes over top l x at ended to false h is inside e =
       let y = goes_to x at ended in
@@ -274,8 +272,7 @@ module _ (s : Screen) (low : 2 ≤ s.columns) (high : s.columns ≤ 1000) where
         cursor = is;
         finish = h.finish;
         prompt_size = h.prompt_size;
-        info_is = h.info_is;
-        given_is = h.given_is;
+        tells = record { info_is = h.tells.info_is; given_is = h.tells.given_is };
       }
 
   -- ---- a typed character
@@ -295,7 +292,7 @@ module _ (s : Screen) (low : 2 ≤ s.columns) (high : s.columns ≤ 1000) where
   end_is_cursor v none end = line_finish s.columns (widths s) v none ∙ sym (line_cursor s.columns (widths s) v end)
 
   tells : (bytes : List ℕ) (over : List Placed) (top : ℕ) (l : Layout) (x : Sight) → DisplayHolds s bytes over top l x → TellsView s l (view_in s top x)
-  tells bytes over top l x h = record { cursor = h.cursor; finish = h.finish; info = λ none. ap info_text (no_info x.info (sym h.info_is ∙ none)) }
+  tells bytes over top l x h = record { cursor = h.cursor; finish = h.finish; info = λ none. ap info_text (no_info x.info (sym h.tells.info_is ∙ none)) }
 
   -- ---- the rest of a line, and what stands after it
 
@@ -359,8 +356,7 @@ module _ (s : Screen) (low : 2 ≤ s.columns) (high : s.columns ≤ 1000) where
         cursor = ap (λ line. (new line).cursor) t.text_is ∙ cursor_is;
         finish = ap (λ line. (new line).end) t.text_is ∙ leads.2 ∙ ap (finish_of s.columns (widths s)) same;
         prompt_size = h.prompt_size ∙ ap (λ p. measure_of s.mode s.tab s.columns p origin) (sym t.prompt_is);
-        info_is = refl;
-        given_is = refl;
+        tells = record { info_is = refl; given_is = refl };
       }
 
   -- ---- one call, where the line alone is shown behind the session's own prompt; or the line drawn whole
@@ -399,7 +395,7 @@ module _ (s : Screen) (low : 2 ≤ s.columns) (high : s.columns ≤ 1000) where
 
       bare_is : (line : List ℕ) (place : ℕ) → not l.has_info ≡ true → text ≡ line → at ≡ place → now ≡ bare_sight x.spans x.prompt line place
       bare_is line place free text_is place_is =
-          ap (λ spans. bare_sight spans prompt text at) (k.same (no_info x.info (sym h.info_is ∙ not-true l.has_info free)))
+          ap (λ spans. bare_sight spans prompt text at) (k.same (no_info x.info (sym h.tells.info_is ∙ not-true l.has_info free)))
           ∙ ap (λ p. bare_sight x.spans p text at) k.prompt_is ∙ ap (λ t. bare_sight x.spans x.prompt t at) text_is ∙ ap (bare_sight x.spans x.prompt line) place_is
 
       -- a call that leads to a bare line, and changes nothing of the layout but cursor and end
@@ -417,8 +413,7 @@ module _ (s : Screen) (low : 2 ≤ s.columns) (high : s.columns ≤ 1000) where
             cursor = cursor_is;
             finish = end_is;
             prompt_size = h.prompt_size;
-            info_is = not-true l.has_info free;
-            given_is = h.given_is ∙ k.given;
+            tells = record { info_is = not-true l.has_info free; given_is = h.tells.given_is ∙ k.given };
           } in
           subst (DisplayHolds s new over top layout) (sym (bare_is line place free text_is place_is)) done
 
@@ -562,12 +557,12 @@ module _ (s : Screen) (low : 2 ≤ s.columns) (high : s.columns ≤ 1000) where
   same_holds : (bytes : List ℕ) (over : List Placed) (top : ℕ) (l : Layout) (x : Sight) (call : Call) → DisplayHolds s bytes over top l x
       → LeadsView s.columns (widths s) (view_in s top x) call (view_in s top x) → call ≢ ClearScreen → DisplayHolds s (bytes ++ flat_map (bytes_of s) (call ∷ [])) over top l x
   same_holds bytes over top l x call h leads other =
-      record { good = one_led bytes over (view_in s top x) (view_in s top x) call h.good leads refl other; cursor = h.cursor; finish = h.finish; prompt_size = h.prompt_size; info_is = h.info_is; given_is = h.given_is }
+      record { good = one_led bytes over (view_in s top x) (view_in s top x) call h.good leads refl other; cursor = h.cursor; finish = h.finish; prompt_size = h.prompt_size; tells = h.tells }
 
   -- ---- before anything is drawn
 
   pub fresh_holds : (bytes : List ℕ) (over : List Placed) (top : ℕ) (l : Layout) → Good s.columns (widths s) bytes over (empty_view top) → DisplayHolds s bytes over top (fresh l.grapheme_cluster_mode) no_sight
-  fresh_holds bytes over top l g = record { good = g; cursor = refl; finish = refl; prompt_size = sym nothing_measured; info_is = refl; given_is = refl }
+  fresh_holds bytes over top l g = record { good = g; cursor = refl; finish = refl; prompt_size = sym nothing_measured; tells = record { info_is = refl; given_is = refl } }
 
   -- ---- every step
 
@@ -616,7 +611,7 @@ module _ (s : Screen) (low : 2 ≤ s.columns) (high : s.columns ≤ 1000) where
       let letters = slice_range text from upto in
       short_or_rest bytes over top marks l x h prompt text at from (write_over_call l letters cell (measure_of s.mode s.tab s.columns (take at text) l.prompt_size)) (may_write_over (ruler_of s) l cell (length letters))
       (rewritten_fits x marks prompt text at fits.0 from upto fits.1) rows (rewritten_holds bytes over top marks l x h prompt text at fits.0 from upto fits.1 rows)
-  step own bytes over top l x (Draws v m (Bared prompt text at)) h fits rows = bared_if bytes over top (shown_marks v m) l x prompt text at l.default_prompt h (h.given_is ∙ fits)
+  step own bytes over top l x (Draws v m (Bared prompt text at)) h fits rows = bared_if bytes over top (shown_marks v m) l x prompt text at l.default_prompt h (h.tells.given_is ∙ fits)
   step own bytes over top l x (Draws v m ToEnd) h fits rows = goes_if bytes over top l x x.place true l.end (same_cell l.cursor l.end) h h.finish (inside_finish x (record { finish = rows.finish; cursor = rows.cursor })) refl
   step own bytes over top l x (Draws v m Beeped) h fits rows = same_holds bytes over top l x Beep h refl (λ e. cc)
   step own bytes over top l x (Draws v m Cleared) h fits rows = fresh_holds (bytes ++ flat_map (bytes_of s) (ClearScreen ∷ [])) [] 0 l (cleared_led bytes over (view_in s top x) h.good)

@@ -1,11 +1,13 @@
 -- A session over memory that its keys ended is the definition's.
-use Rattle.std.proofs.Common.{◌≡◌, ℕ, ◌+◌, ◌<◌, Bool, true, false, IsTrue, List, [], ◌∷◌, ◌++◌, Option, length, refl, sym, ap, subst, ◌∙◌, append-nil, arith}
+use Rattle.std.proofs.Common.{◌≡◌, ℕ, ◌+◌, ◌<◌, Bool, true, false, List, [], ◌∷◌, ◌++◌, Option, length, refl, sym, ap, subst, ◌∙◌, append-nil, arith}
 use Rattle.std.specs.Prelude.{flat_map}
 use Rattle.line_config.specs.Feed.{AlwaysTold, Feed, fresh_feed}
 use Rattle.line_config.specs.declared.config.Config.{Config}
 use Rattle.line_config.specs.declared.device.Last.TheVariants.{End}
 use Rattle.line_config.specs.declared.errors.ReadlineError.{ReadlineError}
-use Rattle.line_config.specs.declared.errors.ReadlineError.TheVariants.{Eof, Display, Lines, Helper, Memory}
+use Rattle.line_config.specs.declared.errors.ReadlineError.TheVariants.{Eof, Interrupted, NotUtf8, PasteOutOfPlace, Reader, Display, Lines, HistoryText, Helper, Handler, Memory}
+use Rattle.line_config.specs.Sending.{Takes as TakesAll}
+use Rattle.line_help.specs.History.{Filed}
 use Rattle.line_help.specs.HistoryText.{text_to_save}
 use Rattle.line_keys.specs.CustomBindings.{Custom}
 use Rattle.line_keys.specs.KeyFeeds.{Paste, bytes_to_come}
@@ -15,8 +17,8 @@ use Rattle.std.specs.Option.{option_len}
 use Rattle.line_screen.specs.Reading.{with_kept}
 use Rattle.line_screen.proofs.Outcomes.{unread_in}
 use Rattle.keyline.specs.Desks.{GoesShown, desk_feed, session_state_of, work_of}
-use Rattle.keyline.specs.Endings.{ending_of}
-use Rattle.keyline.specs.SessionEffects.{KnownDevices, AreDone, CutSessionEvent, Stands, Went, Work, ending_after}
+use Rattle.keyline.specs.SessionEffects.{error_of}
+use Rattle.keyline.specs.SessionEffects.{KnownDevices, AreDone, CutSessionEvent, SavesIf, Stands, Went, Work, ending_after}
 use Rattle.keyline.specs.SessionCalls.{Opens, RunsSession}
 use Rattle.keyline.specs.Program.{EditHelper, edit_helping, given_over, start_by}
 use Rattle.keyline.specs.Events.{SessionEvent, Takes, Helped, Draws, Hears, Breaks, Keeps, Writes, bytes_drawn, coming_after_events, lines_kept, lines_written, session}
@@ -24,9 +26,29 @@ use Rattle.keyline.specs.Sessions.{Given, SessionState, each, given_of, lines_te
 use Rattle.keyline.specs.Shows.{EachShown}
 use Rattle.keyline.specs.Transcripts.{Transcribes, is_cut, word_helper}
 use Rattle.keyline.specs.declared.desk.Desk.{Desk}
+use Rattle.keyline.specs.declared.ending.Ending.{Ending}
+use Rattle.keyline.specs.declared.ending.Ending.TheVariants as how
 use Rattle.keyline.specs.declared.over_memory.Transcript.{Transcript}
 use Rattle.keyline.specs.declared.session.Ended.{Ended}
 use Rattle.keyline.proofs.OpenedLemmas.{given_as, state_first}
+
+-- the ending of an error
+abbrev ending_of : ReadlineError → Ending
+ending_of Eof = how.Eof
+ending_of Interrupted = how.Interrupted
+ending_of NotUtf8 = how.NotUtf8
+ending_of PasteOutOfPlace = how.PasteOutOfPlace
+ending_of Reader = how.Reader
+ending_of Display = how.Display
+ending_of Lines = how.Lines
+ending_of HistoryText = how.HistoryText
+ending_of Helper = how.Helper
+ending_of Handler = how.Handler
+ending_of Memory = how.Memory
+
+is_ending : (ending : Ending) → ending ≡ ending_of (error_of ending)
+is_ending how.Eof = refl
+is_ending _ = refl
 
 -- no fault ends a session so
 no_fault : {D L : Type 0} (shown : D → List ℕ) (written_in : L → List ℕ) (adds : Bool) (x y : Work D L) (event : SessionEvent) (why : ReadlineError)
@@ -71,9 +93,10 @@ when_saved : (why : ReadlineError) → ending_after why true ≡ why
 when_saved Eof = refl
 when_saved _ = refl
 
-was_saved : (saved failed : Bool) → (saved ≡ false → IsTrue failed) → failed ≡ false → saved ≡ true
-was_saved true failed refused works = refl
-was_saved false failed refused works = absurd (let broken : failed ≡ true = refused refl in cc)
+module _ {T : Type 0} (held : T → List ℕ) (failed : T → Bool) (kept history' : Filed) (text text' : T) where
+  was_saved : (saved : Bool) → SavesIf held failed true kept history' text text' saved → failed text' ≡ false → (saved ≡ true) × TakesAll held text text' (text_to_save kept)
+  was_saved true saves works = (refl, saves.sends.sent)
+  was_saved false saves works = absurd (let broken : failed text' ≡ true = saves.sends.err in cc)
 
 no_byte_kept : (kept bound count : ℕ) → kept ≡ 0 → bound ≡ count + kept → bound ≡ count
 no_byte_kept kept bound count none is = omega arith
@@ -104,9 +127,10 @@ module _ {F S D L T : Type 0} (text_of : F → Feed) (k : KnownDevices S D L) (h
       let bound : (desk_feed k desk).bound ≡ length keys =
       no_byte_kept (option_len (byte_ahead_of desk.reader)) (desk_feed k desk).bound (length keys) (ap option_len opens.kept)
       (ap (λ (s : S). (k.feed s).bound + option_len (byte_ahead_of desk.reader)) opens.source_is ∙ ap (λ (f : Feed). f.bound + option_len (byte_ahead_of desk.reader)) source_is) in
-      let saved : end.saved ≡ true = was_saved end.saved (failed ended.text) (λ s. (end.saves.refused s).1) works in
-      let ended_is : ended.ending ≡ ending_of why =
-      end.ending_is ∙ (ap (λ s. ending_of (ending_after why s)) saved ∙ ap ending_of (when_saved why)) in
+      let taken = was_saved held failed last.history ended.history text' ended.text end.saved end.saves works in
+      let saved = taken.0 in
+      let error_is : error_of ended.ending ≡ why = end.ending_is ∙ (ap (λ s. ending_after why s) saved ∙ when_saved why) in
+      let ended_is : ended.ending ≡ ending_of why = is_ending ended.ending ∙ ap ending_of error_is in
       let by_keys : is_cut (ending_of why) ≡ false = ap is_cut (sym ended_is) ∙ uncut in
       let adds = config.auto_add_history in
       let events : ℕ → List SessionEvent = λ n. (session n g (each g) start).events in
@@ -134,9 +158,9 @@ module _ {F S D L T : Type 0} (text_of : F → Feed) (k : KnownDevices S D L) (h
                   ∙ ap (λ front. front ++ lines_text (flat_map lines_written (events n))) (ap k.written_in opens.lines_are ∙ bare)));
               display_is = display_is ∙ (ap k.shown end.display_is ∙ (done.drawn
                   ∙ ap (λ front. front ++ flat_map bytes_drawn (events n)) (ap k.shown opens.display_is ∙ none)));
-              history_is = history_is ∙ ((end.saves.done saved).1
+              history_is = history_is ∙ (taken.1
                   ∙ (ap (λ front. front ++ text_to_save last.history) (ap held text_is ∙ blank) ∙ ap text_to_save kept_is));
-              ending_is = ending_is ∙ (ended_is ∙ ap ending_of all.answer_is);
+              ending_is = ap error_of ending_is ∙ (error_is ∙ all.answer_is);
               unread_is = left ∙ (sym (unread_in k.feed last.reader) ∙ ap bytes_to_come rest_is);
             };
       }

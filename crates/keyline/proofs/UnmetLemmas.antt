@@ -81,4 +81,4 @@ module _ (s : Screen) (a : Setting) where
 pub off_meets_none : OffMeetsNone
 off_meets_none n g x off =
     let h = unmet_alike g.screen (setting_in g x.history.kept.entries) (line_script n g.custom) (fresh g.screen.mode) (first_in g x) (ap (λ b. if b then Rests else Off) off) in
-    record { answer = h.answer; rest = h.rest; events = h.events; query = ap (λ (m : Modal). m.query) h.modal }
+    (h.answer, h.rest, h.events, ap (λ (m : Modal). m.query) h.modal)

@@ -10,11 +10,11 @@ use Rattle.line_editor.specs.EditSteps.{surface}
 use Rattle.line_editor.specs.Values.{Value}
 use Rattle.line_keys.specs.KeyFeeds.{KeyFeed}
 use Rattle.line_keys.specs.PhraseScripts.{Input}
-use Rattle.line_screen.specs.ScreenCalls.{canvas_of, ruler_of, sink_of}
+use Rattle.line_screen.specs.ScreenCalls.{NothingWaits, canvas_of, ruler_of, sink_of}
 use Rattle.line_screen.specs.Reader.{items_of, source_of}
 use Rattle.line_screen.specs.declared.renderer.ScreenRenderer.{ScreenRenderer}
 use Rattle.keyline.specs.Events.{SessionEvent, line_course, session}
-use Rattle.keyline.specs.SessionEffects.{Closes, HasPassedOn, HasPassedLines, KnownDevices, Went, Work, SessionReason, work}
+use Rattle.keyline.specs.SessionEffects.{Closes, KnownDevices, Went, Work, SessionReason, work}
 use Rattle.keyline.specs.Sessions.{Given, LineGiven, SessionState, setting_in, state_at}
 use Rattle.keyline.specs.Shows.{EachShown, Face, IsAtRest}
 use Rattle.keyline.specs.declared.desk.Desk.{Desk}
@@ -64,6 +64,13 @@ module _ {S H D L : Type 0} (k : KnownDevices S D L) where
         g.config.auto_add_history outcome (work (sink_of drawn) old.lines old.history)
         (work (sink_of new.out) new.lines new.history) result
 
+  -- a display and a sink of lines that work have passed on everything, if they had before
+  pub record PassesOn (old new : Desk S H D L) : Type 0 where
+    pub display : IsTrue (desk_feed new).told → NothingWaits k.waits k.show_failed (sink_of old.out)
+        → NothingWaits k.waits k.show_failed (sink_of new.out)
+    pub lines : NothingWaits k.write_waits k.write_failed old.lines
+        → NothingWaits k.write_waits k.write_failed new.lines
+
   -- the relation of a line: it leads to its outcome and the state after it, or to a fault
   pub record TakesLine (g g' : Given) (old new : Desk S H D L)
       (result : Result (List ℕ) ReadlineError) : Type 0 where
@@ -75,9 +82,7 @@ module _ {S H D L : Type 0} (k : KnownDevices S D L) where
     pub custom : g'.custom ≡ g.custom
     pub told : IsTrue (desk_feed new).told → IsTrue (desk_feed old).told
     pub falls : OnOk result ((desk_feed new).bound < (desk_feed old).bound)
-    pub passes : IsTrue (desk_feed new).told → HasPassedOn k (sink_of old.out)
-        → HasPassedOn k (sink_of new.out)
-    pub passes_lines : HasPassedLines k old.lines → HasPassedLines k new.lines
+    pub passes : PassesOn old new
     pub ends : EndsLine g old new result
     pub reason : IfErr result (DeskReason g new)
 
@@ -88,7 +93,5 @@ module _ {S H D L : Type 0} (k : KnownDevices S D L) where
         → let lines = session n g at (session_state_of old) in
         GoesShown k.shown k.written_in g.config.auto_add_history lines.events (work_of old)
         (work_of new) (why ≡ lines.answer) (λ e. why ≡ e)
-    pub passes : IsTrue (desk_feed new).told → HasPassedOn k (sink_of old.out)
-        → HasPassedOn k (sink_of new.out)
-    pub passes_lines : HasPassedLines k old.lines → HasPassedLines k new.lines
+    pub passes : PassesOn old new
     pub reason : DeskReason g new why

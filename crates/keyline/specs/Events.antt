@@ -148,19 +148,12 @@ AllAnswered [] = ⊤
 AllAnswered (Helped fails takes ∷ events) = IsFalse fails × AllAnswered events
 AllAnswered (event ∷ events) = AllAnswered events
 
--- after the first of the events: the lines written, and perhaps the next one, were added to the
--- history, and are the first of these
-pub record AreFirst (done : List SessionEvent) (lines : List (List ℕ)) : Type 0 where
-  pub in_hand : List (List ℕ)
-  pub others : List (List ℕ)
-  pub one : length in_hand ≤ 1
-  pub kept : flat_map lines_kept done ≡ flat_map lines_written done ++ in_hand
-  pub first : lines ≡ flat_map lines_kept done ++ others
-
 -- each line is written right after it was added to the history: the lines written by any first
--- events of a session are the first of its lines
+-- events of a session, and perhaps the next one, were added to it, and are the first of its lines
 abbrev pub LinesInOrder : Type 0
 LinesInOrder = (n : ℕ) (g : Given) (at : ℕ → LineGiven) (x : SessionState)
     (done next : List SessionEvent) → let events = (session n g at x).events in
     (flat_map lines_written events ≡ flat_map lines_kept events)
-    × (events ≡ done ++ next → AreFirst done (flat_map lines_kept events))
+    × (events ≡ done ++ next → (in_hand : List (List ℕ)) × (others : List (List ℕ))
+    × (length in_hand ≤ 1) × (flat_map lines_kept done ≡ flat_map lines_written done ++ in_hand)
+    × (flat_map lines_kept events ≡ flat_map lines_kept done ++ others))

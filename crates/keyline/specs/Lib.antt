@@ -1,5 +1,4 @@
 pub mod Desks
-pub mod Endings
 pub mod Events
 pub mod Helds
 pub mod Options

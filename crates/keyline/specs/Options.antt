@@ -1,11 +1,10 @@
 -- The program's command line: its options, how words choose them, and what `--extended` adds.
-use Rattle.std.specs.Prelude.{◌≡◌, ◌≢◌, ◌≤◌, ◌⊎◌, ◌↔◌, ◌∷◌, ⊤, ℕ, List, [], Option, Some, codes, IsSomeAnd, IsTrue, MatchResult, Result, option_map, string_bytes, suc, Bool, true, false, if◌then◌else◌, ◌||◌, remove, bytes_eq, None, is_some}
+use Rattle.std.specs.Prelude.{◌≡◌, ◌≢◌, ◌≤◌, ◌⊎◌, ◌↔◌, ◌∷◌, ⊤, ℕ, List, [], Option, Some, codes, IsSomeAnd, IsTrue, option_map, string_bytes, suc, Bool, true, false, if◌then◌else◌, ◌||◌, remove, bytes_eq, None, is_some}
 use Rattle.std.specs.Str.Parse.{IsNumeral, digits_value, without_leading_plus}
-use Rattle.clap.specs.Words.{App, IsAmong, Row, Rule, Text, fault_of, first_of, kind_of, matches_of, new_app, new_rule, with_rule}
+use Rattle.clap.specs.Words.{App, IsAmong, Row, Rule, Text, fault_of, first_of, matches_of, new_app, new_rule, with_rule}
 use Rattle.clap.specs.declared.builder.action.ArgAction.TheVariants.{SetTrue}
 use Rattle.clap.specs.declared.error.kind.ErrorKind.{ErrorKind}
 use Rattle.clap.specs.declared.error.kind.ErrorKind.TheVariants.{DisplayHelp, InvalidValue, OutOfMemory}
-use Rattle.clap.specs.declared.error.Error.{Error}
 use Rattle.line_config.specs.declared.settings.EditMode.{EditMode}
 use Rattle.line_config.specs.declared.settings.EditMode.TheVariants.{Emacs, Vi}
 use Rattle.keyline.specs.declared.options.Options.{Options}
@@ -42,18 +41,10 @@ abbrev pub mode_name : EditMode → Text
 mode_name Emacs = codes "emacs"
 mode_name Vi = codes "vi"
 
-abbrev pub IsMode : Option Text → EditMode → Type 0
-IsMode text mode = text ≡ Some (mode_name mode)
-
 -- the text is decimal digits that write this number, from 2 to 1,000
 abbrev pub WritesColumns : Text → ℕ → Type 0
 WritesColumns text columns =
     IsNumeral 10 text × (digits_value 10 text ≡ columns) × (2 ≤ columns) × (columns ≤ 1000)
-
--- the number in the text, or 80 if it has none
-abbrev pub ColumnsBy : Text → ℕ → Type 0
-ColumnsBy text columns = WritesColumns text columns
-    ⊎ ((columns ≡ 80) × ((written : ℕ) → WritesColumns text written → ⊥))
 
 -- such digits, perhaps after a plus
 abbrev pub AreColumns : Option Text → ℕ → Type 0
@@ -61,7 +52,7 @@ AreColumns text columns = IsSomeAnd text (λ t. WritesColumns (without_leading_p
 
 -- the options, by the text of each one
 pub record Chooses (rows : List Row) (options : Options) : Type 0 where
-  pub mode : IsMode (first_of (codes "mode") rows) options.mode
+  pub mode : first_of (codes "mode") rows ≡ Some (mode_name options.mode)
   pub columns : AreColumns (first_of (codes "columns") rows) options.columns
   pub prompt : first_of (codes "prompt") rows ≡ Some (string_bytes options.prompt)
   pub plain : options.prompt_styles.items ≡ []
@@ -94,11 +85,6 @@ ParsesTo words (Usage text) =
     ((kind : ErrorKind) × IsAmong kind (fault_of command_line words) × (kind ≢ DisplayHelp))
     ⊎ ChoosesNone (matches_of command_line words)
 ParsesTo words Memory = ⊤
-
--- the words give the options that they choose, or fail
-abbrev pub TakesOptions : List Text → Result Options Error → Type 0
-TakesOptions words result = MatchResult result (λ options. ParsesTo words (Run options))
-    (λ error. FailsBy words (kind_of error))
 
 abbrev pub HasColumns : Parsed → Type 0
 HasColumns (Run options) = (2 ≤ options.columns) × (options.columns ≤ 1000)

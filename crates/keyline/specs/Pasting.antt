@@ -4,16 +4,12 @@ use Rattle.std.specs.Str.{IsUtf8}
 use Rattle.line_buffer.specs.Insertions.{with_text_at_cursor}
 use Rattle.line_buffer.specs.Line.{Line}
 use Rattle.line_config.specs.declared.device.Last.{Last}
-use Rattle.script.specs.Played.{Played}
-use Rattle.line_config.specs.declared.errors.ReadlineError.{ReadlineError}
 use Rattle.line_keys.specs.declared.events.Event.{Event}
 use Rattle.line_keys.specs.declared.events.Event.TheVariants.{Any}
-use Rattle.line_keys.specs.declared.key.KeyEvent.{KeyEvent}
 use Rattle.line_keys.specs.CustomBindings.{Custom}
-use Rattle.line_keys.specs.KeyFeeds.{Coming}
 use Rattle.line_keys.specs.Events.{single}
 use Rattle.line_editor.specs.Commands.{in_vi_command, means_of}
-use Rattle.line_editor.specs.LineScripts.{LineAsk, LineState, played_from, turn_script, turns_script}
+use Rattle.line_editor.specs.LineScripts.{LineState, played_from, turn_script, turns_script}
 use Rattle.line_editor.specs.Modal.{is_at_rest}
 use Rattle.line_editor.specs.Values.{Setting}
 use Rattle.line_editor.specs.Yanking.{behind_yank}
@@ -32,40 +28,25 @@ pub record IsPasteable (text : List ℕ) : Type 0 where
   pub no_return : (before after : List ℕ) → text ≢ before ++ 0x0D ∷ after
   pub no_marker : HaveNoMarker text
 
--- ---- between two phrases
-
 -- a text goes to the cursor, and the cursor after it; in Vi's command mode onto its last cluster
 abbrev pub line_with_paste : Bool → List ℕ → Line → Line
 line_with_paste vi [] l = l
 line_with_paste vi (byte ∷ bytes) l = behind_yank vi (with_text_at_cursor (byte ∷ bytes) l)
 
--- no binding is for this key
-pub record IsFree (custom : Custom) (k : KeyEvent) : Type 0 where
-  pub own : custom.answers (single k) ≡ None
-  pub any : custom.answers Any ≡ None
-
 -- a text that is pasted between two phrases goes to the cursor of the line, if no binding is for it
 -- and no search stands. Everything that follows it remains
 abbrev pub PastesGoIn : Type 0
 PastesGoIn = (n : ℕ) (s : Setting) (custom : Custom) (k : LineState) (text more : List ℕ)
-    (last : Last) → IsFree custom paste_start → k.value.line.growth ≡ true
-    → is_at_rest k.modal.standing ≡ true → IsPasteable text
+    (last : Last) → custom.answers (single paste_start) ≡ None → custom.answers Any ≡ None
+    → k.value.line.growth ≡ true → is_at_rest k.modal.standing ≡ true → IsPasteable text
     → k.coming ≡ coming_from k.input.mode (paste_bytes text ++ more) last
     → let p = played_from s (turn_script (suc (suc n)) custom) k in
     let vi = in_vi_command (means_of k.input k.ring) in
     (p.answer ≡ Ok Proceed) × (p.rest.coming ≡ coming_from k.input.mode more last)
     × (p.rest.value.line ≡ line_with_paste vi text k.value.line)
 
--- ---- a whole line
-
 abbrev pub IsUnbound : Custom → Type 0
 IsUnbound custom = (event : Event) → custom.answers event ≡ None
-
--- the text is accepted, and this remains of the input
-pub record Accepts (p : Played LineAsk LineState ReadlineError (List ℕ)) (text : List ℕ)
-    (rest : Coming) : Type 0 where
-  pub outcome : p.answer ≡ Ok text
-  pub rest_is : p.rest.coming ≡ rest
 
 -- If nothing is bound and there is no helper, a text pasted at an empty line that may grow, between
 -- two phrases, and then entered is accepted, if no search stands. This holds whatever else the
@@ -76,12 +57,13 @@ PastesAreAccepted = (n : ℕ) (s : Setting) (custom : Custom) (k : LineState) (t
     → k.value.line.text ≡ [] → k.value.line.growth ≡ true
     → is_at_rest k.modal.standing ≡ true → IsPasteable text
     → k.coming ≡ coming_from k.input.mode (paste_bytes text ++ 0x0D ∷ more) last
-    → Accepts (played_from s (turns_script (suc (suc n)) custom) k) text
-    (coming_from k.input.mode more last)
+    → let p = played_from s (turns_script (suc (suc n)) custom) k in
+    (p.answer ≡ Ok text) × (p.rest.coming ≡ coming_from k.input.mode more last)
 
 -- and so is one with which a line of a session begins
 abbrev pub PastedLinesAreAccepted : Type 0
 PastedLinesAreAccepted = (n : ℕ) (g : Given) (x : SessionState) (text more : List ℕ) (last : Last)
     → g.helping.hooks ≡ None → IsUnbound g.custom → IsPasteable text
     → x.coming ≡ coming_from g.config.edit_mode (paste_bytes text ++ 0x0D ∷ more) last
-    → Accepts (line_play_in (suc (suc n)) g x) text (coming_from g.config.edit_mode more last)
+    → let p = line_play_in (suc (suc n)) g x in
+    (p.answer ≡ Ok text) × (p.rest.coming ≡ coming_from g.config.edit_mode more last)

@@ -1,5 +1,5 @@
 -- The program's session: with its options, and by bytes alone.
-use Rattle.std.specs.Prelude.{ℕ, Bool, true, false, if◌then◌else◌, List, Option, Some, None, is_some, option_map, unwrap_or, ◌||◌, ◌⊎◌, nat_lt, Result, Ok, Err, ⊤, map, take, String, string_bytes, ◌≡◌, ◌<◌, ◌^◌, [], IsTrue, IsOk}
+use Rattle.std.specs.Prelude.{ℕ, Bool, true, false, if◌then◌else◌, List, Option, Some, None, is_some, option_map, ◌||◌, ◌⊎◌, nat_lt, Result, Ok, Err, ⊤, map, take, String, string_bytes, ◌≡◌, ◌<◌, ◌^◌, [], IsTrue, IsOk}
 use Rattle.std.specs.Global.{Global, Vec}
 use Rattle.std.specs.Option.{option_map_or}
 use Rattle.std.specs.declared.env.FillError.{FillError}
@@ -24,7 +24,7 @@ use Rattle.line_screen.specs.Reader.{coming_in}
 use Rattle.keyline.specs.Desks.{GoesShown}
 use Rattle.keyline.specs.Events.{session}
 use Rattle.keyline.specs.SessionCalls.{Finishes, LoadRefused, Opens, RunsSession, history_loaded_from, loads}
-use Rattle.keyline.specs.Sessions.{Given, SessionState, each, given_of, screen_by, state_over}
+use Rattle.keyline.specs.Sessions.{Given, SessionState, coming_from, each, given_of, screen_by, state_at}
 use Rattle.keyline.specs.declared.desk.Desk.{Desk}
 use Rattle.keyline.specs.declared.invocation.Invocation.{Invocation}
 use Rattle.keyline.specs.declared.options.Options.{Options}
@@ -115,10 +115,6 @@ edit_helping = helper_from_hooks (λ helper line pos entries place. gives_at_onc
 abbrev pub nothing_bound : Custom
 nothing_bound = record { answers = λ event. None; begins = λ keys. false }
 
-abbrev pub given_to : {S D L : Type 0} → Config → Options → Desk S EditHelper D L → Given
-given_to config options desk = given_of config nothing_bound (string_bytes options.prompt)
-    (screen_of desk.out) (edit_helping desk.helper)
-
 -- a session was opened by these settings, options and words, and run. Its history was saved, if
 -- that was asked for
 pub record EditsBy {F S D L T : Type 0} (loads : F → Feed) (k : KnownDevices S D L)
@@ -128,7 +124,8 @@ pub record EditsBy {F S D L T : Type 0} (loads : F → Feed) (k : KnownDevices S
   pub desk : Desk S EditHelper D L
   pub opens : Opens loads k.feed config history (helper_of config options words) source
       options.columns display lines desk
-  pub runs : RunsSession k held failed asked (given_to config options desk) desk text ended
+  pub runs : RunsSession k held failed asked (given_of config nothing_bound
+      (string_bytes options.prompt) (screen_of desk.out) (edit_helping desk.helper)) desk text ended
 
 -- ---- by bytes alone: those of its keys, those that its devices took, and its ending
 
@@ -142,17 +139,10 @@ abbrev pub given_with : Config → Custom → Options → Option (List (List ℕ
 given_with config custom options words = given_over config custom (string_bytes options.prompt)
     options.columns (helper_of config options words)
 
-abbrev pub given_by : Config → Options → Option (List (List ℕ)) → Given
-given_by config options words = given_with config nothing_bound options words
-
 -- the state before its first line, over this history's text and these keys
 abbrev pub start_by : Config → List ℕ → List ℕ → Last → SessionState
-start_by config old bytes last = state_over (new_ring KILL_RING_SIZE) []
-    (history_loaded_from config (fresh_feed old End)) config.edit_mode bytes last
-
--- what a writer has, if it reports its bytes
-abbrev pub had_by : {W : Type 0} → (W → Option (List ℕ)) → W → List ℕ
-had_by contents writer = unwrap_or (contents writer) []
+start_by config old bytes last = state_at (new_ring KILL_RING_SIZE) []
+    (history_loaded_from config (fresh_feed old End)) (coming_from config.edit_mode bytes last)
 
 -- the session of these settings, options and words, of a history's text, and of all these bytes
 -- followed by this, on a display and a sink of lines that had these bytes. What is drawn, written
@@ -169,7 +159,7 @@ pub record PlaysBytes {S D L T : Type 0} (known : KnownDevices S D L) (held : T 
   pub display : D
   pub lines : L
   pub loaded : IsOk (loads config (fresh_feed old End))
-  pub goes : (n : ℕ) → 2 ^ 63 < n → let g = given_by config options words in
+  pub goes : (n : ℕ) → 2 ^ 63 < n → let g = given_with config nothing_bound options words in
       let start = start_by config old bytes last in let lines = session n g (each g) start in
       GoesShown (λ drawn. drawn) (λ wrote. wrote) g.config.auto_add_history lines.events
       (work shown wrote start.history start.coming)
@@ -179,8 +169,9 @@ pub record PlaysBytes {S D L T : Type 0} (known : KnownDevices S D L) (held : T 
   pub blank : held text ≡ []
   pub finishes : Finishes known.feed held failed asked desk text why
       (record ended { display = display; lines = lines })
-  pub reason : SessionReason (given_by config options words) (known.feed ended.source).failed
-      (known.show_failed ended.display) (known.write_failed ended.lines) why
+  pub reason : SessionReason (given_with config nothing_bound options words)
+      (known.feed ended.source).failed (known.show_failed ended.display)
+      (known.write_failed ended.lines) why
 
 -- the relation of the program's session, over a reader and two writers that had these bytes. If
 -- what the reads gave agrees with the bytes that were assumed of the reader as it was passed in,

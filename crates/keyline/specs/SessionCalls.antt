@@ -1,6 +1,6 @@
 -- The calls of a session and of its builder: what it is built from and opened with, its parts, the
 -- effect of its calls, and what it returns at its end. An editor is a session that an error ends.
-use Rattle.std.specs.Prelude.{◌≡◌, ℕ, Bool, cond, false, List, [], Option, None, Result, Err, IsOk, IsTrue, string_bytes, MatchOption, codes}
+use Rattle.std.specs.Prelude.{◌≡◌, ℕ, Bool, false, List, [], Option, None, Result, Err, IsOk, IsTrue, string_bytes, MatchOption, codes}
 use Rattle.line_config.specs.Feed.{AlwaysTold, Feed, fresh_feed}
 use Rattle.line_config.specs.declared.config.Config.{Config}
 use Rattle.line_config.specs.declared.device.Last.TheVariants.{End}
@@ -18,12 +18,10 @@ use Rattle.line_screen.specs.ScreenCalls.{screen_of, sink_of, Screen}
 use Rattle.line_screen.specs.Reader.{coming_in, byte_ahead_of, source_of}
 use Rattle.line_screen.specs.Reading.{with_kept}
 use Rattle.keyline.specs.Desks.{TakesLines, TakesLine}
-use Rattle.keyline.specs.Endings.{ending_of, reason_to_end}
-use Rattle.keyline.specs.SessionEffects.{KnownDevices, SavesIf, ending_after}
+use Rattle.keyline.specs.SessionEffects.{KnownDevices, SavesIf, ending_after, error_of, reason_to_end}
 use Rattle.keyline.specs.Sessions.{Given, coming_from, each, screen_by, given_of}
 use Rattle.keyline.specs.declared.desk.Desk.{Desk}
 use Rattle.keyline.specs.declared.session.TheConstants.{KILL_RING_SIZE}
-use Rattle.keyline.specs.declared.session.Beginning.{Beginning}
 use Rattle.keyline.specs.declared.session.Ended.{Ended}
 use Rattle.keyline.specs.declared.session.Unopened.{Unopened}
 use Rattle.keyline.specs.declared.builder.SessionBuilder.{SessionBuilder}
@@ -98,13 +96,6 @@ pub record Loaded (Told : Type 0) (config : Config) (text : Feed) (history : Fil
   pub whole : Told → IsOk (loads config text)
   pub history_is : Told → history ≡ history_loaded_from config text
 
--- a session's beginning
-pub record BeginsSession (Told : Type 0) (config : Config) (prompt : List ℕ) (text : Feed)
-    (b : Beginning) : Type 0 where
-  pub history : Loaded Told config text b.history
-  pub ring : b.ring ≡ new_ring KILL_RING_SIZE
-  pub prompt_is : string_bytes b.prompt ≡ prompt
-
 -- no session was opened: some of the history's text may have been read, and all other devices are
 -- as they were passed in
 pub record Unopens {F S D L T : Type 0} (feed : F → Feed) (config : Config) (history : F)
@@ -147,7 +138,6 @@ module _ {S H D L T B : Type 0} where
   abbrev pub text_sink : Session S H D L T B → T
   text_sink s = s.text
 
-  -- its own prompt
   abbrev pub prompt_of : Session S H D L T B → List ℕ
   prompt_of s = string_bytes s.prompt
 
@@ -210,18 +200,13 @@ pub record Finishes {S H D L T : Type 0} (feed : S → Feed) (held : T → List 
     (ended : Ended S D L T) : Type 0 where
   pub saved : Bool
   pub saves : SavesIf held failed asked desk.history ended.history text ended.text saved
-  pub ending_is : ended.ending ≡ ending_of (ending_after why saved)
+  pub ending_is : error_of ended.ending ≡ ending_after why saved
   pub source_is : ended.source ≡ source_of desk.reader
   pub ahead_is : ended.ahead ≡ byte_ahead_of desk.reader
   pub unread_is : bytes_to_come (coming_in feed desk.reader)
       ≡ (with_kept ended.ahead (feed ended.source)).coming
   pub display_is : ended.display ≡ sink_of desk.out
   pub lines_are : ended.lines ≡ desk.lines
-
--- what is to be saved from a sink to which the history's text was written: everything that it took.
--- It is nothing if the sink has failed, since then its text is not whole
-abbrev pub text_to_save : {T : Type 0} → (T → List ℕ) → (T → Bool) → T → List ℕ
-text_to_save held failed text = cond (failed text) [] (held text)
 
 module _ {S H D L T : Type 0} (k : KnownDevices S D L) (held : T → List ℕ) (failed : T → Bool) where
   -- the relation of `run`: lines until one fails, and then the session's end. Display, lines and

@@ -1,19 +1,20 @@
 -- What is known of a session's devices, and its effect on them and on its history: all of its
--- events, or the first of them.
-use Rattle.std.specs.Prelude.{◌≡◌, ◌⊎◌, ⊤, ℕ, Bool, true, false, ◌&&◌, List, [], ◌∷◌, ◌++◌, Result, Ok, Err, IsTrue, IfErr, IsOkAnd}
+-- events, or the first of them. Its endings.
+use Rattle.std.specs.Prelude.{◌≡◌, ◌⊎◌, ⊤, ℕ, Bool, true, false, ◌&&◌, if◌then◌else◌, List, [], ◌∷◌, ◌++◌, Option, Some, None, Result, Ok, Err, IsTrue, IfErr, IsOkAnd}
 use Rattle.std.specs.List.{concat, flat_map}
 use Rattle.line_config.specs.Feed.{Feed}
 use Rattle.line_config.specs.declared.errors.ReadlineError.{ReadlineError}
 use Rattle.line_config.specs.declared.errors.ReadlineError.TheVariants.{Eof, Interrupted, NotUtf8, PasteOutOfPlace, Reader, Display, Lines, HistoryText, Helper, Handler, Memory}
-use Rattle.line_config.specs.Sending.{AppendsSome, Takes as TakesAll, TakesSome}
+use Rattle.line_config.specs.Sending.{Takes as TakesAll, TakesSome}
 use Rattle.line_editor.specs.LineRun.{breaks_after}
-use Rattle.line_help.specs.History.{Filed, all_saved, takes}
-use Rattle.line_help.specs.HistoryText.{text_to_save}
+use Rattle.line_help.specs.History.{Filed, takes}
+use Rattle.line_help.specs.HistoryText.{SavesNew, text_to_save}
 use Rattle.line_keys.specs.CustomBindings.{HandlerFails}
 use Rattle.line_keys.specs.KeyFeeds.{Paste, Coming, coming_after_error}
 use Rattle.line_screen.specs.Drawing.{break_if, row_break}
-use Rattle.line_screen.specs.ScreenCalls.{NothingWaits}
 use Rattle.keyline.specs.Events.{SessionEvent, Takes, Helped, Draws, Hears, Breaks, Keeps, Writes, AllAnswered, bytes_drawn, end_events, coming_after_events, lines_kept, lines_written}
+use Rattle.keyline.specs.declared.ending.Ending.{Ending}
+use Rattle.keyline.specs.declared.ending.Ending.TheVariants as how
 use Rattle.keyline.specs.Sessions.{Given, history_after, history_with_if, line_text, lines_text}
 
 -- what is known of a source, a display and a sink of lines
@@ -37,14 +38,6 @@ devices_by feed shown waits show_failed written_in write_waits write_failed = re
   write_waits = write_waits;
   write_failed = write_failed;
 }
-
--- a display that works has passed on everything that was drawn
-abbrev pub HasPassedOn : {S D L : Type 0} → KnownDevices S D L → D → Type 0
-HasPassedOn k display = NothingWaits k.waits k.show_failed display
-
--- a sink of lines that works has passed on everything that was written
-abbrev pub HasPassedLines : {S D L : Type 0} → KnownDevices S D L → L → Type 0
-HasPassedLines k lines = NothingWaits k.write_waits k.write_failed lines
 
 -- why no more lines are read: what was given, or a device that has failed. If a helper fails, the
 -- events say so
@@ -139,30 +132,15 @@ module _ {D : Type 0} (shown : D → List ℕ) (show_failed : D → Bool) where
 
   module _ (adds : Bool) (outcome : Result (List ℕ) ReadlineError) (old new : D)
       (history history' : Filed) where
-    -- the end of a line is drawn, and an accepted line is in the history
-    pub record EndIsDrawn : Type 0 where
-      pub row : RowIsDrawn (breaks outcome) old new
-      pub kept : history' ≡ history_after adds outcome history
-
-    -- or the display failed; or the row was drawn, and memory ran out for the history
-    abbrev pub EndIsCut : ReadlineError → Type 0
-    EndIsCut Display = RowIsCut (breaks outcome) old new × (history' ≡ history)
-    EndIsCut Memory = RowIsDrawn (breaks outcome) old new
-        × WantsMemory adds history outcome Memory × (history' ≡ history)
-    EndIsCut why = ⊥
-
+    -- the end of a line is drawn, and an accepted line is in the history; or the display failed; or
+    -- the row was drawn, and memory ran out for the history
     abbrev pub DrawsEnd : {A : Type 0} → Result A ReadlineError → Type 0
-    DrawsEnd (Ok done) = EndIsDrawn
-    DrawsEnd (Err why) = EndIsCut why
-
--- why the end of a line fails: as the line did, because a device has failed, or because memory ran
--- out
-abbrev pub CloseReason : Bool → Filed → Result (List ℕ) ReadlineError → Bool → Bool → Bool
-    → ReadlineError → Type 0
-CloseReason adds history outcome was_failed display lines e =
-    ((outcome ≡ Err e) × (display ≡ was_failed))
-    ⊎ (((e ≡ Display) × IsTrue display)
-    ⊎ (((e ≡ Lines) × IsTrue lines) ⊎ WantsMemory adds history outcome e))
+    DrawsEnd (Ok done) = RowIsDrawn (breaks outcome) old new
+        × (history' ≡ history_after adds outcome history)
+    DrawsEnd (Err Display) = RowIsCut (breaks outcome) old new × (history' ≡ history)
+    DrawsEnd (Err Memory) = RowIsDrawn (breaks outcome) old new
+        × WantsMemory adds history outcome Memory × (history' ≡ history)
+    DrawsEnd (Err why) = ⊥
 
 -- an accepted line is drawn to its end, added to the history and written. After the endings that
 -- ask for one a new row is drawn, and after the others nothing is done. No input is read
@@ -173,9 +151,11 @@ pub record Closes {D L : Type 0} (shown : D → List ℕ) (show_failed : D → B
   pub goes : (coming : Coming) → Went shown written_in adds (end_events outcome) (old coming)
       (new coming) (result ≡ outcome) (λ why. result ≡ Err why)
   pub stays : IfErr outcome (λ e. breaks_after e ≡ false → (new ≡ old) × (result ≡ Err e))
-  pub reason : (coming : Coming) → IfErr result (CloseReason adds (old coming).history outcome
-      (show_failed (old coming).display) (show_failed (new coming).display)
-      (write_failed (new coming).lines))
+  -- it fails as the line did, because a device has failed, or because memory ran out
+  pub reason : (coming : Coming) → let x = old coming in let y = new coming in IfErr result (λ e.
+      ((outcome ≡ Err e) × (show_failed y.display ≡ show_failed x.display))
+      ⊎ (((e ≡ Display) × IsTrue (show_failed y.display))
+      ⊎ (((e ≡ Lines) × IsTrue (write_failed y.lines)) ⊎ WantsMemory adds x.history outcome e)))
   -- a device that fails here is the fault
   pub display_is : (coming : Coming) → (result ≡ Err Display)
       ⊎ (show_failed (new coming).display ≡ show_failed (old coming).display)
@@ -184,24 +164,43 @@ pub record Closes {D L : Type 0} (shown : D → List ℕ) (show_failed : D → B
 
 -- ---- the end of a session
 
--- the history was saved, so that no entry is new; or the sink of its text has failed, and has taken
--- a prefix of the text. If no entry is new, the sink isn't called
-pub record Saves {T : Type 0} (held : T → List ℕ) (failed : T → Bool) (kept history' : Filed)
-    (text text' : T) (saved : Bool) : Type 0 where
-  pub done : saved ≡ true → (history' ≡ all_saved kept)
-      × TakesAll held text text' (text_to_save kept)
-  pub works : saved ≡ true → failed text' ≡ failed text
-  pub refused : saved ≡ false → (history' ≡ kept) × IsTrue (failed text')
-      × AppendsSome (held text) (text_to_save kept) (held text')
-  pub nothing : kept.unsaved ≡ 0 → (saved ≡ true) × (text' ≡ text)
-
--- the same if the text is asked for; otherwise the sink isn't called, and new entries stay new
+-- the history is saved if its text is asked for; otherwise the sink isn't called, and new entries
+-- stay new
 abbrev pub SavesIf : {T : Type 0} → (T → List ℕ) → (T → Bool) → Bool → Filed → Filed → T → T
     → Bool → Type 0
 SavesIf held failed true kept history' text text' saved =
-    Saves held failed kept history' text text' saved
+    SavesNew held failed (text_to_save kept) kept history' text text'
+    (if saved then Ok tt else Err HistoryText)
 SavesIf held failed false kept history' text text' saved =
     (saved ≡ true) × (history' ≡ kept) × (text' ≡ text)
+
+-- the status of a program that ends with its session
+abbrev pub status_of : Ending → ℕ
+status_of how.Eof = 0
+status_of how.Interrupted = 130
+status_of how.NotUtf8 = 3
+status_of how.PasteOutOfPlace = 4
+status_of ending = 1
+
+-- the error that has this ending: each error has one, and no two have the same
+abbrev pub error_of : Ending → ReadlineError
+error_of how.Eof = Eof
+error_of how.Interrupted = Interrupted
+error_of how.NotUtf8 = NotUtf8
+error_of how.PasteOutOfPlace = PasteOutOfPlace
+error_of how.Reader = Reader
+error_of how.Display = Display
+error_of how.Lines = Lines
+error_of how.HistoryText = HistoryText
+error_of how.Helper = Helper
+error_of how.Handler = Handler
+error_of how.Memory = Memory
+
+-- why there is no further line after this answer; after an interruption there is one
+abbrev pub reason_to_end : Result (List ℕ) ReadlineError → Option ReadlineError
+reason_to_end (Err Interrupted) = None
+reason_to_end (Err why) = Some why
+reason_to_end (Ok text) = None
 
 -- a fault comes before that of the history's text
 abbrev pub ending_after : ReadlineError → Bool → ReadlineError

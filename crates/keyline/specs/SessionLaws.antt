@@ -1,18 +1,16 @@
 -- Laws of sessions: what depends on their columns, the content of their history, what fewer keys
 -- send, where an input may be cut, how much fuel is enough, and that with the setting
 -- `modal_commands` off nothing becomes of a command before it is done.
-use Rattle.std.specs.Prelude.{◌≡◌, ℕ, suc, ◌<◌, ◌≤◌, map, true, false, if◌then◌else◌, List, [], ◌∷◌, ◌++◌, length, None, IsTrue}
+use Rattle.std.specs.Prelude.{◌≡◌, ℕ, suc, map, true, false, if◌then◌else◌, List, [], ◌∷◌, ◌++◌, None, IsTrue}
 use Rattle.std.specs.List.{flat_map}
 use Rattle.line_buffer.specs.Cells.{origin}
-use Rattle.script.specs.Played.{Played}
 use Rattle.script.specs.Scripts.{Ends as ScriptEnds, Asks}
-use Rattle.line_config.specs.declared.errors.ReadlineError.{ReadlineError}
-use Rattle.line_editor.specs.LineScripts.{Meets, LineAsk, LineScript, LineState, line_script, played_from, steps_along}
+use Rattle.line_editor.specs.LineScripts.{Meets, LineScript, line_script, played_from, steps_along}
 use Rattle.line_editor.specs.Values.{EditStep}
 use Rattle.line_help.specs.History.{Settings, Filed, nothing_filed, ignores_line, history_with_line, newest}
 use Rattle.line_screen.specs.Measure.{measure_of}
-use Rattle.keyline.specs.Events.{SessionEvent, Begins, Draws, events_of, first_in, lines_kept, line_course, line_play_in, session}
-use Rattle.keyline.specs.Sessions.{Given, LineGiven, SessionState, each, history_with_if, setting_in, state_over, coming_from}
+use Rattle.keyline.specs.Events.{SessionEvent, Begins, Draws, events_of, first_in, lines_kept, line_play_in, session}
+use Rattle.keyline.specs.Sessions.{Given, LineGiven, SessionState, each, history_with_if, setting_in, state_at, coming_from}
 use Rattle.line_config.specs.declared.device.Last.{Last}
 use Rattle.line_config.specs.declared.device.Last.TheVariants.{Failed, End}
 use Rattle.line_config.specs.declared.settings.EditMode.{EditMode}
@@ -35,29 +33,23 @@ event_without_columns (Begins s) = Begins (record s { columns = 0 })
 event_without_columns (Draws marks redraw sent) = Draws marks redraw []
 event_without_columns event = event
 
+-- the steps of a line without faults, each with the value that is current until then
+abbrev pub steps_in : ℕ → Given → SessionState → List EditStep
+steps_in n g x =
+    steps_along (setting_in g x.history.kept.entries) (first_in g x) (line_play_in n g x).asks
+
 -- two sessions that differ only in their columns are the same, event for event, if the prompt ends
--- in the same column and tabs aren't drawn as blanks. So they accept the same lines, save the same
--- text and have the same drawings. A tab drawn as blanks ends at the row's end, so that with such
--- tabs a motion by rows can depend on the columns
+-- in the same column and tabs aren't drawn as blanks; and so is each line, request for request and
+-- step for step. So they accept the same lines, save the same text and have the same drawings. A
+-- tab drawn as blanks ends at the row's end, so that a motion by rows can depend on the columns
 abbrev pub ColumnsAreFree : Type 0
 ColumnsAreFree = (n : ℕ) (g : Given) (x : SessionState) (columns : ℕ)
     → let other = at_columns columns g in
     let one = session n other (each other) x in let two = session n g (each g) x in
     g.screen.tab ≡ None → prompt_column other ≡ prompt_column g
     → (map event_without_columns one.events ≡ map event_without_columns two.events)
-    × (one.answer ≡ two.answer)
-
--- the steps of a line without faults, each with the value that is current until then
-abbrev pub steps_in : ℕ → Given → SessionState → List EditStep
-steps_in n g x =
-    steps_along (setting_in g x.history.kept.entries) (first_in g x) (line_play_in n g x).asks
-
--- and so is each line, request for request and step for step
-abbrev pub LineColumnsAreFree : Type 0
-LineColumnsAreFree = (n : ℕ) (g : Given) (x : SessionState) (columns : ℕ)
-    → let other = at_columns columns g in
-    g.screen.tab ≡ None → prompt_column other ≡ prompt_column g
-    → (line_play_in n other x ≡ line_play_in n g x) × (steps_in n other x ≡ steps_in n g x)
+    × (one.answer ≡ two.answer) × (line_play_in n other x ≡ line_play_in n g x)
+    × (steps_in n other x ≡ steps_in n g x)
 
 -- the lines that become entries, of these, added one after the other
 abbrev pub lines_taken : Filed → List (List ℕ) → List (List ℕ)
@@ -73,26 +65,14 @@ LastAreKept = (n : ℕ) (g : Given) (at : ℕ → LineGiven) (x : SessionState) 
     (history_with_if true lines empty).kept.entries
     ≡ newest settings.max_len (lines_taken empty lines)
 
--- the one is a prefix of the other
-abbrev pub IsBeginning : {A : Type 0} → List A → List A → Type 0
-IsBeginning {A} xs ys = (later : List A) × (ys ≡ xs ++ later)
-
 -- a source that fails after its bytes, compared with one that gives more of them and then does
 -- anything: the events with the first are a prefix of those with the second
 abbrev pub EventsBegin : (SessionState → List SessionEvent) → Type 0
 EventsBegin events = (ring : Ring) (query : List ℕ) (history : Filed) (mode : EditMode)
     (bytes more : List ℕ) (last : Last)
-    → IsBeginning (events (state_over ring query history mode bytes Failed))
-    (events (state_over ring query history mode (bytes ++ more) last))
-
--- so are a line's, and so is what is drawn, added to the history and written
-abbrev pub LinesBegin : Type 0
-LinesBegin = (n : ℕ) (g : Given) → EventsBegin (λ x. (line_course n g x).events)
-
--- and so are a session's, whatever prompt and columns each line has
-abbrev pub SessionsBegin : Type 0
-SessionsBegin = (n : ℕ) (g : Given) (at : ℕ → LineGiven)
-    → EventsBegin (λ x. (session n g at x).events)
+    → let x = state_at ring query history in (later : List SessionEvent)
+    × (events (x (coming_from mode (bytes ++ more) last))
+    ≡ events (x (coming_from mode bytes Failed)) ++ later)
 
 -- the keys and pastes of the one, then what the other has
 abbrev pub coming_then : Coming → Coming → Coming
@@ -113,24 +93,11 @@ CutsAreFree = (mode : EditMode) (bytes more : List ℕ) (last : Last)
     → coming_from mode (bytes ++ more) last
     ≡ coming_then (coming_from mode bytes End) (coming_from mode more last)
 
--- ---- fuel
-
--- how many keys and pastes remain
+-- how many keys and pastes remain: with more fuel than that a session is the same
 abbrev pub keys_and_pastes : Coming → ℕ
 keys_and_pastes (Pressed bytes k rest) = suc (keys_and_pastes rest)
 keys_and_pastes (Pasted bytes text rest) = suc (keys_and_pastes rest)
 keys_and_pastes coming = 0
-
--- two amounts of fuel above the number of remaining keys and pastes give one session
-abbrev pub FuelIsFree : Type 0
-FuelIsFree = (n m : ℕ) (g : Given) (at : ℕ → LineGiven) (x : SessionState)
-    → keys_and_pastes x.coming < n → keys_and_pastes x.coming < m
-    → session n g at x ≡ session m g at x
-
--- each key and each paste has a byte at least
-abbrev pub BytesAreEnough : Type 0
-BytesAreEnough = (mode : EditMode) (bytes : List ℕ) (last : Last)
-    → keys_and_pastes (coming_from mode bytes last) ≤ length bytes
 
 -- ---- the setting `modal_commands` off
 
@@ -140,16 +107,12 @@ script_without_meeting (ScriptEnds x) = ScriptEnds x
 script_without_meeting (Asks (Meets cmd) later) = script_without_meeting (later cmd)
 script_without_meeting (Asks ask later) = Asks ask (λ x. script_without_meeting (later x))
 
--- two lines have one outcome, one state and the same events, and the last query is as it was
-pub record GoAlike (g : Given) (x : SessionState)
-    (p q : Played LineAsk LineState ReadlineError (List ℕ)) : Type 0 where
-  pub answer : p.answer ≡ q.answer
-  pub rest : p.rest ≡ q.rest
-  pub events : events_of g x p.asks ≡ events_of g x q.asks
-  pub query : p.rest.modal.query ≡ x.query
-
--- a line goes as its script does without the requests that meet a command
+-- a line has the outcome, the state and the events of its script without the requests that meet a
+-- command, and the last query is as it was
 abbrev pub OffMeetsNone : Type 0
 OffMeetsNone = (n : ℕ) (g : Given) (x : SessionState) → g.config.modal_commands ≡ false
-    → GoAlike g x (line_play_in n g x) (played_from (setting_in g x.history.kept.entries)
-    (script_without_meeting (line_script n g.custom)) (first_in g x))
+    → let p = line_play_in n g x in
+    let q = played_from (setting_in g x.history.kept.entries)
+    (script_without_meeting (line_script n g.custom)) (first_in g x) in
+    (p.answer ≡ q.answer) × (p.rest ≡ q.rest)
+    × (events_of g x p.asks ≡ events_of g x q.asks) × (p.rest.modal.query ≡ x.query)

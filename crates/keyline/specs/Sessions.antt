@@ -67,11 +67,6 @@ state_at ring query history coming =
 abbrev pub coming_from : EditMode → List ℕ → Last → Coming
 coming_from mode bytes last = coming_of bytes (readings mode (chars_of bytes last))
 
--- the state before a line: the remaining input is that of these bytes, followed by this
-abbrev pub state_over : Ring → List ℕ → Filed → EditMode → List ℕ → Last → SessionState
-state_over ring query history mode bytes last =
-    state_at ring query history (coming_from mode bytes last)
-
 -- what is passed in for the next line
 abbrev pub setting_in : Given → List (List ℕ) → Setting
 setting_in g entries = setting_by (ruler_of g.screen) g.prompt g.helping entries g.config
@@ -83,8 +78,6 @@ history_with_if adds lines history = if adds then history_with_lines history lin
 abbrev pub history_after : Bool → Result (List ℕ) ReadlineError → Filed → Filed
 history_after adds (Ok text) history = history_with_if adds (text ∷ []) history
 history_after adds (Err e) history = history
-
--- ---- what is written
 
 -- an accepted line is written with a newline
 abbrev pub line_text : List ℕ → List ℕ

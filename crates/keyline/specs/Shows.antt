@@ -21,8 +21,7 @@ use Rattle.line_screen.specs.Chain.{View, Good, Picture, Shows, empty_view, fini
 use Rattle.line_screen.specs.Display.{Display, Placed, meaning}
 use Rattle.line_screen.specs.Drawing.{row_break}
 use Rattle.line_screen.specs.Measure.{measure_of}
-use Rattle.keyline.specs.Events.{SessionEvent, Begins, Draws, Rests, Breaks, session}
-use Rattle.keyline.specs.Sessions.{Given, LineGiven, SessionState}
+use Rattle.keyline.specs.Events.{SessionEvent, Begins, Draws, Rests, Breaks}
 use Rattle.line_editor.specs.Commands.{Means, effect}
 use Rattle.line_editor.specs.LineScripts.{LineState, made_from, played_from, turn_script, LineScript, turn_start, phrase_script}
 use Rattle.line_editor.specs.declared.commands.Status.{Status}
@@ -49,16 +48,19 @@ place_in s x = if x.ended then finish_of s.columns (widths s) (picture x)
 abbrev pub view_in : Screen → ℕ → Sight → View
 view_in s top x = record { shown = picture x; top = top; place = place_in s x }
 
--- the bytes so far show what is to be shown. The stored layout says where its cursor and its end
--- are, whether information is shown, and whether its prompt is the session's own
+-- the stored layout says whether information is shown, and whether the session's own prompt is
+pub record TellsSight (l : Layout) (x : Sight) : Type 0 where
+  pub info_is : l.has_info ≡ is_some x.info
+  pub given_is : l.default_prompt ≡ x.given
+
+-- the bytes so far show what is to be shown. The stored layout says where its cursor and end are
 pub record DisplayHolds (s : Screen) (bytes : List ℕ) (over : List Placed) (top : ℕ) (l : Layout)
     (x : Sight) : Type 0 where
   pub good : Good s.columns (widths s) bytes over (view_in s top x)
   pub cursor : l.cursor ≡ place_in s x
   pub finish : l.end ≡ finish_of s.columns (widths s) (picture x)
   pub prompt_size : l.prompt_size ≡ measure_of s.mode s.tab s.columns x.prompt origin
-  pub info_is : l.has_info ≡ is_some x.info
-  pub given_is : l.default_prompt ≡ x.given
+  pub tells : TellsSight l x
 
 -- ---- the premise: rows are counted to 65,535
 
@@ -89,17 +91,9 @@ abbrev pub kept_after : {A : Type 0} → List EditStep → A → A → A
 kept_after [] kept cleared = kept
 kept_after (r ∷ rs) kept cleared = kept_after rs (kept_by r kept cleared) cleared
 
--- the row after a whole drawing
-abbrev pub next_top : Screen → ℕ → Sight → ℕ
-next_top s top x = top + (finish_of s.columns (widths s) (picture x)).row + 1
-
--- ---- what is sent
-
-abbrev pub calls_by_screen : Screen → Layout → List EditStep → RedrawCalls
-calls_by_screen s l steps = calls_of_steps (ruler_of s) l steps
-
+-- what is sent for these steps
 abbrev pub bytes_for : Screen → Layout → List EditStep → List ℕ
-bytes_for s l steps = flat_map (bytes_of s) (calls_by_screen s l steps).calls
+bytes_for s l steps = flat_map (bytes_of s) (calls_of_steps (ruler_of s) l steps).calls
 
 -- ---- the meaning of these bytes
 
@@ -130,7 +124,8 @@ abbrev pub face_on_new_row : Face → Face
 face_on_new_row f = record f { bytes = f.bytes ++ row_break }
 
 abbrev pub below : Face → Display → Face
-below f d = face f.screen f.bytes (next_top f.screen f.top f.seen) d.placed no_sight
+below f d = let last = finish_of f.screen.columns (widths f.screen) (picture f.seen) in
+    face f.screen f.bytes (f.top + last.row + 1) d.placed no_sight
 
 -- columns that a display's rows may have
 pub record IsScreen (s : Screen) : Type 0 where
@@ -143,10 +138,6 @@ pub record IsAtRest (f : Face) : Type 0 where
   pub good : Good f.screen.columns (widths f.screen) f.bytes f.over (empty_view f.top)
   pub nothing : f.seen ≡ no_sight
 
--- before the first byte
-abbrev pub BlankIsAtRest : Type 0
-BlankIsAtRest = (s : Screen) → IsScreen s → IsAtRest (blank s)
-
 -- the bytes so far have a meaning, with these rows above the top
 pub record HasMeaning (f : Face) : Type 0 where
   pub display : Display
@@ -158,11 +149,9 @@ pub record HasMeaning (f : Face) : Type 0 where
 -- place
 pub record MomentShown (f : Face) (marks : Option Marks) (given : Bool) (prompt text : List ℕ)
     (place : ℕ) : Type 0 where
-  pub display : Display
-  pub means : meaning f.screen.columns (widths f.screen).cluster f.bytes ≡ Some display
+  pub means : HasMeaning f
   pub shows : Shows f.screen.columns (widths f.screen)
-      (picture (sight_with marks given prompt text place f.seen.info)) f.top display
-  pub over_is : filter (above f.top) display.placed ≡ f.over
+      (picture (sight_with marks given prompt text place f.seen.info)) f.top means.display
 
 -- event after event: at each moment the bytes so far show prompt and line, and after each drawing
 -- they have a meaning. This holds as long as everything shown is within the rows that can be
@@ -181,18 +170,13 @@ EachShown f (Breaks ∷ later) =
     let g = face_on_new_row f in (m : HasMeaning g) × EachShown (below g m.display) later
 EachShown f (event ∷ later) = EachShown f later
 
--- a session, with a prompt and columns for each line, from any display between two lines
-abbrev pub SessionsShow : Type 0
-SessionsShow = (n : ℕ) (g : Given) (at : ℕ → LineGiven) (x : SessionState) (f : Face) → IsAtRest f
-    → EachShown f (session n g at x).events
-
 -- from any bytes after which the display shows the one, the bytes of these steps lead to the other;
 -- the rows above stay until the screen is cleared
 abbrev pub Lead : Screen → Sight → List EditStep → Sight → Type 0
 Lead s x steps y = (bytes : List ℕ) (over : List Placed) (top : ℕ) (l : Layout)
     → DisplayHolds s bytes over top l x → LowAll s x steps
     → DisplayHolds s (bytes ++ bytes_for s l steps) (kept_after steps over [])
-    (kept_after steps top 0) (calls_by_screen s l steps).layout y
+    (kept_after steps top 0) (calls_of_steps (ruler_of s) l steps).layout y
 
 -- an interruption leaves the cursor at the drawing's end
 abbrev pub sight_behind : Cmd → Sight → Sight
@@ -201,14 +185,14 @@ sight_behind cmd x = x
 
 -- a command, with any information
 abbrev pub CommandsShow : Type 0
-CommandsShow = (s : Screen) → 2 ≤ s.columns → s.columns ≤ 1000
+CommandsShow = (s : Screen) → IsScreen s
     → (m : Means) (cmd : Cmd) (a : Setting) (v : Value) (info : Option (List ℕ))
     → let e = effect m cmd a v in Lead s (sight_of a v info) e.steps
     (sight_behind cmd (sight_of a e.value (info_after e.steps info)))
 
 -- a phrase and its command, whatever the input is; while a search stands, its prompt is shown
 abbrev pub TurnsShow : Type 0
-TurnsShow = (s : Screen) → 2 ≤ s.columns → s.columns ≤ 1000
+TurnsShow = (s : Screen) → IsScreen s
     → (n : ℕ) (a : Setting) (custom : Custom) (k : LineState) (info : Option (List ℕ))
     (status : Status) → let turn = turn_script n custom in let made = made_from a turn k in
     let p = played_from a turn k in p.answer ≡ Ok status
@@ -217,16 +201,11 @@ TurnsShow = (s : Screen) → 2 ≤ s.columns → s.columns ≤ 1000
 
 -- ---- one byte for a typed character
 
--- the stored layout says whether information is shown, and whether the session's own prompt is
-pub record TellsSight (l : Layout) (x : Sight) : Type 0 where
-  pub info_is : l.has_info ≡ is_some x.info
-  pub given_is : l.default_prompt ≡ x.given
-
--- and it does after any steps
+-- the stored layout tells what is shown after any steps, if it did before
 abbrev pub LayoutsTell : Type 0
 LayoutsTell = (s : Screen) (own : List ℕ) (steps : List EditStep) (l : Layout) (x : Sight)
     → TellsSight l x → FitsAll own x steps
-    → TellsSight (calls_by_screen s l steps).layout (sight_all x steps)
+    → TellsSight (calls_of_steps (ruler_of s) l steps).layout (sight_all x steps)
 
 -- a character that its byte alone may show, if the text has space, in a line bare after it too
 pub record TypedAtEnd (a : Setting) (v : Value) (c : ℕ) : Type 0 where
@@ -239,7 +218,7 @@ pub record ReadAlone (a : Setting) (k : LineState) (phrase : LineScript Cmd) (c 
   pub answer : (played_from a phrase k).answer ≡ Ok (SelfInsert 1 c)
   pub value_is : (made_from a phrase k).value ≡ k.value
   pub unasked : (s : Screen) (l : Layout)
-      → calls_by_screen s l (made_from a phrase k).steps ≡ nothing_asked l
+      → calls_of_steps (ruler_of s) l (made_from a phrase k).steps ≡ nothing_asked l
 
 -- if no search stands, and the layout allows its byte to be written alone, its turn sends that byte
 abbrev pub OneByte : Type 0

@@ -4,9 +4,9 @@ use Rattle.std.specs.List.{flat_map}
 use Rattle.line_config.specs.declared.errors.ReadlineError.{ReadlineError}
 use Rattle.line_help.specs.HistoryText.{text_to_save}
 use Rattle.line_keys.specs.KeyFeeds.{bytes_to_come}
-use Rattle.keyline.specs.Endings.{ending_of}
 use Rattle.keyline.specs.Program.{EditHelper, helper_with}
 use Rattle.keyline.specs.Events.{Course, bytes_drawn, coming_after_events, lines_kept, lines_written, session}
+use Rattle.keyline.specs.SessionEffects.{error_of}
 use Rattle.keyline.specs.Sessions.{Given, SessionState, each, lines_text, history_with_if}
 use Rattle.keyline.specs.Shows.{EachShown, Face, IsAtRest}
 use Rattle.keyline.specs.declared.ending.Ending.{Ending}
@@ -34,7 +34,7 @@ pub record IsTranscript (g : Given) (start : SessionState) (course : Course Read
   pub display_is : t.display.items ≡ flat_map bytes_drawn course.events
   pub history_is : t.history.items ≡ text_to_save
       (history_with_if g.config.auto_add_history (flat_map lines_kept course.events) start.history)
-  pub ending_is : t.ending ≡ ending_of course.answer
+  pub ending_is : error_of t.ending ≡ course.answer
   pub unread_is : t.unread.items ≡ bytes_to_come (coming_after_events start.coming course.events)
 
 -- THE relation of a session over memory: it is the definition's, for more fuel than there are bytes

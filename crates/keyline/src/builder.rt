@@ -1,8 +1,8 @@
 //! Builds a session from its requested parts, with the program's defaults for the rest.
 
-ghost use Rattle.std.specs.Prelude.{◌≡◌, ◌≤◌, IfErr, IfOk, Some, [], false, true};
+ghost use Rattle.std.specs.Prelude.{◌≡◌, ◌≤◌, ◌⊎◌, ℕ, IfErr, IfOk, Some, [], false, true};
 ghost use Rattle.line_config.specs.Adapters.{IsUnread, IsUnused, gave, bytes_taken};
-ghost use Rattle.keyline.specs.Options.{ColumnsBy};
+ghost use Rattle.keyline.specs.Options.{WritesColumns};
 ghost use Rattle.keyline.specs.Program.{IsByEnvironment, profile_of, standard_config};
 ghost use Rattle.keyline.specs.SessionCalls.{HasDefaults, HasGiven, builder_with, desk_of, Opens, Unopens};
 
@@ -77,7 +77,8 @@ fn standard_config() -> Config
 
 /// The number of columns in a text of decimal digits, 2 to 1,000; 80 for any other text.
 fn columns_by(text: &str) -> u16
-    ensures { ColumnsBy text.now result }
+    ensures { WritesColumns text.now result
+        ⊎ ((result ≡ 80) × ((written : ℕ) → WritesColumns text.now written → ⊥)) }
 {
     match text.parse::<u16>() {
         Ok(columns) if !text.starts_with('+') && 2 <= columns && columns <= 1000 => columns,

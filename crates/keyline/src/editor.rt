@@ -5,8 +5,7 @@ ghost use Rattle.std.specs.Option.{option_map_or};
 ghost use Rattle.line_config.specs.declared.errors.ReadlineError.TheVariants.{Eof};
 ghost use Rattle.line_keys.specs.KeyFeeds.{answer_map};
 ghost use Rattle.line_editor.specs.LineRun.{helper_from_hooks};
-ghost use Rattle.keyline.specs.Endings.{reason_to_end};
-ghost use Rattle.keyline.specs.SessionEffects.{devices_by};
+ghost use Rattle.keyline.specs.SessionEffects.{devices_by, reason_to_end};
 ghost use Rattle.keyline.specs.SessionCalls.{Finishes};
 
 use crate::session::{Ended, Session};

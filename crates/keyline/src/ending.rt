@@ -1,7 +1,8 @@
 //! How a session ends.
 
 ghost use Rattle.std.specs.Prelude.{◌≡◌};
-ghost use Rattle.keyline.specs.Endings.{status_of, error_of, ending_text};
+ghost use Rattle.line_config.specs.Refusals.{refusal_text};
+ghost use Rattle.keyline.specs.SessionEffects.{status_of, error_of};
 
 use line_config::ReadlineError;
 
@@ -49,7 +50,7 @@ impl Ending {
 
     /// The message of the ending: that of its error.
     pub fn text(self) -> &'static str
-        ensures { result.now ≡ ending_text self }
+        ensures { result.now ≡ refusal_text (error_of self) }
     {
         self.error().text()
     }
@@ -76,9 +77,9 @@ impl Ending {
 
 impl From<ReadlineError> for Ending {
     ghost use Rattle.std.specs.Prelude.{◌≡◌};
-    ghost use Rattle.keyline.specs.Endings.{ending_of};
+    ghost use Rattle.keyline.specs.SessionEffects.{error_of};
 
-    ghost from_gives = { λ refusal ending. ending ≡ ending_of refusal };
+    ghost from_gives = { λ refusal ending. error_of ending ≡ refusal };
 
     fn from(refusal: ReadlineError) -> Ending {
         match refusal {

@@ -1,16 +1,20 @@
 //! Laws of the definitions. Each is the contract of a function that does nothing, or of a call
 //! about which more is known.
 
-ghost use Rattle.std.specs.Prelude.{IsTrue, true};
+ghost use Rattle.std.specs.Prelude.{◌≡◌, ℕ, ◌<◌, ◌≤◌, List, length, IsTrue, true};
 ghost use Rattle.line_config.specs.Feed.{AlwaysTold};
 ghost use Rattle.line_editor.specs.LineRun.{helper_from_hooks};
-ghost use Rattle.keyline.specs.SessionLaws.{BytesAreEnough, CutsAreFree, FuelIsFree, LinesBegin, OffMeetsNone, SessionsBegin, ColumnsAreFree, LineColumnsAreFree, LastAreKept};
+ghost use Rattle.line_config.specs.declared.device.Last.{Last};
+ghost use Rattle.line_config.specs.declared.settings.EditMode.{EditMode};
+ghost use Rattle.line_screen.specs.ScreenCalls.{Screen};
+ghost use Rattle.keyline.specs.SessionLaws.{CutsAreFree, EventsBegin, OffMeetsNone, ColumnsAreFree, LastAreKept, keys_and_pastes};
 ghost use Rattle.keyline.specs.Desks.{TakesLines};
 ghost use Rattle.keyline.specs.SessionEffects.{devices_by};
-ghost use Rattle.keyline.specs.Shows.{LayoutsTell, OneByte, BlankIsAtRest, SessionsShow, CommandsShow, TurnsShow};
+ghost use Rattle.keyline.specs.Shows.{EachShown, Face, IsAtRest, IsScreen, LayoutsTell, OneByte, CommandsShow, TurnsShow, blank};
 ghost use Rattle.keyline.specs.Pasting.{PastesAreAccepted, PastedLinesAreAccepted};
 ghost use Rattle.keyline.specs.SessionCalls.{RunsSession, desk_of, given_in, prompt_of, text_sink};
-ghost use Rattle.keyline.specs.Events.{LinesInOrder};
+ghost use Rattle.keyline.specs.Events.{LinesInOrder, line_course, session};
+ghost use Rattle.keyline.specs.Sessions.{Given, LineGiven, SessionState, coming_from};
 
 use crate::prompter::Prompter;
 use crate::session::{Ended, Session};
@@ -96,8 +100,9 @@ pub fn one_byte()
 /// their cells until a screen is cleared. This holds from any display between two lines, such as a
 /// blank one, and with a prompt and columns for each line.
 pub fn sessions_show()
-    ensures blank { BlankIsAtRest }
-    ensures sessions { SessionsShow }
+    ensures blank { (s : Screen) → IsScreen s → IsAtRest (blank s) }
+    ensures sessions { (n : ℕ) (g : Given) (at : ℕ → LineGiven) (x : SessionState) (f : Face)
+        → IsAtRest f → EachShown f (session n g at x).events }
 {}
 
 /// Two sessions that differ only in their columns accept the same lines and save the same text, if
@@ -105,8 +110,7 @@ pub fn sessions_show()
 /// sent they are the same, event for event, and so is each line, with the values and marks of its
 /// steps.
 pub fn columns()
-    ensures sessions { ColumnsAreFree }
-    ensures lines { LineColumnsAreFree }
+    ensures { ColumnsAreFree }
 {}
 
 /// Any first events of a session have written the first of its lines, and added these and at most
@@ -139,16 +143,20 @@ pub fn paste()
 /// compares a source that fails after its bytes with one that gives more bytes, in a line and in a
 /// session.
 pub fn fewer_keys()
-    ensures lines { LinesBegin }
-    ensures sessions { SessionsBegin }
+    ensures lines { (n : ℕ) (g : Given) → EventsBegin (λ x. (line_course n g x).events) }
+    ensures sessions { (n : ℕ) (g : Given) (at : ℕ → LineGiven)
+        → EventsBegin (λ x. (session n g at x).events) }
 {}
 
 /// Two amounts of fuel above the number of remaining keys and pastes give one session. Each key and
 /// each paste has at least one byte. So a session computed with more fuel than bytes of keys is the
 /// session of every contract.
 pub fn fuel()
-    ensures sessions { FuelIsFree }
-    ensures bytes { BytesAreEnough }
+    ensures sessions { (n m : ℕ) (g : Given) (at : ℕ → LineGiven) (x : SessionState)
+        → keys_and_pastes x.coming < n → keys_and_pastes x.coming < m
+        → session n g at x ≡ session m g at x }
+    ensures bytes { (mode : EditMode) (bytes : List ℕ) (last : Last)
+        → keys_and_pastes (coming_from mode bytes last) ≤ length bytes }
 {}
 
 /// With the setting `modal_commands` off nothing becomes of a command before it is done. So a line

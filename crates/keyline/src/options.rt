@@ -1,11 +1,11 @@
 //! The program's options, parsed from a command line.
 
-ghost use Rattle.std.specs.Prelude.{◌≡◌, ◌≤◌, ◌↔◌, IfOk, IfSome, IsTrue, MatchOption, Some, codes, map};
+ghost use Rattle.std.specs.Prelude.{◌≡◌, ◌≤◌, ◌↔◌, IfOk, IfSome, IsTrue, MatchOption, MatchResult, Some, codes, map};
 ghost use Rattle.std.specs.Prelude.{false, option_map, string_bytes};
 ghost use Rattle.clap.specs.Words.{app_of, first_of, found_of, kind_of, new_app};
 ghost use Rattle.clap.specs.Words.{rows_of, rule_of};
-ghost use Rattle.keyline.specs.Options.{ParsesTo, AreColumns, Chooses, ChoosesNone, TakesOptions};
-ghost use Rattle.keyline.specs.Options.{HasColumns, IsMode};
+ghost use Rattle.keyline.specs.Options.{ParsesTo, AreColumns, Chooses, ChoosesNone, FailsBy};
+ghost use Rattle.keyline.specs.Options.{HasColumns, mode_name};
 ghost use Rattle.keyline.specs.Options.{Says, command_line, text_option_with_default, flag, text_option};
 
 use crate::help::keys;
@@ -76,7 +76,8 @@ fn refused(alloc: Global, error: &Error) -> Parsed
 }
 
 fn try_parse<'a, S: AsStr>(alloc: Global, words: &'a [S]) -> Result<Options, Error>
-    ensures gives { TakesOptions (map S.text words.now) result }
+    ensures gives { MatchResult result (λ options. ParsesTo (map S.text words.now) (Parsed.Run options))
+        (λ error. FailsBy (map S.text words.now) (kind_of error)) }
     ensures columns { IfOk result (λ options. (2 ≤ options.columns) × (options.columns ≤ 1000)) }
 {
     let matches = command_line(alloc)?.try_get_matches_from(words)?;
@@ -213,8 +214,8 @@ fn owned(alloc: Global, text: Option<&str>) -> Result<Option<String>, AllocError
 
 fn mode_of(name: Option<&str>) -> Option<EditMode>
     ensures { MatchOption result
-        ((mode : _) → IsMode (option_map (λ s. s.now) name.entry) mode → ⊥)
-        (IsMode (option_map (λ s. s.now) name.entry)) }
+        ((mode : _) → option_map (λ s. s.now) name.entry ≡ Some (mode_name mode) → ⊥)
+        (λ mode. option_map (λ s. s.now) name.entry ≡ Some (mode_name mode)) }
 {
     match name? {
         "emacs" => Some(EditMode::Emacs),

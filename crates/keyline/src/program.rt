@@ -1,9 +1,9 @@
 //! A session with the program's options.
 
-ghost use Rattle.std.specs.Prelude.{◌≡◌, ◌≤◌, IfErr, IfOk, [], false, if◌then◌else◌, true};
+ghost use Rattle.std.specs.Prelude.{◌≡◌, ◌≤◌, IfErr, IfOk, [], false, if◌then◌else◌, true, unwrap_or};
 ghost use Rattle.line_config.specs.Adapters.{reader_of, writer_of};
 ghost use Rattle.keyline.specs.SessionEffects.{devices_by};
-ghost use Rattle.keyline.specs.Program.{EditsBy, PlaysOver, UnopensOver, IsByEnvironment, config_of, had_by, has_text, helper_of, helper_with, invoked_config, profile_of, config_without_colours, word_texts};
+ghost use Rattle.keyline.specs.Program.{EditsBy, PlaysOver, UnopensOver, IsByEnvironment, config_of, has_text, helper_of, helper_with, invoked_config, profile_of, config_without_colours, word_texts};
 ghost use Rattle.keyline.specs.SessionCalls.{Unopens};
 
 use crate::boxed::{Boxed, Devices};
@@ -237,8 +237,8 @@ pub fn play<'a, K: Foretold<R>, R: Read + Drop, E: Write + Drop, W: Write + Drop
         ⟦<WriteSink<W> as Sink>⟧.held ⟦<WriteSink<W> as Sink>⟧.waits
         ⟦<WriteSink<W> as Sink>⟧.has_failed in
         IfOk result (PlaysOver known ⟦<VecSink as Sink>⟧.held ⟦<VecSink as Sink>⟧.has_failed
-        (config_of options.now) options.now (word_texts words) (had_by E.contents display)
-        (had_by W.contents lines) old.entry.now (K.left keys []) K.last) }
+        (config_of options.now) options.now (word_texts words) (unwrap_or (E.contents display) [])
+        (unwrap_or (W.contents lines) []) old.entry.now (K.left keys []) K.last) }
     ensures refused { IfErr result (UnopensOver ⟦<SliceSource<'a> as Source>⟧.feed
         ⟦<VecSink as Sink>⟧.held (config_of options.now) old.entry.now keys display lines) }
 {
@@ -275,8 +275,8 @@ pub fn play_with<'a, K: Foretold<R>, R: Read + Drop, E: Write + Drop, W: Write +
         ⟦<WriteSink<W> as Sink>⟧.held ⟦<WriteSink<W> as Sink>⟧.waits
         ⟦<WriteSink<W> as Sink>⟧.has_failed in
         IfOk result (PlaysOver known ⟦<VecSink as Sink>⟧.held ⟦<VecSink as Sink>⟧.has_failed
-        config options.now (word_texts words) (had_by E.contents display)
-        (had_by W.contents lines) old.entry.now (K.left keys []) K.last) }
+        config options.now (word_texts words) (unwrap_or (E.contents display) [])
+        (unwrap_or (W.contents lines) []) old.entry.now (K.left keys []) K.last) }
     ensures refused { IfErr result (UnopensOver ⟦<SliceSource<'a> as Source>⟧.feed
         ⟦<VecSink as Sink>⟧.held config old.entry.now keys display lines) }
 {

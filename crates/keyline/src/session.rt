@@ -1,12 +1,14 @@
 //! Sessions: key bytes become accepted lines, a history and display bytes.
 
-ghost use Rattle.std.specs.Prelude.{◌≡◌, ◌≤◌, IfErr, IfOk, IsTrue, OnErr, OnOk, false, true, string_bytes};
+ghost use Rattle.std.specs.Prelude.{◌≡◌, ◌≤◌, [], IfErr, IfOk, IsTrue, OnErr, OnOk, cond, false, true, string_bytes};
 ghost use Rattle.line_config.specs.declared.errors.ReadlineError.TheVariants.{Memory};
 ghost use Rattle.line_help.specs.History.{takes};
 ghost use Rattle.line_keys.specs.KeyFeeds.{answer_map};
 ghost use Rattle.line_editor.specs.LineRun.{helper_from_hooks};
-ghost use Rattle.keyline.specs.SessionEffects.{Saves, SavesIf, devices_by, ending_after};
-ghost use Rattle.keyline.specs.SessionCalls.{HasGiven, ReadsNext, SetsScreen, desk_of, given_in, history_of, prompt_of, text_sink, with_entry, with_helper, BeginsSession, Finishes, LoadRefused, Loaded, Opens, Remains, RunsSession, Unopens, text_to_save};
+ghost use Rattle.keyline.specs.SessionEffects.{SavesIf, devices_by, ending_after};
+ghost use Rattle.keyline.specs.SessionCalls.{HasGiven, ReadsNext, SetsScreen, desk_of, given_in, history_of, prompt_of, text_sink, with_entry, with_helper, Finishes, LoadRefused, Loaded, Opens, Remains, RunsSession, Unopens};
+ghost use Rattle.keyline.specs.declared.session.TheConstants.{KILL_RING_SIZE};
+ghost use Rattle.line_record.specs.Ring.{new_ring};
 
 use crate::boxed::Boxed;
 use crate::desk::{Desk, renderer_over};
@@ -123,8 +125,8 @@ impl<S, D, L> Ended<S, D, L, VecSink> {
     /// The history's text, to be saved where it was loaded from. It is empty, and nothing must be
     /// saved, if no entry is new or if memory ran out for the whole text.
     pub fn text_to_save(&self) -> &[u8]
-        ensures { result.now ≡ text_to_save ⟦<VecSink as Sink>⟧.held
-            ⟦<VecSink as Sink>⟧.has_failed self.now.text }
+        ensures { result.now ≡ cond (⟦<VecSink as Sink>⟧.has_failed self.now.text) []
+            (⟦<VecSink as Sink>⟧.held self.now.text) }
     {
         if self.text.failed() {
             &[]
@@ -166,8 +168,10 @@ fn begin<F: Source>(
     source: &mut F,
 ) -> Result<Beginning, ReadlineError>
     requires { (F.feed source.old).failed ≡ false }
-    ensures ok { IfOk result (BeginsSession (IsTrue (F.feed source.new).told) config.now
-        prompt.now (F.feed source.old)) }
+    ensures history { IfOk result (λ b. Loaded (IsTrue (F.feed source.new).told) config.now
+        (F.feed source.old) b.history) }
+    ensures ring { IfOk result (λ b. b.ring ≡ new_ring KILL_RING_SIZE) }
+    ensures prompt { IfOk result (λ b. string_bytes b.prompt ≡ prompt.now) }
     ensures fault { IfErr result (LoadRefused config.now (F.feed source.old) (F.feed source.new)) }
     ensures remains { Remains (F.feed source.old) (F.feed source.new) }
 {
@@ -183,7 +187,7 @@ fn begin<F: Source>(
 
 /// Saves the history if an entry is new, and returns whether the sink took it.
 fn save<T: Sink>(history: &mut FileHistory, text: &mut T) -> bool
-    ensures { Saves T.held T.has_failed history.old history.new text.old text.new result }
+    ensures { SavesIf T.held T.has_failed true history.old history.new text.old text.new result }
 {
     match history.save_to(text) {
         Ok(()) => true,

@@ -22,7 +22,7 @@ use Rattle.line_editor.specs.Redraws.{RedrawCalls, info_text, fresh, full, nothi
 use Rattle.line_editor.proofs.ShortCalls.{move_call, char_call, append_call, put_in_short, taken_out_short, write_over_call}
 use Rattle.line_editor.specs.Redraws.Redraw.{Drawn, Moved, Typed, Appended, Taken, Erased, PutIn, TakenOut, DrawnFrom, Bared, ToEnd, Beeped, Cleared, Rewritten}
 use Rattle.line_editor.specs.Sights.{Sight, sight_with, no_sight, sight, sight_all, drawn_spans, Fits, FitsAll, TypedFits, Replaces}
-use Rattle.line_editor.specs.EditSteps.{one}
+use Rattle.line_editor.specs.EditSteps.{one, calls_of_steps}
 use Rattle.line_editor.specs.Values.{EditStep, Value, shown_marks}
 use Rattle.line_editor.specs.Values.EditStep.{Draws}
 use Rattle.line_screen.specs.ScreenCalls.{Screen, bell_bytes, bytes_of, ruler_of, styles_of, line_styles, widths}
@@ -38,7 +38,7 @@ use Rattle.line_screen.proofs.Fitting.{items_fit}
 use Rattle.line_screen.proofs.LawLemmas.{start_is_empty}
 use Rattle.line_screen.proofs.StyleLemmas.{styles_are}
 use Rattle.line_screen.proofs.StyledTextLemmas.{skip_styles, text_painted}
-use Rattle.keyline.specs.Shows.{DisplayHolds, Low, LowStep, LowAll, bytes_for, calls_by_screen, kept_by}
+use Rattle.keyline.specs.Shows.{DisplayHolds, Low, LowStep, LowAll, bytes_for, kept_by}
 use Rattle.keyline.proofs.ShowSteps.{drawn_holds, fresh_holds, if_none, rewritten_letters, small, step}
 use Rattle.keyline_call.specs.Laws.{drawing_start, begins_drawing, last_drawing}
 use Rattle.line_screen.proofs.Parts.{painted_drawing, open_cell, is_step_back, begin_inserting, end_inserting, begins_two_rows}
@@ -429,7 +429,7 @@ module _ (s : Screen) (low : 2 ≤ s.columns) (high : s.columns ≤ 1000) (own :
       (λ is. (refl, both written no_bytes)) a fits rows none
   step_anew (Draws v m (Bared prompt text at)) bytes l x a fits rows none =
       let h : DisplayHolds s ([] ++ (drawing_start ++ a.later)) [] 0 l x = a.holds [] [] 0 (start_is_empty s low high) in
-      let is = ap (λ b. if b then nothing_asked l else by_whole v m l prompt text at) (h.given_is ∙ fits) in
+      let is = ap (λ b. if b then nothing_asked l else by_whole v m l prompt text at) (h.tells.given_is ∙ fits) in
       kept_on_as (Draws v m (Bared prompt text at)) bytes l x (nothing_asked l) is (refl, no_bytes) a fits rows none
   step_anew (Draws v m ToEnd) bytes l x a fits rows none = kept_on_step (Draws v m ToEnd) bytes l x (quiet_move l l.end (same_cell l.cursor l.end)) a fits rows none
   step_anew (Draws v m Beeped) bytes l x a fits rows none = kept_on_step (Draws v m Beeped) bytes l x (refl, quiet_bell s.bell) a fits rows none
@@ -469,14 +469,14 @@ module _ (s : Screen) (low : 2 ≤ s.columns) (high : s.columns ≤ 1000) (own :
       → (bytes ++ flat_map (bytes_of s) (one (ruler_of s) l r).calls) ++ bytes_for s (one (ruler_of s) l r).layout rs ≡ bytes ++ bytes_for s l (r ∷ rs)
   joined r rs bytes l =
       let q = one (ruler_of s) l r in
-      append_assoc bytes (flat_map (bytes_of s) q.calls) (bytes_for s q.layout rs) ∙ ap (λ b. bytes ++ b) (sym (flat_map-append (bytes_of s) q.calls (calls_by_screen s q.layout rs).calls))
+      append_assoc bytes (flat_map (bytes_of s) q.calls) (bytes_for s q.layout rs) ∙ ap (λ b. bytes ++ b) (sym (flat_map-append (bytes_of s) q.calls (calls_of_steps (ruler_of s) q.layout rs).calls))
 
   pub all_either : (rs : List EditStep) (bytes : List ℕ) (l : Layout) (x : Sight) → Either bytes l x → FitsAll own x rs → LowAll s x rs
-      → Either (bytes ++ bytes_for s l rs) (calls_by_screen s l rs).layout (sight_all x rs)
+      → Either (bytes ++ bytes_for s l rs) (calls_of_steps (ruler_of s) l rs).layout (sight_all x rs)
   all_either [] bytes l x h fits rows = subst (λ b. Either b l x) (sym (append-nil bytes)) h
   all_either (r ∷ rs) bytes l x h fits rows =
       let q = one (ruler_of s) l r in
-      subst (λ b. Either b (calls_by_screen s l (r ∷ rs)).layout (sight_all x (r ∷ rs))) (joined r rs bytes l)
+      subst (λ b. Either b (calls_of_steps (ruler_of s) l (r ∷ rs)).layout (sight_all x (r ∷ rs))) (joined r rs bytes l)
       (all_either rs (bytes ++ flat_map (bytes_of s) q.calls) q.layout (sight x r) (step_either r bytes l x h fits.0 rows.0) fits.1 rows.1)
 
   -- none of the steps clears the screen
@@ -485,9 +485,9 @@ module _ (s : Screen) (low : 2 ≤ s.columns) (high : s.columns ≤ 1000) (own :
   NoneCleared (r ∷ rs) = NotCleared r × NoneCleared rs
 
   pub all_anew : (rs : List EditStep) (bytes : List ℕ) (l : Layout) (x : Sight) → Anew bytes l x → FitsAll own x rs → LowAll s x rs → NoneCleared rs
-      → Anew (bytes ++ bytes_for s l rs) (calls_by_screen s l rs).layout (sight_all x rs)
+      → Anew (bytes ++ bytes_for s l rs) (calls_of_steps (ruler_of s) l rs).layout (sight_all x rs)
   all_anew [] bytes l x h fits rows none = subst (λ b. Anew b l x) (sym (append-nil bytes)) h
   all_anew (r ∷ rs) bytes l x h fits rows none =
       let q = one (ruler_of s) l r in
-      subst (λ b. Anew b (calls_by_screen s l (r ∷ rs)).layout (sight_all x (r ∷ rs))) (joined r rs bytes l)
+      subst (λ b. Anew b (calls_of_steps (ruler_of s) l (r ∷ rs)).layout (sight_all x (r ∷ rs))) (joined r rs bytes l)
       (all_anew rs (bytes ++ flat_map (bytes_of s) q.calls) q.layout (sight x r) (step_anew r bytes l x h fits.0 rows.0 none.0) fits.1 rows.1 none.1)

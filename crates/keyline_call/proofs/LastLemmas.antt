@@ -165,7 +165,10 @@ module _ (held : VecSink → List ℕ) where
       let same = seen_is (marks_in n g x) y (open_text left.open_line) (open_place left.open_line) (line_shown n g x left w h.seen) (place_shown n g x left w h.seen) h.seen.spans in (
         h.bytes,
         h.last,
-        record { display = h.shown.display; means = h.shown.means; shows = subst (λ v. Shows s.columns (widths s) v top h.shown.display) same h.shown.shows; over_is = h.shown.over_is },
+        record {
+          means = record { display = h.shown.display; means = h.shown.means; over_is = h.shown.over_is };
+          shows = subst (λ v. Shows s.columns (widths s) v top h.shown.display) same h.shown.shows;
+        },
       )
 
 -- ---- what is kept of a drawing

@@ -36,8 +36,9 @@ use Rattle.line_screen.specs.declared.renderer.ScreenRenderer.{ScreenRenderer}
 use Rattle.keyline.specs.Program.{EditHelper, edit_helping, given_with, helper_of, config_of}
 use Rattle.keyline.specs.declared.options.Options.{Options}
 use Rattle.keyline.specs.Events.{Breaks, SessionEvent, asks_events, bytes_drawn, end_events, line_course, line_play_in}
-use Rattle.keyline.specs.SessionEffects.{EndIsDrawn, breaks}
-use Rattle.keyline.specs.Sessions.{coming_from, Given, SessionState, given_of, history_after, screen_by, setting_in, state_over}
+use Rattle.keyline.specs.SessionEffects.{breaks}
+use Rattle.keyline.specs.Sessions.{coming_from, Given, SessionState, given_of, history_after, screen_by, setting_in, state_at}
+use Rattle.keyline.proofs.CloseLemmas.{EndIsDrawn}
 use Rattle.keyline.proofs.EventLemmas.{Whole, line_went, went_not}
 use Rattle.keyline_call.specs.Lines.{IsWant, LeftBy, ReadsLine, ReadsKeys, last_of}
 use Rattle.keyline_call.specs.declared.line.Left.{Left}
@@ -110,12 +111,12 @@ module _ {H K T : Type 0} (held waits : VecSink → List ℕ) (failed : VecSink 
           rest_is = rest_is ∙ ap (λ (x : List ℕ). length x) (sym (unread_in F reader) ∙ ap bytes_to_come (coming_is ∙ ap rest (sym w.rest_is)));
           outcome_is = ap (answer_map string_bytes) outcome_is ∙ sym w.answer_is;
           line_is = line_left n value input modal standing w.rest_is;
-          drawn = ap held display_is ∙ (ends.row.drawn ∙ (ap (λ o. held (sink_of ran.out) ++ break_if (breaks o)) (sym w.answer_is)
+          drawn = ap held display_is ∙ (ends.0.drawn ∙ (ap (λ o. held (sink_of ran.out) ++ break_if (breaks o)) (sym w.answer_is)
               ∙ (ap (λ bytes. bytes ++ break_if (breaks o)) w.are_done.drawn
               ∙ (ap (λ bytes. (bytes ++ flat_map bytes_drawn asks) ++ break_if (breaks o)) fresh_is
               ∙ (ap (λ bytes. flat_map bytes_drawn asks ++ bytes) (sym (end_bytes o)) ∙ sym (flat_map-append bytes_drawn asks (end_events o)))))));
           ring_is = ring_is ∙ ap (λ (k : LineState). k.ring) (sym w.rest_is);
-          history_is = history_is ∙ (ends.kept ∙ (ap (λ o. history_after true o history) (sym w.answer_is) ∙ ap (λ b. history_after b o history) (sym adds)));
+          history_is = history_is ∙ (ends.1 ∙ (ap (λ o. history_after true o history) (sym w.answer_is) ∙ ap (λ b. history_after b o history) (sym adds)));
         }
 
     pub reads_line : Runs (canvas_of held waits failed) helps custom prompt helper history.kept.entries config old ring query feed ran ring' query' feed' → IsTrue feed'.told
@@ -143,7 +144,7 @@ pub line_read : {K T : Type 0} (held waits : VecSink → List ℕ) (failed : Vec
     → feed.coming ≡ coming_from options.mode keys last → feed.bound ≡ length keys
     → query ≡ [] → left.outcome ≡ ran.outcome → left.open_line ≡ ran.open_line → left.display ≡ display → left.ring ≡ ring' → left.history ≡ history'
     → left.rest ≡ length (bytes_left_in F reader) → coming_in F reader ≡ feed'.coming
-    → ReadsLine held (given_with config bound_to options words) (state_over ring [] history options.mode keys last) (length keys) left
+    → ReadsLine held (given_with config bound_to options words) (state_at ring [] history (coming_from options.mode keys last)) (length keys) left
 line_read held waits failed config options words keys last custom bound_to prompt helper old display ring ring' query query' history history' feed feed' ran F reader left runs told ends fresh adds custom_is prompt_is helper_is screen_is coming_is bound_is none a open_is b d e rest_is left_is =
     let read = reads_line held waits failed edit_helping config custom prompt helper old display ring ring' query query' history history' feed feed' ran F reader left ends fresh adds a open_is b d e rest_is left_is runs told in
     rw (none, custom_is, prompt_is, helper_is, screen_is, coming_is, bound_is) at read
@@ -162,7 +163,7 @@ module _ (options : KeylineOptions) (prompt words history kills ends : List ℕ)
   -- a line of what words, history and ring are meant
   pub keys_read : (held : VecSink → List ℕ) (keys asks : List ℕ) (left : Left) (chosen : Options) (config : Config) (bindings : List (Event × Asking)) (ring : Ring) (given : Option (List (List ℕ))) (filed : Filed) (shown : List ℕ)
       → shown ≡ prompt → AreMeant options shown chosen → config ≡ settings_by options (config_of chosen) → IsRingOf kills ends options.place ring → given ≡ words_in words → filed ≡ history_loaded_from config (whole history) → AreAsked chosen.mode asks bindings
-      → ReadsLine held (given_with config (custom_by_asking bindings) chosen given) (state_over ring [] filed chosen.mode keys (last_of options.ended)) (length keys) left
+      → ReadsLine held (given_with config (custom_by_asking bindings) chosen given) (state_at ring [] filed (coming_from chosen.mode keys (last_of options.ended))) (length keys) left
       → ReadsKeys options prompt words history kills ends held keys asks left
   keys_read held keys asks left chosen config bindings ring given filed shown is_prompt meant is_config held_by is_given is_filed asked reads = record {
     valid = record { mode_is = valid.mode_is; columns_are = valid.columns_are; prompt_is = valid.prompt_is; words_are = valid.words_are; history_is = valid.history_is; ring_is = (ring, held_by) };

@@ -2,6 +2,7 @@
 use Rattle.std.proofs.Common.{◌≡◌, inl, inr, ℕ, zero, suc, ◌≤◌, ◌==◌, Bool, true, false, List, [], ◌∷◌, ◌++◌, length, Option, None, Some, Result, Ok, Err, refl, sym, ◌∙◌, subst, append_assoc, append-nil, true≢false, if◌then◌else◌}
 use Rattle.std.specs.Prelude.{⊤}
 use Rattle.std.proofs.lemmas.Grind.{flat_map-append}
+use Rattle.line_editor.specs.EditSteps.{calls_of_steps}
 use Rattle.line_buffer.specs.declared.layout.Layout.{Layout}
 use Rattle.script.specs.Played.{Played, play_with_first_ask, play_after_answer}
 use Rattle.script.specs.Scripts.{Ends, Asks, then}
@@ -37,7 +38,7 @@ use Rattle.line_editor.proofs.LeadLemmas.{sight_both}
 use Rattle.line_editor.proofs.StopsLemmas.{asked_both}
 use Rattle.line_editor.proofs.ToldLemmas.{PlayedOf, follows, joined_on, left_along, played_each, played_then}
 use Rattle.line_screen.specs.ScreenCalls.{Screen, bytes_of, ruler_of}
-use Rattle.keyline.specs.Shows.{LowAll, bytes_for, calls_by_screen}
+use Rattle.keyline.specs.Shows.{LowAll, bytes_for}
 use Rattle.keyline_call.proofs.AnewLemmas.{Anew, Bare, Either, NoneCleared, all_anew, all_either}
 
 -- ---- within a phrase: behind the begin of a turn come requests for keys alone
@@ -196,7 +197,7 @@ module _ (s : Screen) (low : 2 ≤ s.columns) (high : s.columns ≤ 1000) (a : S
 
   abbrev AtAfter : Bool → List ℕ → Layout → Sight → LineState → LineAsk → Type 0
   AtAfter b bytes l x k ask =
-      let rs = (effect_at a k ask).steps in At (in_keys b ask) (bytes ++ bytes_for s l rs) (calls_by_screen s l rs).layout (sight_all x rs) (left_at a k ask)
+      let rs = (effect_at a k ask).steps in At (in_keys b ask) (bytes ++ bytes_for s l rs) (calls_of_steps (ruler_of s) l rs).layout (sight_all x rs) (left_at a k ask)
 
   -- the turn's begin
   begun : (x : Sight) (k : LineState) (bytes : List ℕ) (l : Layout) → Either s low high a.prompt bytes l x → x ≡ modal_seen k.modal a k.value x.info → Anew s low high a.prompt bytes l x × Seen a k.value x
@@ -207,7 +208,7 @@ module _ (s : Screen) (low : 2 ≤ s.columns) (high : s.columns ≤ 1000) (a : S
   outside bytes l x k h = record { either = h; anew = λ e. cc; seen = λ e. cc }
 
   inside : (b : Bool) (bytes : List ℕ) (l : Layout) (x : Sight) (k j : LineState) (rs : List EditStep) → At b bytes l x k → FitsAll a.prompt x rs → LowAll s x rs → NoneCleared s low high a.prompt rs
-      → (Seen a k.value x → Seen a j.value (sight_all x rs)) → At b (bytes ++ bytes_for s l rs) (calls_by_screen s l rs).layout (sight_all x rs) j
+      → (Seen a k.value x → Seen a j.value (sight_all x rs)) → At b (bytes ++ bytes_for s l rs) (calls_of_steps (ruler_of s) l rs).layout (sight_all x rs) j
   inside b bytes l x k j rs at fits rows none on = record {
     either = all_either s low high a.prompt rs bytes l x at.either fits rows;
     anew = λ e. all_anew s low high a.prompt rs bytes l x (at.anew e) fits rows none;
@@ -225,16 +226,16 @@ module _ (s : Screen) (low : 2 ≤ s.columns) (high : s.columns ≤ 1000) (a : S
       inside b bytes l x k (left_at a k (Keys (Shows ask))) (ask_effect ask a k.value).steps at fits rows (ask_quiet s low high a.prompt ask a k.value) (ask_seen ask a k.value x)
   one_ask (Keys ask) k b bytes l x at fits rows begins = inside b bytes l x k (left_at a k (Keys ask)) [] at fits rows tt (λ h. h)
   one_ask ask k b bytes l x at fits rows begins =
-      let rs = (effect_at a k ask).steps in outside (bytes ++ bytes_for s l rs) (calls_by_screen s l rs).layout (sight_all x rs) (left_at a k ask) (all_either s low high a.prompt rs bytes l x at.either fits rows)
+      let rs = (effect_at a k ask).steps in outside (bytes ++ bytes_for s l rs) (calls_of_steps (ruler_of s) l rs).layout (sight_all x rs) (left_at a k ask) (all_either s low high a.prompt rs bytes l x at.either fits rows)
 
   pub walk : (o : Result (List ℕ) ReadlineError) (asks : List LineAsk) (k : LineState) (b : Bool) (bytes : List ℕ) (l : Layout) (x : Sight) → (let rs = steps_along a k asks in
-      At b bytes l x k → LeadsAlong a o k x asks → LowAll s x rs → At (in_phrase b asks) (bytes ++ bytes_for s l rs) (calls_by_screen s l rs).layout (sight_all x rs) (left_along a k asks))
+      At b bytes l x k → LeadsAlong a o k x asks → LowAll s x rs → At (in_phrase b asks) (bytes ++ bytes_for s l rs) (calls_of_steps (ruler_of s) l rs).layout (sight_all x rs) (left_along a k asks))
   walk o [] k b bytes l x at leads rows = subst (λ z. At b z l x k) (sym (append-nil bytes)) at
   walk o (ask ∷ asks) k b bytes l x at leads rows =
       let first = (effect_at a k ask).steps in
       let left = left_at a k ask in
       let rest = steps_along a left asks in
-      let m = calls_by_screen s l first in
+      let m = calls_of_steps (ruler_of s) l first in
       let here = one_ask ask k b bytes l x at leads.0 (low_first s x first rest rows) leads.1 in
       let on = walk o asks left (in_keys b ask) (bytes ++ bytes_for s l first) m.layout (sight_all x first) here leads.2 (low_later s x first rest rows) in
-      rw (sight_both x first rest, asked_both (ruler_of s) l first rest, flat_map-append (bytes_of s) m.calls (calls_by_screen s m.layout rest).calls, ← append_assoc bytes (bytes_for s l first) (bytes_for s m.layout rest)) on
+      rw (sight_both x first rest, asked_both (ruler_of s) l first rest, flat_map-append (bytes_of s) m.calls (calls_of_steps (ruler_of s) m.layout rest).calls, ← append_assoc bytes (bytes_for s l first) (bytes_for s m.layout rest)) on

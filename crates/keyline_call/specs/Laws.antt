@@ -3,19 +3,20 @@
 use Rattle.std.specs.Prelude.{◌≡◌, ℕ, nat_eq, Bool, if◌then◌else◌, List, [], ◌∷◌, ◌++◌, true, Option, Some, None}
 use Rattle.std.specs.List.{starts_with}
 use Rattle.std.specs.Option.{option_or}
+use Rattle.line_editor.specs.EditSteps.{calls_of_steps}
 use Rattle.line_buffer.specs.declared.layout.Layout.{Layout}
 use Rattle.line_config.specs.declared.memory.VecSink.{VecSink}
 use Rattle.line_editor.specs.Redraws.{fresh}
 use Rattle.line_editor.specs.Sights.{Sight, no_sight, sight_all}
 use Rattle.line_editor.specs.RenderCalls.{Marks}
 use Rattle.line_editor.specs.Values.{shown_marks}
-use Rattle.line_screen.specs.ScreenCalls.{Screen, widths}
+use Rattle.line_screen.specs.ScreenCalls.{Screen, widths, ruler_of}
 use Rattle.line_screen.specs.Display.{Display, Placed, cell_at, style_at, meaning}
 use Rattle.line_screen.specs.Drawing.{erase_to_end}
 use Rattle.keyline.specs.Events.{line_course, line_play_in}
 use Rattle.keyline.specs.SessionLaws.{steps_in}
 use Rattle.keyline.specs.Sessions.{Given, SessionState, setting_in}
-use Rattle.keyline.specs.Shows.{IsAtRest, IsScreen, LowAll, MomentShown, calls_by_screen, face}
+use Rattle.keyline.specs.Shows.{IsAtRest, IsScreen, LowAll, MomentShown, face}
 use Rattle.keyline_call.specs.Lines.{LeftBy, value_first}
 use Rattle.keyline_call.specs.Statuses.{status_of_ending, is_open}
 use Rattle.keyline_call.specs.CallSteps.{open_place, open_text}
@@ -49,7 +50,7 @@ marks_in n g x = shown_marks (line_play_in n g x).rest.value
 
 -- what is kept of the drawing, from which the bytes for the next keys follow
 abbrev pub layout_in : ℕ → Given → SessionState → Layout
-layout_in n g x = (calls_by_screen g.screen (fresh g.screen.mode) (steps_in n g x)).layout
+layout_in n g x = (calls_of_steps (ruler_of g.screen) (fresh g.screen.mode) (steps_in n g x)).layout
 
 module _ (held : VecSink → List ℕ) where
   -- a line continues, and everything shown is within the rows that can be counted

@@ -13,7 +13,7 @@ use Rattle.line_keys.specs.declared.events.Event.{Event}
 use Rattle.keyline.specs.Program.{config_of, given_with}
 use Rattle.keyline.specs.SessionCalls.{history_loaded_from}
 use Rattle.keyline.specs.Events.{Course, bytes_drawn, line_course, line_play_in}
-use Rattle.keyline.specs.Sessions.{Given, SessionState, setting_in, state_over}
+use Rattle.keyline.specs.Sessions.{Given, SessionState, coming_from, setting_in, state_at}
 use Rattle.keyline.specs.declared.options.Options.{Options}
 use Rattle.keyline_call.specs.Asks.{AreAsked, custom_by_asking}
 use Rattle.keyline_call.specs.Meant.{AreMeant, AreValid, settings_by, whole, words_in}
@@ -66,8 +66,8 @@ module _ (options : KeylineOptions) (prompt words history kills ends : List ℕ)
     pub are_asked : AreAsked chosen.mode asks bindings
     pub reads : let config = settings_by options (config_of chosen) in
         ReadsLine held (given_with config (custom_by_asking bindings) chosen (words_in words))
-        (state_over valid.ring_is.0 [] (history_loaded_from config (whole history)) chosen.mode keys
-        (last_of options.ended)) (length keys) left
+        (state_at valid.ring_is.0 [] (history_loaded_from config (whole history))
+        (coming_from chosen.mode keys (last_of options.ended))) (length keys) left
 
   -- why a line isn't read: an argument is invalid, or all are valid and memory ran out
   abbrev pub IsRefused : CallStatus → Type 0

@@ -4,7 +4,7 @@ ghost use Rattle.std.specs.Prelude.{[], ◌≡◌, ◌≤◌, MatchResult, lengt
 ghost use Rattle.line_config.specs.Feed.{fresh_feed};
 ghost use Rattle.line_screen.specs.Reader.{bytes_left_in};
 ghost use Rattle.keyline.specs.Program.{given_with, word_texts};
-ghost use Rattle.keyline.specs.Sessions.{state_over};
+ghost use Rattle.keyline.specs.Sessions.{coming_from, state_at};
 ghost use Rattle.keyline_call.specs.Asks.{custom_by_asking};
 ghost use Rattle.keyline_call.specs.Lines.{IsWant, ReadsLine, last_of};
 
@@ -75,7 +75,8 @@ pub(crate) fn read_line<'k>(
     requires adds { config.now.auto_add_history ≡ true }
     ensures { let given = given_with config.now (custom_by_asking bindings.now) options.now
         (word_texts words) in
-        let state = state_over ring [] history options.now.mode keys.entry.now (last_of ended) in
+        let state = state_at ring [] history
+        (coming_from options.now.mode keys.entry.now (last_of ended)) in
         MatchResult result (ReadsLine ⟦<VecSink as Sink>⟧.held given state
         (length keys.entry.now)) IsWant }
 {

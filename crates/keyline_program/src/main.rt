@@ -7,7 +7,7 @@ ghost use Rattle.std.specs.Process.{exit_status};
 ghost use Rattle.std.specs.declared.io.Stdin.{Stdin};
 ghost use Rattle.line_config.specs.Feed.{fresh_feed};
 ghost use Rattle.line_config.specs.declared.device.Last.TheVariants.{End};
-ghost use Rattle.keyline.specs.Endings.{status_of};
+ghost use Rattle.keyline.specs.SessionEffects.{status_of};
 ghost use Rattle.keyline.specs.SessionEffects.{devices_by};
 ghost use Rattle.keyline.specs.SessionCalls.{LoadRefused};
 ghost use Rattle.line_config.specs.declared.config.Config.{Config};

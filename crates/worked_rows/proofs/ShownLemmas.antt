@@ -58,10 +58,8 @@ moment-is f marks given prompt text place (Some d) is h =
     let q = and_parts _ _ p.1 in
     let r = and_parts _ _ q.1 in
     record {
-      display = d;
-      means = is;
+      means = record { display = d; means = is; over_is = cells-are _ _ r.0 };
       shows = record { cells = cells-are _ _ p.0; cursor = position-is _ _ q.0; pen = no-style d.pen r.1 };
-      over_is = cells-are _ _ r.0;
     }
 
 meaning-is : (f : Face) (o : Option Display) → meaning_of f ≡ o → has_above f o ≡ true → HasMeaning f

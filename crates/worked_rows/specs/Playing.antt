@@ -5,14 +5,14 @@ use Rattle.line_config.specs.Feed.{fresh_feed}
 use Rattle.line_config.specs.declared.device.Last.TheVariants.{End}
 use Rattle.line_config.specs.declared.errors.ReadlineError.{ReadlineError}
 use Rattle.line_config.specs.declared.errors.ReadlineError.TheVariants.{Eof}
+use Rattle.line_config.specs.Refusals.{refusal_text}
 use Rattle.line_help.specs.History.{Filed}
 use Rattle.line_help.specs.HistoryText.{text_to_save}
 use Rattle.line_record.specs.Ring.{new_ring}
 use Rattle.line_screen.specs.ScreenCalls.{Screen}
-use Rattle.keyline.specs.Endings.{ending_of, ending_text}
 use Rattle.keyline.specs.Events.{Course, bytes_drawn, lines_kept, lines_written, session}
 use Rattle.keyline.specs.SessionCalls.{history_loaded_from}
-use Rattle.keyline.specs.Sessions.{Given, SessionState, each, given_of, screen_by, state_over, lines_text, history_with_if}
+use Rattle.keyline.specs.Sessions.{Given, SessionState, each, coming_from, given_of, screen_by, state_at, lines_text, history_with_if}
 use Rattle.worked_rows.specs.Settings.{Settings}
 
 -- A row is known by the number of its line in the table. `lines` are the bytes of the accepted
@@ -52,7 +52,7 @@ history_in row = history_loaded_from row.settings.config (fresh_feed row.setting
 
 abbrev pub start_in : Row → SessionState
 start_in row = let s = row.settings in
-    state_over (new_ring 60) [] (history_in row) s.config.edit_mode row.keys s.last
+    state_at (new_ring 60) [] (history_in row) (coming_from s.config.edit_mode row.keys s.last)
 
 -- THE session of a row. Each key and each paste has a byte at least, so this is fuel enough
 abbrev pub course_of : Row → Course ReadlineError
@@ -71,7 +71,7 @@ display_in course = flat_map bytes_drawn course.events
 -- ---- whether it is what the row says
 
 abbrev pub same_ending : ReadlineError → ReadlineError → Bool
-same_ending a b = bytes_eq (ending_text (ending_of a)) (ending_text (ending_of b))
+same_ending a b = bytes_eq (refusal_text a) (refusal_text b)
 
 abbrev pub is_told : Option (List ℕ) → List ℕ → Bool
 is_told None given = true

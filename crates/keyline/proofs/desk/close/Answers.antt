@@ -3,8 +3,7 @@ use Rattle.std.proofs.Common.{ap, subst, sym}
 use Rattle.std.specs.Prelude.{string_bytes}
 use Rattle.std.proofs.lemmas.Result.{err_from_is_err_and}
 use Rattle.line_keys.specs.KeyFeeds.{answer_map}
-use Rattle.keyline.specs.SessionEffects.{EndIsCut}
-use Rattle.keyline.proofs.CloseLemmas.{closes_accepted, closes_cut, closes_refused}
+use Rattle.keyline.proofs.CloseLemmas.{EndIsCut, closes_accepted, closes_cut, closes_refused}
 use Rattle.keyline.proofs.desk.close.Goals as goal
 
 pub returns-in_err-end_line-clause-closes : goal.returns-in_err-end_line-clause-closes

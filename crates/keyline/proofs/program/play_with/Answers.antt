@@ -1,7 +1,8 @@
 -- The session by options, over what is said of its keys, and then its writers flushed.
 use Rattle.std.proofs.Common.{[], refl, sym}
+use Rattle.std.specs.Prelude.{unwrap_or}
 use Rattle.line_config.specs.Adapters.{bytes_not_sent, bytes_sent}
-use Rattle.keyline.specs.Program.{had_by, word_texts}
+use Rattle.keyline.specs.Program.{word_texts}
 use Rattle.keyline.proofs.PlayedLemmas.{fails_still, fresh_coming, fresh_sink, handed_on, played}
 use Rattle.keyline.proofs.program.play_with.Goals as goal
 
@@ -12,7 +13,7 @@ returns-clause-plays g c =
     record {
       plays = λ agrees.
           rw (sym c.is_some.ensures)
-          (played _ _ _ _ c.is_some.result c.args.config c.args.options.now (word_texts c.args.words) (had_by g.E.Write.contents c.args.display) (had_by g.W.Write.contents c.args.lines) c.args.old.now (g.K.Foretold.left c.args.keys []) g.K.Foretold.last
+          (played _ _ _ _ c.is_some.result c.args.config c.args.options.now (word_texts c.args.words) (unwrap_or (g.E.Write.contents c.args.display) []) (unwrap_or (g.W.Write.contents c.args.lines) []) c.args.old.now (g.K.Foretold.left c.args.keys []) g.K.Foretold.last
           c.new-2.result devices.source devices.display devices.lines c.new-3.result c.in-Ok-edit_with.played c.flush.new.self c.flush-2.new.self
           c.in-Ok-edit_with.ensures.edits (λ s. refl) c.new-2.ensures
           (fresh_coming g.K.Foretold.left c.args.keys _ _ _ _ over.source.reader_is over.source.unread over.source.none_given over.source.none_met) refl over.bound

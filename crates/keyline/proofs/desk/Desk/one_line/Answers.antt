@@ -4,8 +4,8 @@ use Rattle.std.specs.Prelude.{string_bytes}
 use Rattle.line_keys.specs.CustomBindings.{custom_of}
 use Rattle.line_keys.specs.KeyFeeds.{answer_map}
 use Rattle.line_editor.specs.LineRun.{helper_from_hooks, outcome_of}
-use Rattle.line_screen.specs.ScreenCalls.{sink_of}
-use Rattle.keyline.specs.SessionEffects.{HasPassedLines, devices_by, Closes, work}
+use Rattle.line_screen.specs.ScreenCalls.{NothingWaits, sink_of}
+use Rattle.keyline.specs.SessionEffects.{devices_by, Closes, work}
 use Rattle.keyline.specs.declared.desk.Desk.{Desk}
 use Rattle.keyline.proofs.DeskLemmas.{RunsAt, takes_line, with_held}
 use Rattle.keyline.proofs.desk.Desk.one_line.Goals as goal
@@ -21,7 +21,7 @@ returns g c =
     let end = c.close-outcome.new in
     let Passes : Bool → Desk g.row.S.Denot g.row.H.Denot g.row.D.Denot g.row.L.Denot → Type 0 = λ adds old. RunsAt k helps custom c.args.config.now c.args.prompt.now old ran run.kill_ring run.last_query run.reader
     × Closes k.shown k.show_failed k.written_in k.write_failed adds (outcome_of ran) (work (sink_of ran.out) old.lines old.history) (work (sink_of end.out) end.lines end.history) (answer_map string_bytes c.close-outcome.result)
-    × (HasPassedLines k old.lines → HasPassedLines k end.lines) in
+    × (NothingWaits k.write_waits k.write_failed old.lines → NothingWaits k.write_waits k.write_failed end.lines) in
     let held = with_held (Passes c.auto_add_history-adds.result) _ old c.self.view_is c.in-Some.out c.take-2.result (search rules) c.take-2.ensures.value
     (c.run-out.ensures, c.close-outcome.ensures.closes, c.close-outcome.ensures.passes_lines) in
     let passes = subst (λ adds. Passes adds old) c.auto_add_history-adds.ensures held in

@@ -10,10 +10,10 @@ use Rattle.keyline.proofs.session.Session.open.Goals as goal
 pub returns-clause-desk : goal.returns-clause-desk
 returns-clause-desk g c =
     let feed = g.S.Source.feed in
-    let begun = c.in-Ok-begin.ensures.ok.history in
+    let begun = c.in-Ok-begin.ensures.history in
     record {
       loaded = record { whole = λ always. begun.whole (always c.begin.new.source); history_is = λ always. begun.history_is (always c.begin.new.source) };
-      ring = c.in-Ok-begin.ensures.ok.ring;
+      ring = c.in-Ok-begin.ensures.ring;
       query = c.new-4.ensures.bytes;
       coming = c.new-2.ensures.coming c.requires.source ∙ along c.edit_mode.ensures (λ m. coming_from m (feed c.args.source).coming (feed c.args.source).last);
       source_is = c.new-2.ensures.source;
