@@ -13,13 +13,14 @@ use Rattle.line_keys.specs.CustomBindings.{Custom, answer_by}
 use Rattle.script.specs.Played.{Played, play_with_first_ask}
 use Rattle.script.specs.Scripts.{Ends, Asks}
 use Rattle.line_config.specs.declared.errors.ReadlineError.{ReadlineError}
-use Rattle.line_keys.specs.Common.{common_action, command_or, binding_or, decision_of, terminal_command}
+use Rattle.std.specs.Option.{option_map_or}
+use Rattle.line_keys.specs.Common.{common_action, decision_of, terminal_command}
 use Rattle.line_keys.specs.CustomKeys.{Situation, situation, handler_arguments_for, or_any, custom_answer}
 use Rattle.line_keys.specs.Emacs.{emacs_action, emacs_command}
 use Rattle.line_keys.specs.Events.{single}
 use Rattle.line_keys.specs.KeyFeeds.{Key, Paste, Coming, Pressed, Pasted, Ends as NoMore, End as AtItsEnd}
 use Rattle.line_keys.specs.Keys.{none, key_with}
-use Rattle.line_keys.specs.PhraseScripts.{Input, KeyScript, PhrasePart, steps, Needs, Reads, Becomes, after, answer_part, memory_then, with_read, from_key, show_then, keep_then, reply_then, and_then}
+use Rattle.line_keys.specs.PhraseScripts.{Input, KeyScript, PhrasePart, steps, Needs, Reads, Becomes, after, answer_part, memory_then, with_read, from_key, show_then, keep_then, reply_then, and_then, anew_or}
 use Rattle.line_keys.specs.Refreshing.{Shown}
 use Rattle.line_keys.specs.Replies.{gives_at_once, with_memory}
 use Rattle.line_keys.specs.Vi.{with_last, change_part, insert_part, command_table, vi_counted, vi_command, insert_table, vi_insert}
@@ -74,8 +75,9 @@ pub by_the_table : (new : Option ℕ) (s : Situation) (k : KeyEvent) (table : Ph
     → steps (decision_of new s k table) n ≡ steps table n
 unfolding reply_then
 by_the_table new s k table n free none =
-    ap (λ reply. steps (reply_then (binding_or new s (command_or table (terminal_command s.shown k))) reply) n) (unbound_answer s k free)
-    ∙ ap (λ command. steps (command_or table command) n) none
+    ap (λ reply. steps (reply_then (λ bound. option_map_or (λ cmd. anew_or cmd new s.shown cmd) bound
+    (option_map_or answer_part (terminal_command s.shown k) table)) reply) n) (unbound_answer s k free)
+    ∙ ap (λ command. steps (option_map_or answer_part command table) n) none
 
 abbrev pub with_rest : LineState → Coming → LineState
 with_rest k c = record k { coming = c }

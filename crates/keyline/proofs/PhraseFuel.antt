@@ -4,23 +4,25 @@ use Rattle.std.proofs.Common.{◌≡◌, ℕ, zero, suc, ◌≤◌, Bool, true, 
 use Rattle.std.specs.Bool.{⊤}
 use Rattle.script.specs.Scripts.{Script, Ends, Asks, then}
 use Rattle.line_keys.specs.KeyFeeds.{InputItem, InputOf, Key, Paste}
-use Rattle.line_keys.specs.PhraseScripts.{Input, KeyAsk, Reads, KeyScript, PhrasePart, steps, answer_part, needs_if, memory_then, read_upto, with_read, from_key, show_then, keep_then, script_if_answered, reply_script, reply_then, after, input_after_ask, shown_after_ask, and_then, Shows, anew_or, takes_commands}
+use Rattle.line_keys.specs.PhraseScripts.{Input, KeyAsk, Reads, KeyScript, PhrasePart, steps, answer_part, needs_if, memory_then, read_upto, with_read, from_key, show_then, keep_then, error_script, reply_script, reply_then, after, input_after_ask, shown_after_ask, and_then, Shows, anew_or, takes_commands}
 use Rattle.line_keys.specs.Refreshing.{Shown, Ask, Prompted, DoingInsert, DoneInserting}
 use Rattle.line_keys.specs.Replies.{Reply}
 use Rattle.line_keys.specs.declared.key.KeyEvent.{KeyEvent}
 use Rattle.std.specs.Prelude.{ℤ, option_map}
+use Rattle.std.specs.Option.{option_map_or}
+use Rattle.line_config.specs.declared.errors.ReadlineError.TheVariants.{Handler}
 use Rattle.line_config.specs.declared.settings.EditMode.{EditMode}
 use Rattle.line_keys.specs.CustomBindings.{Custom}
 use Rattle.line_keys.specs.Commands.{holds_text, flags_of, anew}
-use Rattle.line_keys.specs.Common.{bound_command, binding_or, command_or, common, common_action, common_done, decision_of, terminal_command, is_paste_start, quote_of_paste, quoted_command, quotes}
-use Rattle.line_keys.specs.Counts.{count_from_key, count_and_key, count_with_key, rest_of_count, rest_of_count_by, count_or_key, rest_of_count_in, how_often, is_plus, prompt_for, prompting, Counted, count_times, typed_count}
+use Rattle.line_keys.specs.Common.{bound_command, common, common_action, common_done, decision_of, terminal_command, is_paste_start, quote_of_paste, quoted_command, quotes}
+use Rattle.line_keys.specs.Counts.{count_from_key, count_and_key, count_with_key, rest_of_count, rest_of_count_by, rest_of_count_in, how_often, is_plus, prompt_for, prompting, Counted, count_times, typed_count}
 use Rattle.line_keys.specs.declared.keymap.custom.Followed.{Followed}
 use Rattle.line_keys.specs.declared.keymap.custom.Followed.TheVariants.{Bound, Unbound}
 use Rattle.line_keys.specs.CustomKeys.{Situation, sequence_or, custom_answer, key_sequence, rest_of_sequence, sequence_upto, in_vain, sequence_answer, situation}
 use Rattle.line_keys.specs.Emacs.{after_first_key, emacs_action, emacs_command, emacs_done, emacs_phrase, second_command, move_to_char}
 use Rattle.line_keys.specs.declared.command.Cmd.{Cmd}
 use Rattle.line_keys.specs.Keys.{char_with, none, key_with, same_key}
-use Rattle.line_keys.specs.declared.command.Cmd.TheVariants.{Insert, QuotedInsert, Noop, Unknown}
+use Rattle.line_keys.specs.declared.command.Cmd.TheVariants.{Insert, Move, QuotedInsert, Noop, Unknown}
 use Rattle.line_keys.specs.declared.keymap.common.CommonAction as common_actions
 use Rattle.line_keys.specs.declared.keymap.common.CommonAction.TheVariants as commons
 use Rattle.line_keys.specs.declared.keymap.emacs.EmacsAction as emacs_actions
@@ -28,9 +30,9 @@ use Rattle.line_keys.specs.declared.keymap.emacs.EmacsAction.TheVariants as emac
 use Rattle.line_buffer.specs.declared.types.Movement.TheVariants.{ViCharSearch, WholeLine}
 use Rattle.line_config.specs.declared.settings.EditMode.TheVariants.{Emacs, Vi}
 use Rattle.line_keys.specs.InputStates.{phrase_from}
-use Rattle.line_keys.specs.Vi.{change_part, changes, command_done, command_of, command_table, insert_mode_if, in_mode, insert_done, insert_table, is_new, key_replacement, move_or, command_of_operator, remember_if, insert_part, char_command, vi_command, vi_counted, vi_insert, with_last}
-use Rattle.line_keys.specs.ViMotions.{change, motion_done, motion_of, vi_motion, search_of, search_part, opposite, search_movement, search_of_next_key}
-use Rattle.line_keys.specs.ViTables.{action_of, insert_action}
+use Rattle.line_keys.specs.Vi.{change_part, changes, command_done, command_of, command_table, insert_mode_if, in_mode, insert_done, insert_table, is_new, key_replacement, remember_if, insert_part, char_command, vi_command, vi_counted, vi_insert, with_last}
+use Rattle.line_keys.specs.ViMotions.{motion_done, vi_motion, search_of, search_part, opposite, search_movement, search_of_next_key}
+use Rattle.line_keys.specs.ViTables.{action_of, insert_action, motion_of}
 use Rattle.line_keys.specs.declared.command.InputMode.TheVariants.{Command, Insert}
 use Rattle.line_keys.specs.declared.key.KeyCode.TheVariants.{Char}
 use Rattle.line_keys.specs.declared.keymap.vi.motion.Motion.{Motion}
@@ -132,12 +134,12 @@ s_becoming : {X : Type 0} (input : Input) {p : PhrasePart X} → Steady p → St
 unfolding keep_then
 s_becoming input {p} h = record { plays = λ k n m low low'. ((λ none. steps p m), refl, λ none. h.plays k n m low low') }
 
-decided_alike : {X Y : Type 0} (k : ℕ) (next next' : X → KeyScript Y) (o : Option X) → ((x : X) → Plays k (next x) (next' x)) → Plays k (script_if_answered next o) (script_if_answered next' o)
+decided_alike : {X Y : Type 0} (k : ℕ) (next next' : X → KeyScript Y) (o : Option X) → ((x : X) → Plays k (next x) (next' x)) → Plays k (option_map_or next o (error_script Handler)) (option_map_or next' o (error_script Handler))
 decided_alike k next next' (Some x) h = h x
-decided_alike k next next' None h = alike_itself is_key_read k (script_if_answered next None)
+decided_alike k next next' None h = alike_itself is_key_read k (option_map_or next None (error_script Handler))
 
 replied_alike : {X Y : Type 0} (k : ℕ) (next next' : X → KeyScript Y) (reply : Reply X) → ((x : X) → Plays k (next x) (next' x)) → Plays k (reply_script next reply) (reply_script next' reply)
-replied_alike k next next' reply h = needs_alike reply.takes k (script_if_answered next reply.answer) (script_if_answered next' reply.answer) (decided_alike k next next' reply.answer h)
+replied_alike k next next' reply h = needs_alike reply.takes k (option_map_or next reply.answer (error_script Handler)) (option_map_or next' reply.answer (error_script Handler)) (decided_alike k next next' reply.answer h)
 
 s_deciding : {X Y : Type 0} {next : X → PhrasePart Y} (reply : Reply X) → ((x : X) → Steady (next x)) → Steady (reply_then next reply)
 unfolding reply_then
@@ -177,7 +179,7 @@ counting_alike on (suc n) (suc m) c k low low' =
     (next m, refl, λ key. next_read (λ j. Plays j (next n key) (next m key)) k n m low low' (counted_by on n m (counting_alike on n m) c key (on c key)))
 counting_alike on _ _ c k low low' = absurd (omega arith)
 
-s_counting : (mode : EditMode) (key : KeyEvent) (o : Option ℤ) → Steady (count_or_key mode key o)
+s_counting : (mode : EditMode) (key : KeyEvent) (o : Option ℤ) → Steady (option_map_or (rest_of_count (count_with_key mode)) o (answer_part (None, key)))
 unfolding rest_of_count
 s_counting mode key (Some c) = record {
   plays = λ k n m low low'.
@@ -234,17 +236,17 @@ s_common_done s key None = s_and_then s.input s.shown (s_followed s key) (λ f i
 s_common : (s : Situation) (key : KeyEvent) → Steady (common s key)
 s_common s key = s_common_done s key (common_action s.input.mode s.shown s.n s.positive key)
 
-s_command_or : (other : PhrasePart Cmd) (o : Option Cmd) → Steady other → Steady (command_or other o)
+s_command_or : (other : PhrasePart Cmd) (o : Option Cmd) → Steady other → Steady (option_map_or answer_part o other)
 s_command_or other (Some cmd) h = s_answered cmd
 s_command_or other None h = h
 
-s_bound_or : (new : Option ℕ) (s : Situation) (other : PhrasePart Cmd) (o : Option Cmd) → Steady other → Steady (binding_or new s other o)
+s_bound_or : (new : Option ℕ) (s : Situation) (other : PhrasePart Cmd) (o : Option Cmd) → Steady other → Steady (option_map_or (λ cmd. anew_or cmd new s.shown cmd) o other)
 s_bound_or new s other (Some cmd) h = s_anew_or cmd new s.shown cmd
 s_bound_or new s other None h = h
 
 s_decided : (new : Option ℕ) (s : Situation) (key : KeyEvent) (table : PhrasePart Cmd) → Steady table → Steady (decision_of new s key table)
 s_decided new s key table h =
-    let other = command_or table (terminal_command s.shown key) in
+    let other = option_map_or answer_part (terminal_command s.shown key) table in
     s_deciding (custom_answer s key) (λ o. s_bound_or new s other o (s_command_or table (terminal_command s.shown key) h))
 
 -- ---- Emacs
@@ -282,7 +284,7 @@ s_motion_done n input None = s_answered None
 
 s_vi_motion : (operator : KeyEvent) (n : ℕ) (input : Input) (shown : Shown) → Steady (vi_motion operator n input shown)
 s_vi_motion operator n input shown = s_with_read Key (λ k. s_if (same_key k operator) (s_answered (Some WholeLine))
-    (s_and_then input shown (s_counted_key input.mode k) (λ f i seen. (let times = count_times n f.0 in s_motion_done times i (motion_of (same_key operator change) times f.1)))))
+    (s_and_then input shown (s_counted_key input.mode k) (λ f i seen. (let times = count_times n f.0 in s_motion_done times i (motion_of (same_key operator (key_with (Char 0x63) none)) times f.1)))))
 
 s_remembering : (b : Bool) (cmd : Cmd) (input : Input) → Steady (remember_if b cmd input)
 s_remembering true cmd input = s_needing (holds_text cmd) (s_becoming (with_last cmd input) (s_answered cmd))
@@ -294,10 +296,10 @@ s_command_done new s k (Some (action.Insert cmd)) = s_becoming (in_mode Insert s
 s_command_done new s k (Some (action.Turn mode cmd)) = s_becoming (in_mode mode s.input) (s_answered cmd)
 s_command_done new s k (Some (action.Operate o)) =
     let input = insert_mode_if (changes o) s.input in
-    s_becoming input (s_and_then input s.shown (s_vi_motion k s.n input s.shown) (λ m i seen. s_answered (command_of_operator (command_of o) m)))
-s_command_done new s k (Some (action.Search way)) = s_and_then s.input s.shown (s_sought way s.n s.input) (λ m i seen. s_answered (move_or Unknown m))
-s_command_done new s k (Some action.Again) = s_answered (move_or Noop (search_movement s.n s.input.search))
-s_command_done new s k (Some action.Back) = s_answered (move_or Noop (search_movement s.n (option_map opposite s.input.search)))
+    s_becoming input (s_and_then input s.shown (s_vi_motion k s.n input s.shown) (λ m i seen. s_answered (option_map_or (command_of o) m Unknown)))
+s_command_done new s k (Some (action.Search way)) = s_and_then s.input s.shown (s_sought way s.n s.input) (λ m i seen. s_answered (option_map_or Move m Unknown))
+s_command_done new s k (Some action.Again) = s_answered (option_map_or Move (search_movement s.n s.input.search) Noop)
+s_command_done new s k (Some action.Back) = s_answered (option_map_or Move (search_movement s.n (option_map opposite s.input.search)) Noop)
 s_command_done new s k (Some action.Repeat) = s_anew_or Noop new s.shown s.input.last
 s_command_done new s k (Some action.Replace) = s_from_key (key_replacement s.n)
 s_command_done new s k None = s_common s k

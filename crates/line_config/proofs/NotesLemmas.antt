@@ -4,7 +4,7 @@ use Rattle.std.proofs.lemmas.List.{append_cancel_left}
 use Rattle.std.specs.Io.KnownBytes.{Keeps, Appends, WriteAppends}
 use Rattle.std.specs.declared.io.Error.{Error}
 use Rattle.line_config.specs.DeviceCalls.{DeviceCall}
-use Rattle.line_config.specs.Recorded.{Notes, calls_of, took, inner_of}
+use Rattle.line_config.specs.Parts.{Notes, calls_of, took, inner_of}
 use Rattle.line_config.proofs.TryLemmas.{since_same, since_then}
 use Rattle.line_config.specs.declared.recorded.Recorded.{Recorded}
 

@@ -2,11 +2,10 @@
 -- std's ghost members of these.
 use Rattle.std.specs.Prelude.{◌≡◌, ◌⊎◌, ◌∷◌, ℕ, ◌+◌, ◌-◌, ◌^◌, ◌<◌, List, [], ◌++◌, length, option_to_list, Option, Some, None, Bool, Result, Ok, Err, unwrap_or}
 use Rattle.std.specs.Io.KnownBytes.{Consumes, IsAtEnd}
-use Rattle.line_config.specs.Buffer.{bytes_in, piece_in}
 use Rattle.line_config.specs.Feed.{Feed}
 use Rattle.line_config.specs.DeviceCalls.{DeviceCall, Moves, Tries, move_interrupted}
 use Rattle.line_config.specs.Foretold.{is_failed}
-use Rattle.line_config.specs.Recorded.{calls_of, took, inner_of}
+use Rattle.line_config.specs.Parts.{bytes_in, calls_of, inner_of, piece_in, took}
 use Rattle.line_config.specs.declared.adapters.ReadSource.{ReadSource}
 use Rattle.line_config.specs.declared.adapters.WriteSink.{WriteSink}
 use Rattle.line_config.specs.declared.device.DeviceFailed.{DeviceFailed}

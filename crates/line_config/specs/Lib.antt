@@ -1,10 +1,8 @@
 pub mod Adapters
-pub mod Buffer
 pub mod DeviceCalls
 pub mod Config
 pub mod Feed
 pub mod Foretold
-pub mod Recorded
+pub mod Parts
 pub mod Refusals
-pub mod Said
 pub mod Sending

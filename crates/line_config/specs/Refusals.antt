@@ -27,13 +27,10 @@ is_fault PasteOutOfPlace = false
 is_fault Reader = false
 is_fault why = true
 
-abbrev pub IsMet : ReadlineError → Type 0
-IsMet refusal = IsFalse (is_fault refusal)
-
 -- this result comes from the input alone: no fault occurred
 abbrev pub Met : {X : Type 0} → Result X ReadlineError → Type 0
 Met (Ok x) = ⊤
-Met (Err refusal) = IsMet refusal
+Met (Err refusal) = IsFalse (is_fault refusal)
 
 -- a call returns an answer with this property, or memory ran out
 abbrev pub OrMemory : {X : Type 0} → Result X ReadlineError → (X → Type 0) → Type 0

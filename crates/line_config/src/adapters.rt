@@ -2,10 +2,9 @@
 ghost use Rattle.std.specs.Prelude.{◌≡◌, ◌++◌, ◌+◌, ◌^◌, ◌≤◌, ◌<◌, [], false, length, take, drop, is_err, is_some, IsErr, IsTrue, Ok, Some, None, IfOk, OnOk, OnErr};
 ghost use Rattle.std.specs.Io.KnownBytes.{Appends};
 ghost use Rattle.line_config.specs.Sending.{AppendsSome, Takes};
-ghost use Rattle.line_config.specs.Buffer.{bytes_in, room_in};
+ghost use Rattle.line_config.specs.Parts.{Notes, bytes_in, room_in, took};
 ghost use Rattle.line_config.specs.DeviceCalls.{EndsWithCall, IsFlush, IsWriteFailure};
 ghost use Rattle.line_config.specs.Feed.{Fills, GivesByte, GivesBytes};
-ghost use Rattle.line_config.specs.Recorded.{Notes, took};
 ghost use Rattle.line_config.specs.declared.device.Last.TheVariants.{End, Failed};
 
 use crate::buffer::Buffer;
@@ -184,7 +183,7 @@ pub struct WriteSink<W> {
 
 impl<W: Write> WriteSink<W> {
     ghost use Rattle.line_config.specs.Adapters.{IsUnused, writer_of, bytes_not_sent, bytes_taken};
-    ghost use Rattle.line_config.specs.Recorded.{calls_of};
+    ghost use Rattle.line_config.specs.Parts.{calls_of};
 
     /// A sink that sends to the writer.
     pub fn new(writer: W) -> Self
@@ -281,7 +280,7 @@ impl<W: Write> WriteSink<W> {
 
 impl<W: Write> Sink for WriteSink<W> {
     ghost use Rattle.line_config.specs.Adapters.{writer_of, bytes_sent, bytes_not_sent, bytes_taken};
-    ghost use Rattle.line_config.specs.Recorded.{calls_of};
+    ghost use Rattle.line_config.specs.Parts.{calls_of};
 
     ghost held = { bytes_taken };
 

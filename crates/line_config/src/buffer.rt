@@ -2,7 +2,6 @@
 ghost use Rattle.std.specs.Prelude.{◌≡◌, IsTrue, ◌+◌, ◌-◌, ◌≤◌, ◌<◌, [], ◌++◌, length, take, drop, min, option_to_list, OnOk, OnErr, IsNone, ◌↔◌};
 ghost use Rattle.std.specs.Io.KnownBytes.{Consumes, IsAtEnd};
 ghost use Rattle.line_config.specs.DeviceCalls.{Answers, EndsWithCall, IsReadFailure, IsWriteFailure, Moves, Tries, move_interrupted};
-ghost use Rattle.line_config.specs.Recorded.{Notes, calls_of, inner_of, took};
 
 use crate::device::DeviceFailed;
 use crate::recorded::Recorded;
@@ -20,7 +19,7 @@ pub struct Buffer<const N: usize> {
 }
 
 impl<const N: usize> Buffer<N> {
-    ghost use Rattle.line_config.specs.Buffer.{bytes_in, piece_in, room_in};
+    ghost use Rattle.line_config.specs.Parts.{Notes, bytes_in, calls_of, inner_of, piece_in, room_in, took};
 
     pub(crate) fn new() -> Self
         ensures empty { bytes_in result ≡ [] }

@@ -3,7 +3,7 @@ ghost use Rattle.std.specs.Prelude.{◌≡◌, ℕ, List, [], Bool, Option, Some
 ghost use Rattle.line_config.specs.declared.device.Last.{Last};
 ghost use Rattle.line_config.specs.declared.device.Last.TheVariants.{End};
 ghost use Rattle.line_config.specs.Foretold.{EndsAsSaid, Foretells, own_left, own_told, rest_as_said, agrees_as_said};
-ghost use Rattle.line_config.specs.Said.{any_said, own_ends, own_said, said_ends};
+ghost use Rattle.line_config.specs.Foretold.{any_said, own_ends, own_said, said_ends};
 
 use std::io::Read;
 use std::marker::Brand;

@@ -16,7 +16,7 @@ pub struct Recorded<D> {
 }
 
 impl<D> Recorded<D> {
-    ghost use Rattle.line_config.specs.Recorded.{calls_of, took, inner_of};
+    ghost use Rattle.line_config.specs.Parts.{calls_of, took, inner_of};
 
     /// A reader or a writer over this one. Nothing is noted yet.
     pub fn new(device: D) -> Self
@@ -39,7 +39,7 @@ impl<D> Recorded<D> {
 }
 
 impl<W: Write> Recorded<W> {
-    ghost use Rattle.line_config.specs.Recorded.{calls_of, took, inner_of};
+    ghost use Rattle.line_config.specs.Parts.{calls_of, took, inner_of};
 
     /// A writer over this one. What it had before is noted, if it reports that, and nothing else.
     pub fn over_writer(writer: W) -> Self
@@ -56,7 +56,7 @@ impl<W: Write> Recorded<W> {
 }
 
 impl<R: Read> Read for Recorded<R> {
-    ghost use Rattle.line_config.specs.Recorded.{calls_of, took, inner_of};
+    ghost use Rattle.line_config.specs.Parts.{calls_of, took, inner_of};
 
     ghost remaining = { λ s. R.remaining s.device };
 
@@ -76,7 +76,7 @@ impl<R: Read> Read for Recorded<R> {
 }
 
 impl<W: Write> Write for Recorded<W> {
-    ghost use Rattle.line_config.specs.Recorded.{calls_of, took, inner_of};
+    ghost use Rattle.line_config.specs.Parts.{calls_of, took, inner_of};
 
     ghost contents = { λ s. Some s.log.bytes };
 

@@ -8,7 +8,7 @@ ghost use Rattle.std.specs.Io.KnownBytes.{ReadConsumes};
 ghost use Rattle.std.specs.IoError.{error_kind};
 ghost use Rattle.line_config.specs.DeviceCalls.{Answers, Flushes, IsReadFailure, IsWriteFailure, Moves, Tries};
 ghost use Rattle.line_config.specs.DeviceCalls.{flush_interrupted, move_interrupted, bytes_moved};
-ghost use Rattle.line_config.specs.Recorded.{Notes, calls_of, inner_of, took};
+ghost use Rattle.line_config.specs.Parts.{Notes, calls_of, inner_of, took};
 
 use crate::device::DeviceFailed;
 use crate::recorded::Recorded;

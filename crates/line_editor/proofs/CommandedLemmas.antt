@@ -44,15 +44,15 @@ module _ {Out H Hi K T : Type 0} {renderer : renderers.Renderer.Ghosts Out} {com
   phrase_cause : (custom : Custom) (t : State Out H Hi K T renderer completer candidate hinter hint highlighter validator history) (f : KeyFeed) (e : ReadlineError) → Because display_of custom t f e → Cause custom t f e
   phrase_cause custom t f Eof why = tt
   phrase_cause custom t f Interrupted why = tt
-  phrase_cause custom t f NotUtf8 why = why
-  phrase_cause custom t f PasteOutOfPlace why = why
-  phrase_cause custom t f Reader why = why
-  phrase_cause custom t f Display why = why.2.reason
-  phrase_cause custom t f Lines why = elim why [ ]
-  phrase_cause custom t f HistoryText why = elim why [ ]
-  phrase_cause custom t f Helper why = why.2.reason
+  phrase_cause custom t f NotUtf8 (inl why) = why.1
+  phrase_cause custom t f PasteOutOfPlace (inl why) = why.1
+  phrase_cause custom t f Reader (inl why) = why.1
+  phrase_cause custom t f Display (inr why) = why.3.reason
+  phrase_cause custom t f Helper (inr why) = why.3.reason
   phrase_cause custom t f Handler why = why
   phrase_cause custom t f Memory why = tt
+  phrase_cause custom t f _ (inl why) = absurd why.0
+  phrase_cause custom t f _ (inr why) = absurd why.0
 
   pub edit_cause : (custom : Custom) (t : State Out H Hi K T renderer completer candidate hinter hint highlighter validator history) (f : KeyFeed) (e : ReadlineError) → Reason t e → Cause custom t f e
   edit_cause custom t f Eof why = tt

@@ -8,8 +8,7 @@ use Rattle.line_keys.specs.declared.key.KeyEvent.{KeyEvent}
 use Rattle.line_keys.specs.declared.events.Event.{Event}
 use Rattle.line_keys.specs.declared.events.Event.TheVariants.{Any, KeySeq, Mouse}
 use Rattle.line_keys.specs.Events.{begins_with, find, begins, has_event}
-use Rattle.line_keys.specs.SameKeys.{same_keys-decides}
-use Rattle.line_keys.proofs.SameEventsLemmas.{same_event-decides}
+use Rattle.line_keys.proofs.SameEventsLemmas.{same_event-decides, same_keys-decides}
 
 -- a sequence that begins with the keys is these and its rest
 begins_as : (keys : List KeyEvent) (e : Event) → begins_with keys e ≡ true → (rest : List KeyEvent) × (e ≡ KeySeq (keys ++ rest))

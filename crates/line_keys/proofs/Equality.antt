@@ -6,8 +6,7 @@ use Rattle.line_keys.specs.declared.key.KeyEvent.{KeyEvent}
 use Rattle.line_keys.specs.declared.events.Event.{Event}
 use Rattle.line_keys.specs.contracts.key.KeyEventHash.TheImpl as key_hash
 use Rattle.line_keys.specs.contracts.events.EventHash.TheImpl as event_hash
-use Rattle.line_keys.specs.SameKeys.{same_key-decides}
-use Rattle.line_keys.proofs.SameEventsLemmas.{same_event-decides}
+use Rattle.line_keys.proofs.SameEventsLemmas.{same_key-decides, same_event-decides}
 
 pub keys_both_ways : (a b : KeyEvent) → IsTrue (same_key a b) ↔ (a ≡ b)
 keys_both_ways a b = same_key-decides a b

@@ -1,6 +1,7 @@
 -- Calls that make the steps of their definitions: one step in front, one part after another, and where a fault cuts them.
 use Rattle.std.proofs.Common.{◌≡◌, ◌<◌, ◌≤◌, ℕ, zero, suc, List, arith, inl, inr, Bool, true, false, refl, sym, ap, subst, ◌∙◌, true≢false, IsTrue, le_refl, le_trans}
-use Rattle.std.specs.Prelude.{⊤, Option, Some, None, option_map, Result, Ok, Err, IfErr, is_none}
+use Rattle.std.specs.Option.{option_map_or}
+use Rattle.std.specs.Prelude.{⊤, ◌⊎◌, Option, Some, None, option_map, Result, Ok, Err, IfErr, is_none}
 use Rattle.line_config.specs.declared.errors.ReadlineError.{ReadlineError}
 use Rattle.line_config.specs.declared.errors.ReadlineError.TheVariants.{Eof, Interrupted, NotUtf8, PasteOutOfPlace, Reader, Display as DisplayFault, Lines, HistoryText, Helper, Handler, Memory}
 use Rattle.line_keys.specs.declared.command.Cmd.{Cmd}
@@ -13,10 +14,10 @@ use Rattle.line_keys.specs.CustomKeys.{Situation, custom_answer, or_any, handler
 use Rattle.line_keys.specs.Events.{single}
 use Rattle.line_keys.specs.KeyFeeds.{IsReaderRefusal, KeyFeed, InputItem, InputOf, Key, Paste, item_at, behind, ReadAs, ReadsBy, Coming, key_at, paste_at, from_key_at, answer_map}
 use Rattle.line_keys.specs.Refreshing.{Shown, Ask, KnownDisplay, Draws, IsDrawFault}
-use Rattle.line_keys.specs.PhraseScripts.{Input, KeyAsk, Answer, KeyScript, PhrasePart, Needs, Shows, Reads, Becomes, Refuses, Upto, steps, answer_part, needs_if, memory_then, with_read, from_key, show_then, keep_then, script_if_answered, reply_then, input_after_ask, shown_after_ask, after, and_then}
+use Rattle.line_keys.specs.PhraseScripts.{Input, KeyAsk, Answer, KeyScript, PhrasePart, Needs, Shows, Reads, Becomes, Refuses, Upto, steps, answer_part, needs_if, memory_then, with_read, from_key, show_then, keep_then, error_script, reply_then, input_after_ask, shown_after_ask, after, and_then}
 use Rattle.script.proofs.ScriptLaws.{ok_not_err, value_or, fault_or, err_in}
 use Rattle.line_keys.specs.Replies.{Reply, fails, with_memory}
-use Rattle.line_keys.specs.InputStates.{Stage, stage, KeyMade, key_world, Happens, Follows, Because, CutDrawing, silent}
+use Rattle.line_keys.specs.InputStates.{Stage, stage, KeyMade, key_world, Happens, Follows, Because, silent}
 
 err_same : {X Y : Type 0} (e f : ReadlineError) → err_in X e ≡ Err f → err_in Y e ≡ Err f
 err_same {X} e f is = ap (λ (r : Result X ReadlineError). Err (fault_or Memory r)) is
@@ -34,34 +35,40 @@ nothing_under {a} lt = omega arith
 
 module _ {S : Type 0} (d : KnownDisplay S) (custom : Custom) (w : S) (f : KeyFeed) where
   pub reader_because : (e : ReadlineError) → IsReaderRefusal e → f.reason e → Because d custom w f e
-  reader_because Eof is why = why
-  reader_because NotUtf8 is why = why
-  reader_because PasteOutOfPlace is why = why
-  reader_because Reader is why = why
+  reader_because Eof is why = inl (tt, why)
+  reader_because NotUtf8 is why = inl (tt, why)
+  reader_because PasteOutOfPlace is why = inl (tt, why)
+  reader_because Reader is why = inl (tt, why)
   reader_because Memory is why = tt
   reader_because _ is why = absurd is
 
-  pub display_because : (e : ReadlineError) → IsDrawFault e → CutDrawing d w e → Because d custom w f e
-  display_because DisplayFault is why = why
-  display_because Helper is why = why
+  pub display_because : (e : ReadlineError) → IsDrawFault e → (before : S) × (ask : Ask) × d.refused before ask e w → Because d custom w f e
+  display_because DisplayFault is why = inr (tt, why.0, why.1, why.2)
+  display_because Helper is why = inr (tt, why.0, why.1, why.2)
   display_because Memory is why = tt
   display_because _ is why = absurd is
 
   pub memory_because : (e : ReadlineError) → e ≡ Memory → Because d custom w f e
   memory_because e is = subst (λ (x : ReadlineError). Because d custom w f x) (sym is) tt
 
+silent_by : {S : Type 0} (d : KnownDisplay S) (w : S) (f : KeyFeed) (e : ReadlineError)
+    → (IsReaderRefusal e × f.reason e) ⊎ (IsDrawFault e × (before : ⊤) × (ask : Ask) × silent.refused before ask e tt)
+    → (IsReaderRefusal e × f.reason e) ⊎ (IsDrawFault e × (before : S) × (ask : Ask) × d.refused before ask e w)
+silent_by d w f e (inl why) = inl why
+silent_by d w f e (inr why) = absurd why.3
+
 silent_because : {S : Type 0} (d : KnownDisplay S) (custom : Custom) (w : S) (f : KeyFeed) (e : ReadlineError) → Because silent custom tt f e → Because d custom w f e
-silent_because d custom w f Eof why = why
-silent_because d custom w f NotUtf8 why = why
-silent_because d custom w f PasteOutOfPlace why = why
-silent_because d custom w f Reader why = why
 silent_because d custom w f Handler why = why
 silent_because d custom w f Memory why = tt
-silent_because d custom w f DisplayFault why = elim why.2 [ ]
-silent_because d custom w f Helper why = elim why.2 [ ]
-silent_because d custom w f Interrupted why = elim why [ ]
-silent_because d custom w f Lines why = elim why [ ]
-silent_because d custom w f HistoryText why = elim why [ ]
+silent_because d custom w f Eof why = silent_by d w f Eof why
+silent_because d custom w f NotUtf8 why = silent_by d w f NotUtf8 why
+silent_because d custom w f PasteOutOfPlace why = silent_by d w f PasteOutOfPlace why
+silent_because d custom w f Reader why = silent_by d w f Reader why
+silent_because d custom w f DisplayFault why = silent_by d w f DisplayFault why
+silent_because d custom w f Helper why = silent_by d w f Helper why
+silent_because d custom w f Interrupted why = silent_by d w f Interrupted why
+silent_because d custom w f Lines why = silent_by d w f Lines why
+silent_because d custom w f HistoryText why = silent_by d w f HistoryText why
 
 -- ---- steps by how often they may read
 
@@ -242,19 +249,19 @@ module _ {S Y : Type 0} (d : KnownDisplay S) (item : InputItem) (next : InputOf 
   unfolding Happens
   read_stops custom w i f f' e reads = record {
     goes = λ told. stops_by f.bound w i f.coming f'.coming e (reads.taken told);
-    told = reads.told;
-    keeps = reads.keeps;
+    told = reads.some.told;
+    keeps = reads.some.keeps;
     mode = refl;
-    reason = reader_because d custom w f' e reads.refused reads.reason;
+    reason = reader_because d custom w f' e reads.some.refused reads.some.reason;
   }
 
   pub read_follows : (custom : Custom) (x : InputOf item) (w w' : S) (i i' : Input) (f f1 f2 : KeyFeed) (r : Result Y ReadlineError) → ReadsBy item (item_at item) f f1 (Ok x)
       → Follows d custom (next x) w i w' i' f1 f2 r → Follows d custom (with_read item next) w i w' i' f f2 r
   unfolding Happens
   read_follows custom x w w' i i' f f1 f2 r first second = record {
-    goes = λ told. on_by f.bound f1.bound w i f.coming f1.coming (stage w' i' f2.coming) x r (first.taken (second.told told)) first.falls (second.goes told);
-    told = λ told. first.told (second.told told);
-    keeps = le_trans second.keeps first.keeps;
+    goes = λ told. on_by f.bound f1.bound w i f.coming f1.coming (stage w' i' f2.coming) x r (first.taken (second.told told)) first.some.falls (second.goes told);
+    told = λ told. first.some.told (second.told told);
+    keeps = le_trans second.keeps first.some.keeps;
     mode = second.mode;
     reason = second.reason;
   }
@@ -297,10 +304,10 @@ module _ {S X : Type 0} (d : KnownDisplay S) (g : KeyEvent → X) where
   unfolding Happens
   whole_read custom w i f f' r reads = record {
     goes = λ told. whole_by f.bound w i f.coming f'.coming r (reads.taken told);
-    told = reads.told;
-    keeps = reads.keeps;
+    told = reads.some.told;
+    keeps = reads.some.keeps;
     mode = refl;
-    reason = whole_reason custom w f' r reads.refused reads.reason;
+    reason = whole_reason custom w f' r reads.some.refused reads.some.reason;
   }
 
 -- ---- asks
@@ -331,7 +338,7 @@ module _ {S A Y : Type 0} (d : KnownDisplay S) (custom : Custom) (ask : Ask) (ne
 
 module _ {S X Y : Type 0} (d : KnownDisplay S) (custom : Custom) (next : X → PhrasePart Y) (reply : Reply X) where
   abbrev decided : Option X → PhrasePart Y
-  decided o = Upto (λ n. script_if_answered (λ x. steps (next x) n) o)
+  decided o = Upto (λ n. option_map_or (λ x. steps (next x) n) o (error_script Handler))
 
   failing : (o : Option X) (w : S) (i : Input) (f : KeyFeed) → IsTrue (is_none o) → HandlerFails custom → Follows d custom (decided o) w i w i f f (Err Handler)
   unfolding Happens

@@ -5,7 +5,7 @@ use Rattle.line_config.specs.declared.errors.ReadlineError.{ReadlineError}
 use Rattle.line_keys.specs.declared.key.KeyEvent.{KeyEvent}
 use Rattle.line_keys.specs.declared.tty.Event.{Event}
 use Rattle.line_keys.specs.declared.tty.Event.TheVariants.{KeyPress}
-use Rattle.line_keys.specs.KeyFeeds.{KeyFeed, InputItem, Key, behind, ReadAs, ReadsBy, Coming, key_at, from_key_at, answer_map}
+use Rattle.line_keys.specs.KeyFeeds.{KeyFeed, InputItem, Key, behind, ReadAs, ReadsBy, SomeRead, Coming, key_at, from_key_at, answer_map}
 
 abbrev of_press : Result Event ReadlineError → Result KeyEvent ReadlineError
 of_press (Ok (KeyPress k)) = Ok k
@@ -25,44 +25,35 @@ press_as : (given : Result KeyEvent ReadlineError) (result : Result Event Readli
 press_as given result rest c (inl is) = inl (ap of_press is.0 ∙ press_of given, is.1)
 press_as given result rest c (inr (e, left, fault, is, final)) = inr (e, left, fault, ap of_press is, final)
 
+module _ {X Y : Type 0} {f f' : KeyFeed} where
+  given_some : (x : X) (y : Y) → SomeRead f f' (Ok x) → SomeRead f f' (Ok y)
+  given_some x y some = record { told = some.told; keeps = some.keeps; falls = some.falls; refused = tt; reason = tt }
+
+  refused_some : (e : ReadlineError) → SomeRead {X = X} f f' (Err e) → SomeRead {X = Y} f f' (Err e)
+  refused_some e some = record { told = some.told; keeps = some.keeps; falls = tt; refused = some.refused; reason = some.reason }
+
 module _ {X : Type 0} (g : KeyEvent → X) (f f' : KeyFeed) where
   pub made_of_read : (k : KeyEvent) → ReadsBy Key key_at f f' (Ok k) → ReadsBy Key (from_key_at g) f f' (Ok (g k))
   made_of_read k reads = record {
+    some = given_some k (g k) reads.some;
     taken = λ told. made_as g Key (key_at f.coming) (Ok k) (behind Key f.coming) f'.coming (reads.taken told);
-    told = reads.told;
-    keeps = reads.keeps;
-    falls = reads.falls;
-    refused = reads.refused;
-    reason = reads.reason;
   }
 
   pub not_made : (e : ReadlineError) → ReadsBy Key key_at f f' (Err e) → ReadsBy Key (from_key_at g) f f' (Err e)
   not_made e reads = record {
+    some = refused_some e reads.some;
     taken = λ told. made_as g Key (key_at f.coming) (Err e) (behind Key f.coming) f'.coming (reads.taken told);
-    told = reads.told;
-    keeps = reads.keeps;
-    falls = reads.falls;
-    refused = reads.refused;
-    reason = reads.reason;
   }
 
 module _ (f f' : KeyFeed) where
   pub key_of_press : (k : KeyEvent) → ReadsBy Key (from_key_at KeyPress) f f' (Ok (KeyPress k)) → ReadsBy Key key_at f f' (Ok k)
   key_of_press k reads = record {
+    some = given_some (KeyPress k) k reads.some;
     taken = λ told. press_as (key_at f.coming) (Ok (KeyPress k)) (behind Key f.coming) f'.coming (reads.taken told);
-    told = reads.told;
-    keeps = reads.keeps;
-    falls = reads.falls;
-    refused = reads.refused;
-    reason = reads.reason;
   }
 
   pub no_press : (e : ReadlineError) → ReadsBy Key (from_key_at KeyPress) f f' (Err e) → ReadsBy Key key_at f f' (Err e)
   no_press e reads = record {
+    some = refused_some e reads.some;
     taken = λ told. press_as (key_at f.coming) (Err e) (behind Key f.coming) f'.coming (reads.taken told);
-    told = reads.told;
-    keeps = reads.keeps;
-    falls = reads.falls;
-    refused = reads.refused;
-    reason = reads.reason;
   }

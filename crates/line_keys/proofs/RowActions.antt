@@ -1,6 +1,6 @@
 -- Tables one after the other.
 use Rattle.std.proofs.Common.{◌≡◌, ℕ, Bool, true, false, List, [], ◌∷◌, ◌++◌, refl, sym, ap, ◌∙◌, if◌then◌else◌}
-use Rattle.std.specs.Prelude.{Option, Some, None}
+use Rattle.std.specs.Prelude.{Option, Some, None, ◌==◌, ◌&&◌}
 use Rattle.std.specs.Option.{option_or}
 use Rattle.line_config.specs.declared.settings.EditMode.{EditMode}
 use Rattle.line_keys.specs.declared.key.KeyCode.{KeyCode}
@@ -16,9 +16,8 @@ use Rattle.line_keys.specs.declared.keymap.vi.table.ViAction.TheVariants.{Give}
 use Rattle.line_keys.specs.Common.{common_command_rows, common_reading_rows, common_action}
 use Rattle.line_keys.specs.Emacs.{typed_rows, emacs_command_rows, emacs_reading_rows, emacs_action}
 use Rattle.line_keys.specs.Refreshing.{Shown}
-use Rattle.line_keys.specs.Tables.{Row, has_key, first_row, look}
-use Rattle.line_keys.specs.ViMotions.{motion_rows, change_motion_rows}
-use Rattle.line_keys.specs.ViTables.{vi_move_rows, vi_edit_rows, vi_turn_rows, vi_reading_rows, action_of}
+use Rattle.line_keys.specs.Tables.{Row, first_row, look}
+use Rattle.line_keys.specs.ViTables.{vi_move_rows, vi_edit_rows, vi_turn_rows, vi_reading_rows, action_of, motion_rows, change_motion_rows}
 
 or_by : {X : Type 0} (b : Bool) (x : X) (o p : Option X) → (if b then Some x else option_or o p) ≡ option_or (if b then Some x else o) p
 or_by true x o p = refl
@@ -28,8 +27,8 @@ first-append : {X : Type 0} (n : ℕ) (p : Bool) (code : KeyCode) (bits : ℕ) (
     → first_row n p code bits (xs ++ ys) ≡ option_or (first_row n p code bits xs) (first_row n p code bits ys)
 first-append n p code bits [] ys = refl
 first-append n p code bits (x ∷ xs) ys =
-    ap (λ o. if has_key code bits x then Some (x.gives code n p) else o) (first-append n p code bits xs ys)
-    ∙ or_by (has_key code bits x) (x.gives code n p) (first_row n p code bits xs) (first_row n p code bits ys)
+    ap (λ o. if (bits == x.modifiers.0) && (x.fits code && x.stands) then Some (x.gives code n p) else o) (first-append n p code bits xs ys)
+    ∙ or_by ((bits == x.modifiers.0) && (x.fits code && x.stands)) (x.gives code n p) (first_row n p code bits xs) (first_row n p code bits ys)
 
 module _ {X : Type 0} (n : ℕ) (p : Bool) (k : KeyEvent) (xs ys : List (Row X)) where
   in_first : (x : X) → Some x ≡ look n p k xs → Some x ≡ look n p k (xs ++ ys)

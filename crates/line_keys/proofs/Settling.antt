@@ -1,10 +1,12 @@
 -- A phrase that gives a command leaves the session's own prompt: every count ends in a drawing of the line.
 use Rattle.std.proofs.Common.{ℕ, zero, suc, Bool, true, false, List, [], ◌∷◌, ◌++◌, refl, sym, true≢false, if◌then◌else◌}
 use Rattle.std.specs.Prelude.{Option, Some, None, ℤ}
+use Rattle.std.specs.Option.{option_map_or}
+use Rattle.line_config.specs.declared.errors.ReadlineError.TheVariants.{Handler}
 use Rattle.line_config.specs.declared.settings.EditMode.{EditMode}
 use Rattle.line_config.specs.declared.settings.EditMode.TheVariants.{Emacs, Vi}
 use Rattle.line_keys.specs.declared.command.Cmd.{Cmd}
-use Rattle.line_keys.specs.declared.command.Cmd.TheVariants.{Insert, QuotedInsert, Noop, Unknown}
+use Rattle.line_keys.specs.declared.command.Cmd.TheVariants.{Insert, Move, QuotedInsert, Noop, Unknown}
 use Rattle.line_keys.specs.declared.key.KeyEvent.{KeyEvent}
 use Rattle.line_keys.specs.CustomBindings.{Custom}
 use Rattle.line_keys.specs.Commands.{holds_text, flags_of, anew}
@@ -19,8 +21,8 @@ use Rattle.line_keys.specs.declared.keymap.vi.table.ViAction.{ViAction as Comman
 use Rattle.line_keys.specs.declared.keymap.vi.table.ViAction.TheVariants as commands
 use Rattle.line_keys.specs.declared.keymap.vi.table.InsertAction.{InsertAction}
 use Rattle.line_keys.specs.declared.keymap.vi.table.InsertAction.TheVariants as inserts
-use Rattle.line_keys.specs.Common.{common, common_action, common_done, command_or, binding_or, decision_of, sequence, terminal_command, is_paste_start, quote_of_paste, quote_of_key, quoted_command, quotes, quote_part}
-use Rattle.line_keys.specs.Counts.{Counted, count_and_key, rest_of_count, count_or_key, rest_of_count_in, rest_of_count_by, count_from_key, count_with_key, how_often, is_plus, count_times, typed_count}
+use Rattle.line_keys.specs.Common.{common, common_action, common_done, decision_of, sequence, terminal_command, is_paste_start, quote_of_paste, quote_of_key, quoted_command, quotes, quote_part}
+use Rattle.line_keys.specs.Counts.{Counted, count_and_key, rest_of_count, rest_of_count_in, rest_of_count_by, count_from_key, count_with_key, how_often, is_plus, count_times, typed_count}
 use Rattle.line_keys.specs.declared.keymap.custom.Followed.{Followed}
 use Rattle.line_keys.specs.declared.keymap.custom.Followed.TheVariants.{Bound, Unbound}
 use Rattle.line_keys.specs.CustomKeys.{Situation, rest_of_sequence, sequence_upto, key_sequence, sequence_or, sequence_answer, situation, custom_answer}
@@ -28,16 +30,16 @@ use Rattle.line_keys.specs.Emacs.{after_first_key, emacs_command, emacs_decided,
 use Rattle.line_keys.specs.KeyFeeds.{InputItem, InputOf, Key, Paste}
 use Rattle.script.specs.Scripts.{Ends, Asks}
 use Rattle.line_keys.specs.InputStates.{phrase, phrase_from}
-use Rattle.line_keys.specs.PhraseScripts.{Input, KeyScript, PhrasePart, steps, answer_part, needs_if, memory_then, with_read, from_key, show_then, keep_then, script_if_answered, reply_script, reply_then, input_after_ask, shown_after_ask, after, and_then, anew_or, own_by, Settles, takes_commands}
+use Rattle.line_keys.specs.PhraseScripts.{Input, KeyScript, PhrasePart, steps, answer_part, needs_if, memory_then, with_read, from_key, show_then, keep_then, error_script, reply_script, reply_then, input_after_ask, shown_after_ask, after, and_then, anew_or, own_by, Settles, takes_commands}
 use Rattle.line_keys.specs.Refreshing.{Shown, DoingInsert, DoneInserting}
 use Rattle.line_keys.specs.Replies.{Reply}
 use Rattle.line_buffer.specs.declared.types.Movement.TheVariants.{WholeLine}
 use Rattle.line_keys.specs.declared.command.InputMode.TheVariants.{Command}
 use Rattle.line_keys.specs.declared.key.KeyCode.TheVariants.{Char}
 use Rattle.line_keys.specs.Keys.{key_with, none, char_with, same_key}
-use Rattle.line_keys.specs.Vi.{changes, command_of, in_mode, key_replacement, command_of_operator, move_or, is_new, remember_if, with_last, command_done, command_table, insert_done, insert_table, vi_counted, vi_command, vi_insert, change_part, insert_part, insert_mode_if}
-use Rattle.line_keys.specs.ViMotions.{motion_done, motion_of, motion_after, change, motion_by, vi_motion, search_part, search_of, search_of_next_key}
-use Rattle.line_keys.specs.ViTables.{action_of, insert_action}
+use Rattle.line_keys.specs.Vi.{changes, command_of, in_mode, key_replacement, is_new, remember_if, with_last, command_done, command_table, insert_done, insert_table, vi_counted, vi_command, vi_insert, change_part, insert_part, insert_mode_if}
+use Rattle.line_keys.specs.ViMotions.{motion_done, motion_after, motion_by, vi_motion, search_part, search_of, search_of_next_key}
+use Rattle.line_keys.specs.ViTables.{action_of, insert_action, motion_of}
 
 -- ---- parts
 
@@ -87,12 +89,12 @@ inserted_settles : {X : Type 0} (next : Shown → PhrasePart X) → ((w : Shown)
 unfolding show_then
 inserted_settles next h n = λ w. h w n
 
-answer_settles : {X Y : Type 0} (next : X → KeyScript Y) → ((x : X) → Settles true (next x)) → (o : Option X) → Settles true (script_if_answered next o)
+answer_settles : {X Y : Type 0} (next : X → KeyScript Y) → ((x : X) → Settles true (next x)) → (o : Option X) → Settles true (option_map_or next o (error_script Handler))
 answer_settles next h (Some x) = h x
 answer_settles next h None = λ none. absurd none
 
 reply_settles : {X Y : Type 0} (next : X → KeyScript Y) → ((x : X) → Settles true (next x)) → (reply : Reply X) → Settles true (reply_script next reply)
-reply_settles next h reply = needs_settles reply.takes (script_if_answered next reply.answer) (answer_settles next h reply.answer)
+reply_settles next h reply = needs_settles reply.takes (option_map_or next reply.answer (error_script Handler)) (answer_settles next h reply.answer)
 
 decided_settles : {X Y : Type 0} (next : X → PhrasePart Y) → ((x : X) → Settled (next x)) → (reply : Reply X) → Settled (reply_then next reply)
 unfolding reply_then
@@ -102,7 +104,7 @@ either_settles : {X : Type 0} (b : Bool) (p q : PhrasePart X) → Settled p → 
 either_settles true p q h k = h
 either_settles false p q h k = k
 
-command_settles : (p : PhrasePart Cmd) (o : Option Cmd) → Settled p → Settled (command_or p o)
+command_settles : (p : PhrasePart Cmd) (o : Option Cmd) → Settled p → Settled (option_map_or answer_part o p)
 command_settles p (Some cmd) h = answered_settles cmd
 command_settles p None h = h
 
@@ -124,7 +126,7 @@ counting_settles : (on : ℤ → KeyEvent → Option ℤ) (c : ℤ) → Settled 
 unfolding rest_of_count
 counting_settles on c n = λ none shown. count_read_settles on c n
 
-count_or_settles : (mode : EditMode) (k : KeyEvent) (o : Option ℤ) → Settled (count_or_key mode k o)
+count_or_settles : (mode : EditMode) (k : KeyEvent) (o : Option ℤ) → Settled (option_map_or (rest_of_count (count_with_key mode)) o (answer_part (None, k)))
 count_or_settles mode k (Some c) = counting_settles (count_with_key mode) c
 count_or_settles mode k None = answered_settles (None, k)
 
@@ -171,14 +173,14 @@ common_done_settles s k None = sequence_settles s k
 common_settles : (s : Situation) (k : KeyEvent) → Settled (common s k)
 common_settles s k = common_done_settles s k (common_action s.input.mode s.shown s.n s.positive k)
 
-bound_key_settles : (new : Option ℕ) (s : Situation) (p : PhrasePart Cmd) → Settled p → (o : Option Cmd) → Settled (binding_or new s p o)
+bound_key_settles : (new : Option ℕ) (s : Situation) (p : PhrasePart Cmd) → Settled p → (o : Option Cmd) → Settled (option_map_or (λ cmd. anew_or cmd new s.shown cmd) o p)
 bound_key_settles new s p h (Some cmd) = anew_settles cmd cmd new s.shown
 bound_key_settles new s p h None = h
 
 key_decided_settles : (new : Option ℕ) (s : Situation) (k : KeyEvent) (table : PhrasePart Cmd) → Settled table → Settled (decision_of new s k table)
 key_decided_settles new s k table h =
-    let other = command_or table (terminal_command s.shown k) in
-    decided_settles (binding_or new s other) (bound_key_settles new s other (command_settles table (terminal_command s.shown k) h)) (custom_answer s k)
+    let other = option_map_or answer_part (terminal_command s.shown k) table in
+    decided_settles (λ bound. option_map_or (λ cmd. anew_or cmd new s.shown cmd) bound other) (bound_key_settles new s other (command_settles table (terminal_command s.shown k) h)) (custom_answer s k)
 
 -- ---- Emacs
 
@@ -224,7 +226,7 @@ motion_key_settles : (operator : KeyEvent) (n : ℕ) (i : Input) (w : Shown) (k 
 motion_key_settles operator n i w k =
     either_settles (same_key k operator) (answer_part (Some WholeLine)) (and_then i w (count_and_key i.mode k) (λ f j v. motion_by operator (count_times n f.0) j f.1)) (answered_settles (Some WholeLine))
     (then_settles (λ f j v. motion_by operator (count_times n f.0) j f.1)
-    (λ f j v. motion_settles (count_times n f.0) j (motion_of (same_key operator change) (count_times n f.0) f.1)) (count_and_key i.mode k) i w (key_counted_settles i.mode k))
+    (λ f j v. motion_settles (count_times n f.0) j (motion_of (same_key operator (key_with (Char 0x63) none)) (count_times n f.0) f.1)) (count_and_key i.mode k) i w (key_counted_settles i.mode k))
 
 vi_motion_settles : (operator : KeyEvent) (n : ℕ) (i : Input) (w : Shown) → Settled (vi_motion operator n i w)
 vi_motion_settles operator n i w = read_settles Key (motion_after operator n i w) (motion_key_settles operator n i w)
@@ -234,10 +236,10 @@ command_done_settles new s k (Some (commands.Give cmd)) = answered_settles cmd
 command_done_settles new s k (Some (commands.Insert cmd)) = becoming_settles _ _ (inserting_settles _ (λ w. answered_settles cmd))
 command_done_settles new s k (Some (commands.Turn mode cmd)) = becoming_settles _ _ (answered_settles cmd)
 command_done_settles new s k (Some (commands.Operate o)) = becoming_settles _ _
-    (then_settles (λ m j v. answer_part (command_of_operator (command_of o) m)) (λ m j v. answered_settles (command_of_operator (command_of o) m)) (vi_motion k s.n (insert_mode_if (changes o) s.input) s.shown) (insert_mode_if (changes o) s.input) s.shown
+    (then_settles (λ m j v. answer_part (option_map_or (command_of o) m Unknown)) (λ m j v. answered_settles (option_map_or (command_of o) m Unknown)) (vi_motion k s.n (insert_mode_if (changes o) s.input) s.shown) (insert_mode_if (changes o) s.input) s.shown
     (vi_motion_settles k s.n (insert_mode_if (changes o) s.input) s.shown))
 command_done_settles new s k (Some (commands.Search search)) =
-    then_settles (λ m j v. answer_part (move_or Unknown m)) (λ m j v. answered_settles (move_or Unknown m)) (search_of_next_key search s.n s.input) s.input s.shown (sought_settles search s.n s.input)
+    then_settles (λ m j v. answer_part (option_map_or Move m Unknown)) (λ m j v. answered_settles (option_map_or Move m Unknown)) (search_of_next_key search s.n s.input) s.input s.shown (sought_settles search s.n s.input)
 command_done_settles new s k (Some commands.Again) = answered_settles _
 command_done_settles new s k (Some commands.Back) = answered_settles _
 command_done_settles new s k (Some commands.Repeat) = anew_settles Noop s.input.last new s.shown

@@ -1,6 +1,8 @@
 -- One turn of a loop that reads: of a count, and of a sequence of keys.
 use Rattle.std.proofs.Common.{◌≡◌, ℕ, zero, suc, true, false, List, [], ◌∷◌, ◌++◌, refl, sym, ap, ◌∙◌}
 use Rattle.std.specs.Prelude.{ℤ, Option, Some, None, Result, Ok, Err, slice_get}
+use Rattle.std.specs.Option.{option_map_or}
+use Rattle.line_config.specs.declared.errors.ReadlineError.TheVariants.{Handler}
 use Rattle.line_config.specs.declared.errors.ReadlineError.{ReadlineError}
 use Rattle.line_config.specs.declared.errors.ReadlineError.TheVariants.{Memory}
 use Rattle.line_keys.specs.declared.command.Cmd.{Cmd}
@@ -14,7 +16,7 @@ use Rattle.line_keys.specs.CustomKeys.{Situation, rest_of_sequence, sequence_upt
 use Rattle.line_keys.specs.KeyFeeds.{KeyFeed, Key, ReadsBy, key_at}
 use Rattle.line_keys.specs.InputStates.{Follows}
 use Rattle.line_keys.specs.Refreshing.{Line, Prompted, KnownDisplay, Draws}
-use Rattle.line_keys.specs.PhraseScripts.{Input, PhrasePart, Upto, steps, answer_part, show_then, script_if_answered, reply_then, memory_then, with_read}
+use Rattle.line_keys.specs.PhraseScripts.{Input, PhrasePart, Upto, steps, answer_part, show_then, error_script, reply_then, memory_then, with_read}
 use Rattle.line_keys.proofs.Following.{as_follows, ask_follows, ask_stops, read_follows, read_stops, ends_follow, memory_follows, needing_follows, needed_follows, decides_stop, decides_follow}
 
 module _ (on : ℤ → KeyEvent → Option ℤ) (c : ℤ) where
@@ -124,7 +126,7 @@ module _ (s : Situation) (keys : List KeyEvent) where
 
         unanswered : (e : ReadlineError) → e ≡ Memory → Follows d s.custom (read_next k) w i w i f1 f1 (Err e)
         unfolding reply_then memory_then
-        unanswered e is = memory_follows d s.custom (Upto (λ n. script_if_answered (λ x. steps (on_next k x) n) (sequence_answer s (keys ++ k ∷ [])).answer)) w i f1 e is
+        unanswered e is = memory_follows d s.custom (Upto (λ n. option_map_or (λ x. steps (on_next k x) n) (sequence_answer s (keys ++ k ∷ [])).answer (error_script Handler))) w i f1 e is
 
         pub sequence_no_memory : (e : ReadlineError) → e ≡ Memory → Follows d s.custom (rest_of_sequence s keys) w i w i f f1 (Err e)
         sequence_no_memory e is = on_read f1 (Err e) (unanswered e is)

@@ -21,8 +21,7 @@ use Rattle.line_keys.specs.InputStates.{phrase}
 use Rattle.line_keys.specs.KeyFeeds.{Key, Paste, Coming, Pressed, Pasted, Ends, End}
 use Rattle.line_keys.specs.PhraseScripts.{Input, steps, answer_part, memory_then, with_read, from_key, show_then, keep_then, reply_then, and_then, KeyAsk, Needs, Reads, Becomes}
 use Rattle.line_keys.specs.Vi.{vi_command, vi_counted, command_table, vi_insert, insert_table}
-use Rattle.line_keys.specs.ViMotions.{motion_of}
-use Rattle.line_keys.specs.ViTables.{action_of, insert_action}
+use Rattle.line_keys.specs.ViTables.{action_of, insert_action, motion_of}
 use Rattle.line_keys.specs.Refreshing.{Shown, Line, Prompted, DoneInserting}
 use Rattle.line_keys.proofs.Played.{Played, played, played_all}
 

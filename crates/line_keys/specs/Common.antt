@@ -2,6 +2,7 @@
 -- and the keys that a terminal would turn into a signal or the end of input.
 use Rattle.std.specs.Prelude.{◌≡◌, ℕ, ◌-◌, ◌==◌, nat_le, nat_lt, Bool, true, not, ◌&&◌, ◌||◌, IsTrue, List, [], ◌∷◌, ◌++◌, length, codes, Option, Some, None, unwrap_or, if◌then◌else◌}
 use Rattle.std.specs.Char.{is_control}
+use Rattle.std.specs.Option.{option_map_or}
 use Rattle.line_buffer.specs.declared.types.Movement.TheVariants.{BeginningOfLine, EndOfLine, BackwardChar, ForwardChar, BackwardWord, ForwardWord}
 use Rattle.line_buffer.specs.declared.types.Word.TheVariants.{Big}
 use Rattle.line_buffer.specs.declared.types.At.TheVariants.{AfterEnd}
@@ -20,19 +21,16 @@ use Rattle.line_keys.specs.KeyFeeds.{Key, Paste as PastedText}
 use Rattle.line_keys.specs.Keys.{none, ctrl, key_of}
 use Rattle.line_keys.specs.PhraseScripts.{Input, PhrasePart, is_emacs, is_vi_command, answer_part, anew_or, with_read, and_then, reply_then}
 use Rattle.line_keys.specs.Refreshing.{Shown}
-use Rattle.line_keys.specs.Tables.{Row, always, by_count, by_sign, moves, kills, key_named, char, each_char, is_code, only, look}
+use Rattle.line_keys.specs.Tables.{Row, always, by_count, by_sign, moves, kills, key_named, char, two_chars, each_char, is_code, only, look}
 
 -- 5C is the backslash
-abbrev pub signal_rows : List (Row Cmd)
-signal_rows =
+abbrev pub signal_of : KeyEvent → Option Cmd
+signal_of k = look 1 true k (
     char (codes "C") ctrl (always Interrupt)
     ∷ key_named (Char 0x5C) ctrl (always Interrupt)
     ∷ char (codes "Z") ctrl (always Suspend)
     ∷ char (codes "D") ctrl (always EndOfFile)
-    ∷ []
-
-abbrev pub signal_of : KeyEvent → Option Cmd
-signal_of k = look 1 true k signal_rows
+    ∷ [])
 
 abbrev pub has_text : Shown → Bool
 has_text shown = not (length shown.line == 0)
@@ -61,8 +59,7 @@ common_command_rows mode shown =
     ∷ char (codes "T") ctrl (always (Give TransposeChars))
     ∷ char (codes "_") ctrl (by_count (λ n. Give (Undo n)))
     ∷ key_named Enter none (always (Give (AcceptOrInsertLine true)))
-    ∷ char (codes "J") ctrl (always (Give (AcceptOrInsertLine true)))
-    ∷ char (codes "M") ctrl (always (Give (AcceptOrInsertLine true)))
+    ∷ two_chars (codes "JM") ctrl (always (Give (AcceptOrInsertLine true)))
     ∷ char (codes "R") ctrl (always (Give ReverseSearchHistory))
     ∷ char (codes "S") ctrl (always (Give ForwardSearchHistory))
     ∷ key_named UnknownEscSeq none (always (Give Noop))
@@ -71,8 +68,7 @@ common_command_rows mode shown =
 abbrev pub common_reading_rows : List (Row CommonAction)
 common_reading_rows =
     key_named BracketedPasteStart none (always Paste)
-    ∷ char (codes "Q") ctrl (always Quote)
-    ∷ char (codes "V") ctrl (always Quote)
+    ∷ two_chars (codes "QV") ctrl (always Quote)
     ∷ []
 
 -- the action of a key in both modes, if it has a row
@@ -86,20 +82,17 @@ common_action mode shown n positive k =
 abbrev pub control_of : ℕ → Cmd
 control_of c = if nat_le 0x40 c && nat_le c 0x5F then SelfInsert 1 (c - 0x40) else Unknown
 
--- Backspace was sent as 7F; a terminal may also send 08 for it
-abbrev pub quoted_rows : List (Row Cmd)
-quoted_rows =
+-- the command of a quoted key; one that was sent as no single character inserts none. Backspace was
+-- sent as 7F; a terminal may also send 08 for it
+abbrev pub quoted_command : KeyEvent → Cmd
+quoted_command k = unwrap_or (look 1 true k (
     each_char none (λ c. always (SelfInsert 1 c))
     ∷ each_char ctrl (λ c. always (control_of c))
     ∷ key_named Tab none (always (SelfInsert 1 0x09))
     ∷ key_named Enter none (always (SelfInsert 1 0x0D))
     ∷ key_named Esc none (always (SelfInsert 1 0x1B))
     ∷ key_named Backspace none (always (SelfInsert 1 0x7F))
-    ∷ []
-
--- the command of a quoted key; one that was sent as no single character inserts none
-abbrev pub quoted_command : KeyEvent → Cmd
-quoted_command k = unwrap_or (look 1 true k quoted_rows) Unknown
+    ∷ [])) Unknown
 
 -- a pasted text is read and inserted
 abbrev pub quote_of_paste : PhrasePart Cmd
@@ -160,17 +153,10 @@ if_empty shown cmd = cmd
 abbrev pub terminal_command : Shown → KeyEvent → Option Cmd
 terminal_command shown k = if_empty shown (signal_of k)
 
-abbrev pub command_or : PhrasePart Cmd → Option Cmd → PhrasePart Cmd
-command_or other (Some cmd) = answer_part cmd
-command_or other None = other
-
--- a bound command is repeated with this count, if there is one
-abbrev pub binding_or : Option ℕ → Situation → PhrasePart Cmd → Option Cmd → PhrasePart Cmd
-binding_or new s other (Some cmd) = anew_or cmd new s.shown cmd
-binding_or new s other None = other
-
--- a custom binding comes first, then the terminal's, then the table
+-- a custom binding comes first, then the terminal's, then the table. A bound command is repeated
+-- with this count, if there is one
 abbrev pub decision_of : Option ℕ → Situation → KeyEvent → PhrasePart Cmd → PhrasePart Cmd
 decision_of new s k table =
-    reply_then (binding_or new s (command_or table (terminal_command s.shown k)))
+    let unbound = option_map_or answer_part (terminal_command s.shown k) table in
+    reply_then (λ bound. option_map_or (λ cmd. anew_or cmd new s.shown cmd) bound unbound)
     (custom_answer s k)

@@ -1,7 +1,7 @@
 -- Counts: signed numbers typed before a key, with a prompt for each digit.
 use Rattle.std.specs.Fmt.{signed_decimal}
 use Rattle.std.specs.Prelude.{ℕ, ◌-◌, ◌==◌, nat_le, nat_lt, ℤ, pos, neg_ℤ, ◌+ℤ◌, ◌*ℤ◌, nat_abs, int_lt, Bool, true, not, ◌&&◌, List, ◌++◌, codes, if◌then◌else◌, Option, Some, None, option_map, zero, suc, ◌*◌, min}
-use Rattle.std.specs.Option.{option_or, option_and_then}
+use Rattle.std.specs.Option.{option_or, option_and_then, option_map_or}
 use Rattle.script.specs.Scripts.{Ends, Asks}
 use Rattle.line_config.specs.declared.errors.ReadlineError.TheVariants.{Memory}
 use Rattle.line_config.specs.declared.settings.EditMode.{EditMode}
@@ -22,13 +22,10 @@ abbrev pub how_often : Option ℤ → ℕ
 how_often None = 1
 how_often (Some c) = if nat_abs c == 0 then 1 else nat_abs c
 
-abbrev pub is_negative : ℤ → Bool
-is_negative c = int_lt c (pos 0)
-
 -- the sign of a count; without one it is plus
 abbrev pub is_plus : Option ℤ → Bool
 is_plus None = true
-is_plus (Some c) = not (is_negative c)
+is_plus (Some c) = not (int_lt c (pos 0))
 
 -- the count of a command, by the count that was typed
 abbrev pub signed_count : Option ℤ → SignedCount
@@ -38,7 +35,7 @@ signed_count typed = record { n = how_often typed; positive = is_plus typed }
 -- ten times the count, up to four digits
 abbrev pub and_digit : ℤ → ℕ → ℤ
 and_digit c d =
-    if is_negative c && (nat_abs c == 1) then neg_ℤ (pos d)
+    if int_lt c (pos 0) && (nat_abs c == 1) then neg_ℤ (pos d)
     else if nat_lt (nat_abs c) 1000 then pos 10 *ℤ c +ℤ pos d
     else c
 
@@ -53,24 +50,23 @@ digit_char char = if nat_le 0x30 char && nat_le char 0x39 then Some (char - 0x30
 abbrev pub digit_of : KeyEvent → Option ℕ
 digit_of k = option_and_then digit_char (char_with none k)
 
--- a count with one more character: a digit, or a minus (2D), which is ignored
-abbrev pub count_with_char : ℤ → ℕ → Option ℤ
-count_with_char c char = if char == 0x2D then Some c else option_map (and_digit c) (digit_char char)
+-- the count that a minus (2D) leads to, or the one that a digit leads to
+abbrev pub by_minus_or_digit : ℤ → (ℕ → ℤ) → ℕ → Option ℤ
+by_minus_or_digit minus digit char =
+    if char == 0x2D then Some minus else option_map digit (digit_char char)
 
--- a count with one more key, in Emacs mode also with Alt; any other key ends it
+-- a count with one more key: a digit, or in Emacs mode a minus, which is ignored, there also with
+-- Alt; any other key ends it
 abbrev pub count_with_key : EditMode → ℤ → KeyEvent → Option ℤ
 count_with_key Emacs c k =
-    option_and_then (count_with_char c) (option_or (char_with none k) (char_with alt k))
+    option_and_then (by_minus_or_digit c (and_digit c))
+    (option_or (char_with none k) (char_with alt k))
 count_with_key Vi c k = option_map (and_digit c) (digit_of k)
 
--- the count that a character starts: a digit, or a minus, which alone stands for -1
-abbrev pub count_from_char : ℕ → Option ℤ
-count_from_char char =
-    if char == 0x2D then Some (neg_ℤ (pos 1)) else option_map pos (digit_char char)
-
--- the count that a key starts: in Emacs mode with Alt, in Vi's command mode by a digit other than 0
+-- the count that a key starts: in Emacs mode with Alt, by a digit or by a minus, which alone stands
+-- for -1; in Vi's command mode by a digit other than 0
 abbrev pub count_from_key : EditMode → KeyEvent → Option ℤ
-count_from_key Emacs k = option_and_then count_from_char (char_with alt k)
+count_from_key Emacs k = option_and_then (by_minus_or_digit (neg_ℤ (pos 1)) pos) (char_with alt k)
 count_from_key Vi k = option_and_then (λ d. if d == 0 then None else Some (pos d)) (digit_of k)
 
 -- ---- a count and the key after it
@@ -95,13 +91,10 @@ rest_of_count_in on c (suc n) =
 unfoldable pub rest_of_count : (ℤ → KeyEvent → Option ℤ) → ℤ → PhrasePart Counted
 rest_of_count on c = Upto (λ n. prompting c (rest_of_count_in on c n))
 
-abbrev pub count_or_key : EditMode → KeyEvent → Option ℤ → PhrasePart Counted
-count_or_key mode k (Some c) = rest_of_count (count_with_key mode) c
-count_or_key mode k None = answer_part (None, k)
-
 -- the key; if it starts a count, the count and the key after it
 abbrev pub count_and_key : EditMode → KeyEvent → PhrasePart Counted
-count_and_key mode k = count_or_key mode k (count_from_key mode k)
+count_and_key mode k = option_map_or (rest_of_count (count_with_key mode)) (count_from_key mode k)
+    (answer_part (None, k))
 
 -- the count, if one was typed
 abbrev pub typed_count : Option ℤ → Option ℕ

@@ -21,7 +21,7 @@ use Rattle.line_keys.specs.declared.keymap.vi.motion.Search.TheVariants.{Forward
 use Rattle.line_keys.specs.Keys.{none, ctrl, alt, ctrl_alt, char_with}
 use Rattle.line_keys.specs.PhraseScripts.{Input, PhrasePart, answer_part, from_key, and_then}
 use Rattle.line_keys.specs.Refreshing.{Shown}
-use Rattle.line_keys.specs.Tables.{Row, always, by_count, by_sign, moves, kills, key_named, char, each_char, only, look}
+use Rattle.line_keys.specs.Tables.{Row, always, by_count, by_sign, moves, kills, key_named, char, two_chars, each_char, only, look}
 use Rattle.line_keys.specs.ViMotions.{search_of}
 
 -- back over words, and forward over them
@@ -42,30 +42,22 @@ emacs_command_rows shown =
     ∷ char (codes "E") ctrl (always (Give (Move EndOfLine)))
     ∷ char (codes "B") ctrl (moves Give BackwardChar ForwardChar)
     ∷ char (codes "F") ctrl (moves Give ForwardChar BackwardChar)
-    ∷ char (codes "B") alt (moves Give back ahead)
-    ∷ char (codes "b") alt (moves Give back ahead)
+    ∷ two_chars (codes "Bb") alt (moves Give back ahead)
     ∷ key_named Left alt (moves Give back ahead)
     ∷ key_named Left ctrl (moves Give back ahead)
-    ∷ char (codes "F") alt (moves Give ahead back)
-    ∷ char (codes "f") alt (moves Give ahead back)
+    ∷ two_chars (codes "Ff") alt (moves Give ahead back)
     ∷ key_named Right alt (moves Give ahead back)
     ∷ key_named Right ctrl (moves Give ahead back)
     ∷ char (codes "H") ctrl (kills Give BackwardChar ForwardChar)
     ∷ key_named Backspace none (kills Give BackwardChar ForwardChar)
     ∷ char (codes "K") ctrl (kills Give (λ n. EndOfLine) (λ n. BeginningOfLine))
     ∷ key_named Backspace alt (kills Give back ahead)
-    ∷ char (codes "D") alt (kills Give ahead back)
-    ∷ char (codes "d") alt (kills Give ahead back)
-    ∷ char (codes "Y") alt (always (Give YankPop))
-    ∷ char (codes "y") alt (always (Give YankPop))
-    ∷ char (codes "T") alt (by_count (λ n. Give (TransposeWords n)))
-    ∷ char (codes "t") alt (by_count (λ n. Give (TransposeWords n)))
-    ∷ char (codes "C") alt (always (Give CapitalizeWord))
-    ∷ char (codes "c") alt (always (Give CapitalizeWord))
-    ∷ char (codes "L") alt (always (Give DowncaseWord))
-    ∷ char (codes "l") alt (always (Give DowncaseWord))
-    ∷ char (codes "U") alt (always (Give UpcaseWord))
-    ∷ char (codes "u") alt (always (Give UpcaseWord))
+    ∷ two_chars (codes "Dd") alt (kills Give ahead back)
+    ∷ two_chars (codes "Yy") alt (always (Give YankPop))
+    ∷ two_chars (codes "Tt") alt (by_count (λ n. Give (TransposeWords n)))
+    ∷ two_chars (codes "Cc") alt (always (Give CapitalizeWord))
+    ∷ two_chars (codes "Ll") alt (always (Give DowncaseWord))
+    ∷ two_chars (codes "Uu") alt (always (Give UpcaseWord))
     ∷ key_named Tab none (by_sign (λ n. Give Complete) (λ n. Give CompleteBackward))
     ∷ char (codes "I") ctrl (by_sign (λ n. Give Complete) (λ n. Give CompleteBackward))
     ∷ key_named BackTab none (always (Give CompleteBackward))
@@ -87,15 +79,6 @@ emacs_reading_rows =
     ∷ char (codes "X") ctrl (always LeadOn)
     ∷ []
 
--- the key after C-X
-abbrev pub second_rows : List (Row Cmd)
-second_rows =
-    char (codes "U") ctrl (by_count Undo)
-    ∷ key_named Backspace none (by_sign (λ n. Kill BeginningOfLine) (λ n. Kill EndOfLine))
-    ∷ char (codes "G") ctrl (always Abort)
-    ∷ key_named Esc none (always Abort)
-    ∷ []
-
 -- the action of a key, if it has a row
 unfoldable pub emacs_action : Shown → ℕ → Bool → KeyEvent → Option EmacsAction
 emacs_action shown n positive k =
@@ -107,8 +90,14 @@ emacs_action shown n positive k =
 abbrev pub move_to_char : ℕ → (ℕ → CharSearch) → Option ℕ → Cmd
 move_to_char n search c = unwrap_or (option_map (λ c. Move (ViCharSearch n (search c))) c) Unknown
 
+-- the command of the key after C-X
 abbrev pub second_command : ℕ → Bool → KeyEvent → Cmd
-second_command n positive k = unwrap_or (look n positive k second_rows) Unknown
+second_command n positive k = unwrap_or (look n positive k (
+    char (codes "U") ctrl (by_count Undo)
+    ∷ key_named Backspace none (by_sign (λ n. Kill BeginningOfLine) (λ n. Kill EndOfLine))
+    ∷ char (codes "G") ctrl (always Abort)
+    ∷ key_named Esc none (always Abort)
+    ∷ [])) Unknown
 
 -- after an unbound sequence its second key decides; it is read now if it wasn't
 abbrev pub after_first_key : ℕ → Bool → Followed → PhrasePart Cmd

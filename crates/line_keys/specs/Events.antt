@@ -7,7 +7,6 @@ use Rattle.line_keys.specs.declared.events.Event.TheVariants.{KeySeq}
 use Rattle.line_keys.specs.contracts.events.EventPartialEq.TheImpl as event_eq
 use Rattle.line_keys.specs.Keys.{normal, same_key}
 
--- the event of one key
 abbrev pub single : KeyEvent → Event
 single k = KeySeq (k ∷ [])
 

@@ -4,7 +4,7 @@
 use Rattle.std.specs.Prelude.{◌≡◌, ℕ, ◌<◌, ◌≤◌, ◌⊎◌, ⊤, Bool, false, IsTrue, List, [], None, Result, Ok, Err, IfErr}
 use Rattle.script.specs.Scripts.{World, Goes}
 use Rattle.line_config.specs.declared.errors.ReadlineError.{ReadlineError}
-use Rattle.line_config.specs.declared.errors.ReadlineError.TheVariants.{Interrupted, Display as DisplayFault, Lines, HistoryText, Helper, Handler, Memory}
+use Rattle.line_config.specs.declared.errors.ReadlineError.TheVariants.{Handler, Memory}
 use Rattle.line_config.specs.declared.config.Config.{Config}
 use Rattle.line_config.specs.declared.settings.EditMode.{EditMode}
 use Rattle.line_config.specs.declared.settings.EditMode.TheVariants.{Emacs, Vi}
@@ -17,7 +17,7 @@ use Rattle.line_keys.specs.declared.key.KeyEvent.{KeyEvent}
 use Rattle.line_keys.specs.CustomBindings.{Custom, BindingAnswers, HandlerFails, Meaning, custom_of}
 use Rattle.line_keys.specs.CustomKeys.{Situation, situation}
 use Rattle.line_keys.specs.Emacs.{emacs_phrase}
-use Rattle.line_keys.specs.KeyFeeds.{Key, KeyFeed, item_at, behind, IsReadFault, Coming, coming_after_error}
+use Rattle.line_keys.specs.KeyFeeds.{Key, KeyFeed, item_at, behind, IsReadFault, IsReaderRefusal, Coming, coming_after_error}
 use Rattle.line_keys.specs.PhraseScripts.{Input, KeyAsk, Answer, PhrasePart, steps, with_read, Needs, Shows, Reads, Becomes, Refuses}
 use Rattle.line_keys.specs.Refreshing.{Shown, Ask, KnownDisplay, IsDrawFault}
 use Rattle.line_keys.specs.Replies.{Reply}
@@ -51,7 +51,6 @@ new_input config = record {
 
 -- ---- the phrase at the front of the remaining input
 
--- the phrase whose first key is k
 abbrev pub phrase_from : EditMode → Custom → Input → Shown → KeyEvent → PhrasePart Cmd
 phrase_from Emacs = emacs_phrase
 phrase_from Vi = vi_phrase
@@ -102,21 +101,13 @@ unfoldable pub Happens : {S X : Type 0} → KnownDisplay S → ℕ → PhrasePar
     → Result X ReadlineError → Stage S → Type 0
 Happens d bound part s result t = (n : ℕ) → bound < n → Goes (key_world d) (steps part n) s result t
 
--- some call on the display failed with this error
-abbrev pub CutDrawing : {S : Type 0} → KnownDisplay S → S → ReadlineError → Type 0
-CutDrawing {S} d wrt e = (before : S) × (ask : Ask) × d.refused before ask e wrt
-
 -- why a call fails, in any case: what has happened to the reader, a failed call on the display, or
 -- a bound handler that fails. Any call may run out of memory
 abbrev pub Because : {S : Type 0} → KnownDisplay S → Custom → S → KeyFeed → ReadlineError → Type 0
-Because d custom wrt feed Interrupted = ⊥
-Because d custom wrt feed DisplayFault = CutDrawing d wrt DisplayFault
-Because d custom wrt feed Lines = ⊥
-Because d custom wrt feed HistoryText = ⊥
-Because d custom wrt feed Helper = CutDrawing d wrt Helper
 Because d custom wrt feed Handler = HandlerFails custom
 Because d custom wrt feed Memory = ⊤
-Because d custom wrt feed why = feed.reason why
+Because {S} d custom wrt feed why = (IsReaderRefusal why × feed.reason why)
+    ⊎ (IsDrawFault why × (before : S) × (ask : Ask) × d.refused before ask why wrt)
 
 -- the relation of a call that reads, draws and remembers
 pub record Follows {S X : Type 0} (d : KnownDisplay S) (custom : Custom) (part : PhrasePart X)

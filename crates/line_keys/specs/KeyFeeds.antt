@@ -117,17 +117,6 @@ ReadAs item given rest result c' =
     ⊎ ((e : ReadlineError) × (left : List ℕ) × IsReadFault item e × (result ≡ Err e)
     × (c' ≡ coming_after_error e left))
 
--- the effect of a reader's read on the remaining input: this answer, from the front of it
-pub record ReadsBy {X : Type 0} (item : InputItem) (at : Coming → Result X ReadlineError)
-    (feed feed' : KeyFeed) (result : Result X ReadlineError) : Type 0 where
-  pub taken : IsTrue feed'.told
-      → ReadAs item (at feed.coming) (behind item feed.coming) result feed'.coming
-  pub told : IsTrue feed'.told → IsTrue feed.told
-  pub keeps : feed'.bound ≤ feed.bound
-  pub falls : OnOk result (feed'.bound < feed.bound)
-  pub refused : IfErr result IsReaderRefusal
-  pub reason : IfErr result (λ e. feed'.reason e)
-
 -- a read whose answer isn't known
 pub record SomeRead {X : Type 0} (feed feed' : KeyFeed)
     (result : Result X ReadlineError) : Type 0 where
@@ -136,3 +125,10 @@ pub record SomeRead {X : Type 0} (feed feed' : KeyFeed)
   pub falls : OnOk result (feed'.bound < feed.bound)
   pub refused : IfErr result IsReaderRefusal
   pub reason : IfErr result (λ e. feed'.reason e)
+
+-- the effect of a reader's read on the remaining input: this answer, from the front of it
+pub record ReadsBy {X : Type 0} (item : InputItem) (at : Coming → Result X ReadlineError)
+    (feed feed' : KeyFeed) (result : Result X ReadlineError) : Type 0 where
+  pub some : SomeRead feed feed' result
+  pub taken : IsTrue feed'.told
+      → ReadAs item (at feed.coming) (behind item feed.coming) result feed'.coming

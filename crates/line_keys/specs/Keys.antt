@@ -1,5 +1,5 @@
 -- Keys: their comparison, the key of a character, and the normal form of a key in bindings.
-use Rattle.std.specs.Prelude.{ℕ, ◌+◌, Bool, ◌||◌, ◌&&◌, nat_lt, ◌==◌, Option, Some, None, if◌then◌else◌}
+use Rattle.std.specs.Prelude.{ℕ, ◌+◌, Bool, not, ◌||◌, ◌&&◌, nat_lt, ◌==◌, Option, Some, None, if◌then◌else◌}
 use Rattle.std.specs.Int.RustNames.{bit_and, bit_or}
 use Rattle.std.specs.Char.{is_control, is_ascii_control, is_ascii_lowercase, is_ascii_uppercase, to_ascii_uppercase}
 use Rattle.bitflags.specs.Sets.{without}
@@ -55,20 +55,17 @@ char_with m k = if k.1.0 == m.0 then char_in k.0 else None
 abbrev pub tab_key : Modifiers → KeyEvent
 tab_key m = if has shift m then key_with BackTab (less_shift m) else key_with Tab m
 
--- the key of a control character: U+0000 is Ctrl with @, and so on to U+001F, Ctrl with _
-abbrev pub control_key : ℕ → Modifiers → KeyEvent
-control_key c m =
-    if (c == 0x08) || (c == 0x7F) then key_with Backspace m
+-- the key that sends a character: U+0000 is Ctrl with @, and so on to U+001F, Ctrl with _
+abbrev pub key_of : ℕ → Modifiers → KeyEvent
+key_of c m =
+    if not (is_control c) then key_with (Char c) (less_shift m)
+    else if (c == 0x08) || (c == 0x7F) then key_with Backspace m
     else if c == 0x09 then tab_key m
     else if c == 0x0D then key_with Enter m
     else if c == 0x1B then key_with Esc m
     else if nat_lt c 0x20 then key_with (Char (c + 0x40)) (and_also ctrl m)
     else if c == 0x9B then key_with Esc (and_also shift m)
     else key_with Null m
-
--- the key that sends a character
-abbrev pub key_of : ℕ → Modifiers → KeyEvent
-key_of c m = if is_control c then control_key c m else key_with (Char c) (less_shift m)
 
 abbrev pub normal_code : KeyCode → Modifiers → KeyEvent
 normal_code (Char c) m =

@@ -12,7 +12,6 @@ pub mod PhraseScripts
 pub mod Refreshing
 pub mod Replies
 pub mod Requests
-pub mod SameKeys
 pub mod Tables
 pub mod Vi
 pub mod ViMotions

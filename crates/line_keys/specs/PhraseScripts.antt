@@ -1,6 +1,7 @@
 -- Phrases: what one command reads, draws and remembers, step by step, its answer, and the prompt
 -- that is shown then.
 use Rattle.std.specs.Prelude.{ℕ, zero, suc, ⊤, Bool, true, false, Option, Some, None, if◌then◌else◌, IsTrue}
+use Rattle.std.specs.Option.{option_map_or}
 use Rattle.script.specs.Scripts.{Script, Ends, Asks}
 use Rattle.line_buffer.specs.declared.types.CharSearch.{CharSearch}
 use Rattle.line_config.specs.declared.settings.EditMode.{EditMode}
@@ -109,12 +110,9 @@ unfoldable pub keep_then : {X : Type 0} → Input → PhrasePart X → PhrasePar
 keep_then input next = Upto (λ n. Asks (Becomes input) (λ none. steps next n))
 
 -- a binding's answer leads on; if the binding fails, so does the part
-abbrev pub script_if_answered : {X Y : Type 0} → (X → KeyScript Y) → Option X → KeyScript Y
-script_if_answered next (Some x) = next x
-script_if_answered next None = error_script Handler
-
 abbrev pub reply_script : {X Y : Type 0} → (X → KeyScript Y) → Reply X → KeyScript Y
-reply_script next reply = needs_if reply.takes (script_if_answered next reply.answer)
+reply_script next reply =
+    needs_if reply.takes (option_map_or next reply.answer (error_script Handler))
 
 unfoldable pub reply_then : {X Y : Type 0} → (X → PhrasePart Y) → Reply X → PhrasePart Y
 reply_then next reply = Upto (λ n. reply_script (λ x. steps (next x) n) reply)

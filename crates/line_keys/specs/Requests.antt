@@ -28,7 +28,6 @@ pub record Begins {S : Type 0} (asked : Asked S) (r : Request) (Is : Request →
   pub first : asked s r begun
   pub later : AsksInOrder asked Is begun t
 
--- a key, with this flag
 abbrev pub IsKey : Bool → Request → Type 0
 IsKey single_esc_abort r = r ≡ NextKey single_esc_abort
 

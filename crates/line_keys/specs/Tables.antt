@@ -1,5 +1,5 @@
 -- Tables from keys to actions: rows, and the lookup of a key.
-use Rattle.std.specs.Prelude.{ℕ, ◌==◌, Bool, true, false, ◌&&◌, List, [], ◌∷◌, get_or, if◌then◌else◌, Option, Some, None, is_some, unwrap_or}
+use Rattle.std.specs.Prelude.{ℕ, ◌==◌, Bool, true, false, ◌&&◌, ◌||◌, List, [], ◌∷◌, get_or, if◌then◌else◌, Option, Some, None, is_some, unwrap_or}
 use Rattle.line_buffer.specs.declared.types.Movement.{Movement}
 use Rattle.line_keys.specs.declared.command.Cmd.{Cmd}
 use Rattle.line_keys.specs.declared.command.Cmd.TheVariants.{Move, Kill}
@@ -72,6 +72,12 @@ key_named code modifiers gives =
 abbrev pub char : {X : Type 0} → List ℕ → Modifiers → Giving X → Row X
 char text modifiers gives = key_named (Char (get_or text 0 0)) modifiers gives
 
+-- the keys of a text's two characters
+abbrev pub two_chars : {X : Type 0} → List ℕ → Modifiers → Giving X → Row X
+two_chars text modifiers gives = record (char text modifiers gives) {
+  fits = λ code. is_code (Char (get_or text 0 0)) code || is_code (Char (get_or text 1 0)) code;
+}
+
 -- the key of each character; what the row gives depends on it
 abbrev pub each_char : {X : Type 0} → Modifiers → (ℕ → Giving X) → Row X
 each_char modifiers gives = record {
@@ -87,14 +93,11 @@ only stands r = record r { stands = stands }
 
 -- ---- lookup
 
-abbrev pub has_key : {X : Type 0} → KeyCode → ℕ → Row X → Bool
-has_key code bits r = (bits == r.modifiers.0) && (r.fits code && r.stands)
-
 -- the first row that has the key
 abbrev pub first_row : {X : Type 0} → ℕ → Bool → KeyCode → ℕ → List (Row X) → Option X
 first_row n positive code bits [] = None
 first_row n positive code bits (r ∷ rows) =
-    if has_key code bits r then Some (r.gives code n positive)
+    if (bits == r.modifiers.0) && (r.fits code && r.stands) then Some (r.gives code n positive)
     else first_row n positive code bits rows
 
 abbrev pub look : {X : Type 0} → ℕ → Bool → KeyEvent → List (Row X) → Option X

@@ -1,13 +1,14 @@
 -- The keys of Vi mode.
-use Rattle.std.specs.Prelude.{◌≡◌, IsTrue, IfOk, IfErr, ℕ, Bool, true, false, not, ◌&&◌, if◌then◌else◌, Option, Some, None, unwrap_or, option_map, Result}
+use Rattle.std.specs.Prelude.{◌≡◌, IsTrue, IfOk, IfErr, ℕ, Bool, true, false, not, ◌&&◌, if◌then◌else◌, [], ◌∷◌, Option, Some, None, unwrap_or, option_map, Result}
+use Rattle.std.specs.Option.{option_map_or}
 use Rattle.line_buffer.specs.declared.types.Movement.{Movement}
 use Rattle.line_config.specs.declared.errors.ReadlineError.{ReadlineError}
 use Rattle.line_config.specs.declared.errors.ReadlineError.TheVariants.{Memory}
 use Rattle.line_keys.specs.declared.command.Cmd.{Cmd}
-use Rattle.line_keys.specs.declared.command.Cmd.TheVariants.{Dedent, Indent, Kill, Move, Noop, Overwrite, Replace, SelfInsert, Unknown, ViYankTo}
+use Rattle.line_keys.specs.declared.command.Cmd.TheVariants.{Dedent, Indent, Kill, Move, Noop, Overwrite, Replace, ReplaceChar, SelfInsert, Unknown, ViYankTo}
 use Rattle.line_keys.specs.declared.command.InputMode.{InputMode}
 use Rattle.line_keys.specs.declared.command.InputMode.TheVariants.{Command, Insert, Replace as Overwriting}
-use Rattle.line_keys.specs.declared.key.KeyCode.TheVariants.{Char}
+use Rattle.line_keys.specs.declared.key.KeyCode.TheVariants.{Char, Esc}
 use Rattle.line_keys.specs.declared.key.KeyEvent.{KeyEvent}
 use Rattle.line_keys.specs.declared.keymap.vi.table.ViAction.{ViAction}
 use Rattle.line_keys.specs.declared.keymap.vi.table.ViAction.TheVariants as action
@@ -23,9 +24,9 @@ use Rattle.line_keys.specs.CustomKeys.{Situation, situation}
 use Rattle.line_keys.specs.Keys.{key_with, none}
 use Rattle.line_keys.specs.PhraseScripts.{Input, PhrasePart, takes_commands, answer_part, anew_or, show_then, keep_then, from_key, memory_then, and_then}
 use Rattle.line_keys.specs.Refreshing.{Shown, DoingInsert, DoneInserting}
-use Rattle.line_keys.specs.Tables.{look}
+use Rattle.line_keys.specs.Tables.{always, by_count, key_named, each_char, look}
 use Rattle.line_keys.specs.ViMotions.{opposite, search_movement, search_of_next_key, vi_motion}
-use Rattle.line_keys.specs.ViTables.{action_of, insert_action, replace_rows}
+use Rattle.line_keys.specs.ViTables.{action_of, insert_action}
 
 -- ---- the modes and the last change
 
@@ -82,19 +83,16 @@ command_of operators.Indent = Indent
 abbrev pub insert_mode_if : Bool → Input → Input
 insert_mode_if changing input = if changing then in_mode Insert input else input
 
-abbrev pub command_of_operator : (Movement → Cmd) → Option Movement → Cmd
-command_of_operator operator m = unwrap_or (option_map operator m) Unknown
-
 abbrev pub operation : Situation → KeyEvent → (Movement → Cmd) → Input → PhrasePart Cmd
 operation s k operator input = and_then input s.shown (vi_motion k s.n input s.shown)
-    (λ m input shown. answer_part (command_of_operator operator m))
+    (λ m input shown. answer_part (option_map_or operator m Unknown))
 
-abbrev pub move_or : Cmd → Option Movement → Cmd
-move_or other m = unwrap_or (option_map Move m) other
-
--- the character that replaces those under the cursor
+-- the command of the key after `r`, whose character replaces those under the cursor
 abbrev pub key_replacement : ℕ → KeyEvent → Cmd
-key_replacement n k = unwrap_or (look n true k replace_rows) Unknown
+key_replacement n k = unwrap_or (look n true k (
+    each_char none (λ c. by_count (λ n. ReplaceChar n c))
+    ∷ key_named Esc none (always Noop)
+    ∷ [])) Unknown
 
 -- a key without a row is common to both modes
 abbrev pub command_done : Option ℕ → Situation → KeyEvent → Option ViAction → PhrasePart Cmd
@@ -107,11 +105,11 @@ command_done new s k (Some (action.Operate o)) = let input = insert_mode_if (cha
     keep_then input (operation s k (command_of o) input)
 command_done new s k (Some (action.Search way)) =
     and_then s.input s.shown (search_of_next_key way s.n s.input)
-    (λ m input shown. answer_part (move_or Unknown m))
+    (λ m input shown. answer_part (option_map_or Move m Unknown))
 command_done new s k (Some action.Again) =
-    answer_part (move_or Noop (search_movement s.n s.input.search))
+    answer_part (option_map_or Move (search_movement s.n s.input.search) Noop)
 command_done new s k (Some action.Back) =
-    answer_part (move_or Noop (search_movement s.n (option_map opposite s.input.search)))
+    answer_part (option_map_or Move (search_movement s.n (option_map opposite s.input.search)) Noop)
 command_done new s k (Some action.Repeat) = anew_or Noop new s.shown s.input.last
 command_done new s k (Some action.Replace) = from_key (key_replacement s.n)
 command_done new s k None = common s k
@@ -159,7 +157,6 @@ unfoldable pub vi_insert : Custom → KeyEvent → Input → Shown → PhrasePar
 vi_insert custom k input shown = decision_of None (situation custom input shown 0 true) k
     (and_then input shown (insert_table custom input shown k) insert_part)
 
--- the phrase whose first key is k
 abbrev pub vi_phrase : Custom → Input → Shown → KeyEvent → PhrasePart Cmd
 vi_phrase custom input shown k =
     if takes_commands input.input_mode then vi_command custom k input shown

@@ -1,22 +1,19 @@
 -- Vi's searches for a character, and the motion after an operator.
-use Rattle.std.specs.Prelude.{ℕ, Bool, true, List, [], ◌∷◌, Option, Some, None, option_map, codes, if◌then◌else◌}
+use Rattle.std.specs.Prelude.{ℕ, Option, Some, None, option_map, if◌then◌else◌}
 use Rattle.line_buffer.specs.declared.types.CharSearch.{CharSearch}
 use Rattle.line_buffer.specs.declared.types.CharSearch.TheVariants as sought
 use Rattle.line_buffer.specs.declared.types.Movement.{Movement}
-use Rattle.line_buffer.specs.declared.types.Movement.TheVariants.{WholeLine, BeginningOfLine, EndOfLine, BackwardWord, ForwardWord, ViFirstPrint, BackwardChar, ForwardChar, LineUp, LineDown, ViCharSearch}
-use Rattle.line_buffer.specs.declared.types.Word.TheVariants.{Big, Vi}
-use Rattle.line_buffer.specs.declared.types.At.TheVariants.{Start, AfterEnd}
-use Rattle.line_keys.specs.declared.key.KeyCode.TheVariants.{Backspace, Char}
+use Rattle.line_buffer.specs.declared.types.Movement.TheVariants.{WholeLine, ViCharSearch}
+use Rattle.line_keys.specs.declared.key.KeyCode.TheVariants.{Char}
 use Rattle.line_keys.specs.declared.key.KeyEvent.{KeyEvent}
 use Rattle.line_keys.specs.declared.keymap.vi.motion.Motion.{Motion}
 use Rattle.line_keys.specs.declared.keymap.vi.motion.Motion.TheVariants.{Go, Seek, Again, Back}
 use Rattle.line_keys.specs.declared.keymap.vi.motion.Search.{Search}
 use Rattle.line_keys.specs.declared.keymap.vi.motion.Search.TheVariants.{Forward, ForwardBefore, Backward, BackwardAfter}
-use Rattle.std.specs.Option.{option_or}
 use Rattle.line_keys.specs.KeyFeeds.{Key}
-use Rattle.line_keys.specs.Keys.{char_with, key_with, none, ctrl, same_key}
+use Rattle.line_keys.specs.Keys.{char_with, key_with, none, same_key}
 use Rattle.line_keys.specs.PhraseScripts.{Input, PhrasePart, answer_part, keep_then, with_read, and_then}
-use Rattle.line_keys.specs.Tables.{Row, always, by_count, key_named, char, look}
+use Rattle.line_keys.specs.ViTables.{motion_of}
 use Rattle.line_keys.specs.Refreshing.{Shown}
 use Rattle.line_keys.specs.Counts.{count_and_key, count_times}
 
@@ -48,46 +45,6 @@ search_of_next_key way n input = with_read Key (λ k. search_part way n input (c
 
 -- ---- motions
 
-abbrev pub motion_rows : List (Row Motion)
-motion_rows =
-    char (codes "0") none (always (Go BeginningOfLine))
-    ∷ char (codes "$") none (always (Go EndOfLine))
-    ∷ char (codes "^") none (always (Go ViFirstPrint))
-    ∷ char (codes "h") none (by_count (λ n. Go (BackwardChar n)))
-    ∷ char (codes "H") ctrl (by_count (λ n. Go (BackwardChar n)))
-    ∷ key_named Backspace none (by_count (λ n. Go (BackwardChar n)))
-    ∷ char (codes "l") none (by_count (λ n. Go (ForwardChar n)))
-    ∷ char (codes " ") none (by_count (λ n. Go (ForwardChar n)))
-    ∷ char (codes "w") none (by_count (λ n. Go (ForwardWord n Start Vi)))
-    ∷ char (codes "W") none (by_count (λ n. Go (ForwardWord n Start Big)))
-    ∷ char (codes "b") none (by_count (λ n. Go (BackwardWord n Vi)))
-    ∷ char (codes "B") none (by_count (λ n. Go (BackwardWord n Big)))
-    ∷ char (codes "e") none (by_count (λ n. Go (ForwardWord n AfterEnd Vi)))
-    ∷ char (codes "E") none (by_count (λ n. Go (ForwardWord n AfterEnd Big)))
-    ∷ char (codes "f") none (always (Seek Forward))
-    ∷ char (codes "F") none (always (Seek Backward))
-    ∷ char (codes "t") none (always (Seek ForwardBefore))
-    ∷ char (codes "T") none (always (Seek BackwardAfter))
-    ∷ char (codes ";") none (always Again)
-    ∷ char (codes ",") none (always Back)
-    ∷ char (codes "j") none (by_count (λ n. Go (LineDown n)))
-    ∷ char (codes "+") none (by_count (λ n. Go (LineDown n)))
-    ∷ char (codes "k") none (by_count (λ n. Go (LineUp n)))
-    ∷ char (codes "-") none (by_count (λ n. Go (LineUp n)))
-    ∷ []
-
--- a change doesn't include blanks after a word
-abbrev pub change_motion_rows : List (Row Motion)
-change_motion_rows =
-    char (codes "w") none (by_count (λ n. Go (ForwardWord n AfterEnd Vi)))
-    ∷ char (codes "W") none (by_count (λ n. Go (ForwardWord n AfterEnd Big)))
-    ∷ []
-
-unfoldable pub motion_of : Bool → ℕ → KeyEvent → Option Motion
-motion_of changing n k =
-    if changing then option_or (look n true k change_motion_rows) (look n true k motion_rows)
-    else look n true k motion_rows
-
 -- a key that is no motion gives none, and neither does a search if none is remembered
 abbrev pub motion_done : ℕ → Input → Option Motion → PhrasePart (Option Movement)
 motion_done n input (Some (Go movement)) = answer_part (Some movement)
@@ -96,12 +53,10 @@ motion_done n input (Some Again) = answer_part (search_movement n input.search)
 motion_done n input (Some Back) = answer_part (search_movement n (option_map opposite input.search))
 motion_done n input None = answer_part None
 
--- c
-abbrev pub change : KeyEvent
-change = key_with (Char 0x63) none
-
+-- the motion after c is that of a change
 abbrev pub motion_by : KeyEvent → ℕ → Input → KeyEvent → PhrasePart (Option Movement)
-motion_by operator n input k = motion_done n input (motion_of (same_key operator change) n k)
+motion_by operator n input k =
+    motion_done n input (motion_of (same_key operator (key_with (Char 0x63) none)) n k)
 
 -- the operator's key again stands for the row; a second count is multiplied by the operator's
 abbrev pub motion_after : KeyEvent → ℕ → Input → Shown → KeyEvent → PhrasePart (Option Movement)

@@ -79,11 +79,13 @@ impl From<Vec<KeyEvent>> for Keys {
 
 impl PartialEq for Keys {
     ghost use Rattle.std.specs.Cmp.{partial_equiv_from_equiv};
-    ghost use Rattle.line_keys.specs.SameKeys.{same_keys, same_keys-equivalence};
+    ghost use Rattle.std.specs.Cmp.Lexicographic.{pointwise, lists_equiv};
+    ghost use Rattle.line_keys.specs.Keys.{same_key};
+    ghost use Rattle.line_keys.specs.contracts.key.KeyEventEq.TheImpl.Laws.{laws-law};
 
-    ghost eq = { same_keys };
+    ghost eq = { pointwise same_key };
 
-    ghost laws = { partial_equiv_from_equiv same_keys-equivalence };
+    ghost laws = { partial_equiv_from_equiv (lists_equiv laws-law) };
 
     fn eq(&self, other: &Keys) -> bool {
         self.as_slice() == other.as_slice()
@@ -91,20 +93,20 @@ impl PartialEq for Keys {
 }
 
 impl Eq for Keys {
-    ghost use Rattle.line_keys.specs.SameKeys.{same_keys-equivalence};
+    ghost use Rattle.std.specs.Cmp.Lexicographic.{lists_equiv};
+    ghost use Rattle.line_keys.specs.contracts.key.KeyEventEq.TheImpl.Laws.{laws-law};
 
-    ghost laws = { same_keys-equivalence };
+    ghost laws = { lists_equiv laws-law };
 }
 
 impl Hash for Keys {
     ghost use Rattle.std.specs.Hash as fed;
-    ghost use Rattle.std.specs.Hash.{same_Alike};
-    ghost use Rattle.line_keys.specs.SameKeys.{same_keys-decides};
+    ghost use Rattle.std.specs.Hash.{items_Alike};
+    ghost use Rattle.line_keys.specs.contracts.key.KeyEventHash.TheImpl.Laws.{respects_eq-law};
 
     ghost hash_input = { fed.slice ⟦<KeyEvent as Hash>⟧.hash_input };
 
-    ghost respects_eq = { (same_Alike (fed.slice ⟦<KeyEvent as Hash>⟧.hash_input)
-        same_keys-decides).fed };
+    ghost respects_eq = { (items_Alike (record { fed = respects_eq-law })).fed };
 
     fn hash<H: Hasher>(&self, state: &mut H) {
         self.as_slice().hash(state);

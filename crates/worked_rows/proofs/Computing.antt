@@ -14,8 +14,7 @@ use Rattle.line_keys.specs.CustomKeys.{key_sequence, rest_of_sequence}
 use Rattle.line_keys.specs.Emacs.{emacs_action}
 use Rattle.line_keys.specs.PhraseScripts.{and_then, answer_part, from_key, keep_then, memory_then, reply_then, show_then, with_read}
 use Rattle.line_keys.specs.Vi.{command_table, insert_table, vi_command, vi_counted, vi_insert}
-use Rattle.line_keys.specs.ViMotions.{motion_of}
-use Rattle.line_keys.specs.ViTables.{action_of, insert_action}
+use Rattle.line_keys.specs.ViTables.{action_of, insert_action, motion_of}
 use Rattle.line_record.specs.RecordCourse.{record_after_events}
 use Rattle.std.specs.Fmt.{digits}
 use Rattle.std.specs.Fmt.Cut.{floor_char_boundary}

@@ -7,7 +7,9 @@ pub mod table;
 ghost use Rattle.std.specs.Prelude.{◌≡◌, true, false};
 ghost use Rattle.line_keys.specs.KeyFeeds.{Key, ReadsBy, from_key_at};
 ghost use Rattle.line_keys.specs.Requests.{AsksInOrder, IsLater, NextKey};
-ghost use Rattle.line_keys.specs.Vi.{move_or, key_replacement, char_command};
+ghost use Rattle.std.specs.Option.{option_map_or};
+ghost use Rattle.line_keys.specs.declared.command.Cmd.TheVariants.{Move};
+ghost use Rattle.line_keys.specs.Vi.{key_replacement, char_command};
 
 use crate::command::{Cmd, InputMode};
 use crate::flags::Modifiers;
@@ -317,7 +319,7 @@ impl<D: Decides> InputState<'_, D> {
 }
 
 fn move_or(other: Cmd, movement: Option<Movement>) -> Cmd
-    ensures { result ≡ move_or other movement }
+    ensures { result ≡ option_map_or Move movement other }
 {
     match movement {
         Some(movement) => Cmd::Move(movement),

@@ -1,7 +1,7 @@
 -- What was interrupted has written nothing.
 use Rattle.std.proofs.Common.{◌≡◌}
 use Rattle.line_config.specs.DeviceCalls.{again, flush_interrupted}
-use Rattle.line_config.specs.Recorded.{Notes, calls_of, took}
+use Rattle.line_config.specs.Parts.{Notes, calls_of, took}
 use Rattle.line_config.proofs.retry.flush_retrying.Given as goal
 
 abbrev pub invariant-loop-tried : goal.invariant-loop-tried

@@ -1,7 +1,7 @@
 -- A read is repeated if it was interrupted, and only then.
 use Rattle.std.proofs.Common.{◌≡◌, ◌^◌, ◌-◌, ◌∙◌, refl, arith}
 use Rattle.line_config.specs.DeviceCalls.{move_interrupted}
-use Rattle.line_config.specs.Recorded.{took}
+use Rattle.line_config.specs.Parts.{took}
 use Rattle.line_config.proofs.KnownLemmas.{keeps_same, keeps_then}
 use Rattle.line_config.proofs.TryLemmas.{again_none, again_more, interrupted_move, moved_none, tries_out}
 use Rattle.line_config.proofs.retry.read_retrying.Goals as goal

@@ -2,7 +2,7 @@
 use Rattle.std.proofs.Common.{◌≡◌}
 use Rattle.std.specs.Io.KnownBytes.{Keeps}
 use Rattle.line_config.specs.DeviceCalls.{again, move_interrupted}
-use Rattle.line_config.specs.Recorded.{calls_of, inner_of, took}
+use Rattle.line_config.specs.Parts.{calls_of, inner_of, took}
 use Rattle.line_config.proofs.retry.read_retrying.Given as goal
 
 abbrev pub invariant-loop-tried : goal.invariant-loop-tried

@@ -2,8 +2,8 @@
 
 ghost use Rattle.std.specs.Prelude.{◌≡◌, option_map, true};
 ghost use Rattle.line_keys.specs.Tables.{look};
-ghost use Rattle.line_keys.specs.ViMotions.{motion_rows, change_motion_rows, motion_of};
 ghost use Rattle.line_keys.specs.ViMotions.{opposite, search_movement};
+ghost use Rattle.line_keys.specs.ViTables.{motion_rows, change_motion_rows, motion_of};
 
 use crate::flags::Modifiers;
 use crate::handler::Decides;
@@ -127,7 +127,7 @@ fn change_row(key: KeyEvent, n: RepeatCount) -> Option<Motion>
 }
 
 /// The meaning of a key after an operator, which may be a change.
-#[tactic(auto, using(crate::proofs::Steps::motions), unfolding(crate::specs::ViMotions::motion_of))]
+#[tactic(auto, using(crate::proofs::Steps::motions), unfolding(crate::specs::ViTables::motion_of))]
 fn motion_of(changing: bool, key: KeyEvent, n: RepeatCount) -> Option<Motion>
     ensures { result ≡ motion_of changing n key }
 {

@@ -2,10 +2,9 @@
 
 ghost use Rattle.std.specs.Prelude.{◌≡◌, ℕ, None, option_map, true};
 ghost use Rattle.line_keys.specs.Tables.{look};
-ghost use Rattle.line_keys.specs.Vi.{command_of_operator};
 ghost use Rattle.line_keys.specs.ViTables.{action_of, insert_action, vi_edit_rows, vi_move_rows};
 ghost use Rattle.line_keys.specs.ViTables.{vi_reading_rows, vi_turn_rows};
-ghost use Rattle.line_keys.specs.declared.command.Cmd.TheVariants.{Replace};
+ghost use Rattle.line_keys.specs.declared.command.Cmd.TheVariants.{Replace, Unknown};
 ghost use Rattle.line_keys.specs.declared.command.InputMode.TheVariants.{Insert};
 ghost use Rattle.line_keys.specs.declared.keymap.vi.table.ViAction.TheVariants.{Give, Turn};
 
@@ -52,10 +51,11 @@ pub enum Operator {
 
 impl Operator {
     ghost use Rattle.line_keys.specs.Vi.{command_of};
+    ghost use Rattle.std.specs.Option.{option_map_or};
 
     /// The operator's command for a motion.
     pub(crate) fn command(self, motion: Option<Movement>) -> Cmd
-        ensures { result ≡ command_of_operator (command_of self) motion }
+        ensures { result ≡ option_map_or (command_of self) motion Unknown }
     {
         let Some(movement) = motion else {
             return Cmd::Unknown;

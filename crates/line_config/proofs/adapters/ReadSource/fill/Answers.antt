@@ -5,8 +5,8 @@ use Rattle.std.specs.Io.KnownBytes.{Consumes}
 use Rattle.std.proofs.lemmas.List.{length-take, length-drop}
 use Rattle.std.proofs.lemmas.Grind.{common_steps}
 use Rattle.line_config.specs.Adapters.{gave, reader_of, bytes_not_given}
-use Rattle.line_config.specs.Buffer.{bytes_in}
-use Rattle.line_config.specs.Recorded.{inner_of, took}
+use Rattle.line_config.specs.Parts.{bytes_in}
+use Rattle.line_config.specs.Parts.{inner_of, took}
 use Rattle.line_config.specs.declared.device.Last.TheVariants.{End, Failed}
 use Rattle.line_config.proofs.FeedLemmas.{fills_by}
 use Rattle.line_config.proofs.KnownLemmas.{keeps_same, consumes_none}
@@ -35,7 +35,7 @@ returns-then-self-gt-MOST_BYTES-clause-told g c =
     let same : Consumes (g.R.Read.remaining (reader_of s)) (g.R.Read.remaining (reader_of s)) [] = consumes_none _ _ (keeps_same (g.R.Read.remaining (reader_of s))) in
     fills_by g.R.Read.remaining g.K.Foretold.told g.K.Foretold.left g.K.Foretold.last g.met.K.Foretold.foretells (reader_of s) (reader_of s) (gave s) (bytes_not_given s)
     (bytes_not_given s) (gave s) s.met (Some Failed) s.count s.count none unmet (rw none (sym (append-nil (gave s)))) (rw none same)
-    (record { nothing = λ x is. none; end = λ is. absurd (cc) }) (λ e. (Failed, refl)) (omega (arith, ap length none))
+    (λ x is. none) (λ is. absurd (cc)) (λ e. (Failed, refl)) (omega (arith, ap length none))
 
 pub returns-then-is_empty-clause-told : goal.returns-then-is_empty-clause-told
 returns-then-is_empty-clause-told g c =
@@ -50,7 +50,7 @@ returns-then-is_empty-clause-told g c =
     let fits : length bytes ≤ 4096 = omega (arith, w.ordered, w.within, length-take {A = ℕ}, length-drop {A = ℕ}) in
     fills_by g.R.Read.remaining g.K.Foretold.told g.K.Foretold.left g.K.Foretold.last g.met.K.Foretold.foretells (reader_of s) (inner_of r) (gave s) (bytes_not_given s) bytes
     (took r) s.met (Some End) s.count (s.count + length c.as_slice.result.now) c.requires unmet c.fill_from.ensures.took c.fill_from.ensures.bytes
-    (record { nothing = λ x is. none; end = λ is. c.in-Ok.ensures.end none (lit< tt) }) (λ e. (End, refl)) (omega (arith, len, few, fits))
+    (λ x is. none) (λ is. c.in-Ok.ensures.end none (lit< tt)) (λ e. (End, refl)) (omega (arith, len, few, fits))
 
 pub returns-else-is_empty-clause-told : goal.returns-else-is_empty-clause-told
 returns-else-is_empty-clause-told g c =
@@ -65,7 +65,7 @@ returns-else-is_empty-clause-told g c =
     let fits : length bytes ≤ 4096 = omega (arith, w.ordered, w.within, length-take {A = ℕ}, length-drop {A = ℕ}) in
     fills_by g.R.Read.remaining g.K.Foretold.told g.K.Foretold.left g.K.Foretold.last g.met.K.Foretold.foretells (reader_of s) (inner_of r) (gave s) (bytes_not_given s) bytes
     (took r) s.met s.met s.count (s.count + length c.as_slice.result.now) c.requires unmet c.fill_from.ensures.took c.fill_from.ensures.bytes
-    (record { nothing = λ x is. absurd (let no = sym unmet ∙ is in cc); end = λ is. absurd (let no = sym unmet ∙ is in cc) }) (λ e. absurd (some e))
+    (λ x is. absurd (let no = sym unmet ∙ is in cc)) (λ is. absurd (let no = sym unmet ∙ is in cc)) (λ e. absurd (some e))
     (omega (arith, len, few, fits))
 
 pub returns-in-Err-clause-told : goal.returns-in-Err-clause-told
@@ -78,4 +78,4 @@ returns-in-Err-clause-told g c =
     let none : bytes ≡ [] = c.in-Err.ensures.err in
     fills_by g.R.Read.remaining g.K.Foretold.told g.K.Foretold.left g.K.Foretold.last g.met.K.Foretold.foretells (reader_of s) (inner_of r) (gave s) (bytes_not_given s) bytes
     (took r) s.met (Some Failed) s.count s.count c.requires unmet c.fill_from.ensures.took c.fill_from.ensures.bytes
-    (record { nothing = λ x is. none; end = λ is. absurd (cc) }) (λ e. (Failed, refl)) (omega (arith, ap length none))
+    (λ x is. none) (λ is. absurd (cc)) (λ e. (Failed, refl)) (omega (arith, ap length none))

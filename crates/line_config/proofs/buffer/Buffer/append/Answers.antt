@@ -1,7 +1,7 @@
 -- What is put after the held bytes follows them.
 use Rattle.std.proofs.Common.{◌≤◌, ◌∙◌, ◌≡◌, ◌++◌, ℕ, List, ap, arith, length, take}
 use Rattle.std.proofs.lemmas.Grind.{common_steps}
-use Rattle.line_config.specs.Buffer.{bytes_in}
+use Rattle.line_config.specs.Parts.{bytes_in}
 use Rattle.line_config.proofs.BufferLemmas.{slice_range-put_mid}
 use Rattle.line_config.proofs.buffer.Buffer.append.Goals as goal
 

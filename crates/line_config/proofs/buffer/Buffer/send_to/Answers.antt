@@ -1,7 +1,7 @@
 -- What one write takes goes from the front of what is held.
 use Rattle.std.proofs.Common.{◌≤◌, ◌+◌, ℕ, arith, length, take-append-drop, append_assoc}
 use Rattle.std.proofs.lemmas.List.{length-take, length-drop}
-use Rattle.line_config.specs.Buffer.{bytes_in}
+use Rattle.line_config.specs.Parts.{bytes_in}
 use Rattle.line_config.proofs.BufferLemmas.{slice_range-later}
 use Rattle.line_config.proofs.NotesLemmas.{notes_then}
 use Rattle.line_config.proofs.TryLemmas.{ends_tries, write_fails}

@@ -1,8 +1,9 @@
 use Rattle.std.proofs.Common.{◌≡◌, arith, refl}
 use Rattle.std.specs.Prelude.{Err}
-use Rattle.line_keys.specs.declared.command.Cmd.TheVariants.{Unknown}
+use Rattle.std.specs.Option.{option_map_or}
+use Rattle.line_keys.specs.declared.command.Cmd.TheVariants.{Move, Unknown}
 use Rattle.line_keys.specs.PhraseScripts.{answer_part}
-use Rattle.line_keys.specs.Vi.{command_table, move_or}
+use Rattle.line_keys.specs.Vi.{command_table}
 use Rattle.line_keys.proofs.Asking.{key_asked, none_asked}
 use Rattle.line_keys.proofs.Following.{ask_stops, ask_follows, becomes_follows, ends_follow, granted_follows, then_stops, then_follows, silent_follows, whole_read}
 use Rattle.line_keys.proofs.Raised.{raised}
@@ -60,13 +61,13 @@ unfolding command_table
 returns-in_err-movement-in-Some-Search-clause-phrase g c =
     let is = rw (c.in-Some-Search.field-0-is) at c.in-Some-Search.ensures in
     let failed : c.from_residual-in_err-movement-in-Some-Search.result ≡ Err c.in_err-movement-in-Some-Search.field-0.0 = raised _ _ c.from_residual-in_err-movement-in-Some-Search.ensures.1 in
-    rw (← c.times-n.ensures, ← is, failed) (then_stops _ _ _ (λ m input shown. answer_part (move_or Unknown m)) _ _ _ _ _ _ _ (silent_follows _ _ _ _ _ _ _ _ _ c.in_err-movement-in-Some-Search.ensures.sought))
+    rw (← c.times-n.ensures, ← is, failed) (then_stops _ _ _ (λ m input shown. answer_part (option_map_or Move m Unknown)) _ _ _ _ _ _ _ (silent_follows _ _ _ _ _ _ _ _ _ c.in_err-movement-in-Some-Search.ensures.sought))
 
 pub returns-in_ok-movement-in-Some-Search-clause-phrase : goal.returns-in_ok-movement-in-Some-Search-clause-phrase
 unfolding command_table
 returns-in_ok-movement-in-Some-Search-clause-phrase g c =
     let is = rw (c.in-Some-Search.field-0-is) at c.in-Some-Search.ensures in
-    rw (← c.times-n.ensures, ← is) (then_follows _ _ _ (λ m input shown. answer_part (move_or Unknown m)) _ _ _ _ _ _ _ _ _ _ _ (silent_follows _ _ _ _ _ _ _ _ _ c.in_ok-movement-in-Some-Search.ensures.sought) (ends_follow _ _ _ _ _ _ _ (grind arith)))
+    rw (← c.times-n.ensures, ← is) (then_follows _ _ _ (λ m input shown. answer_part (option_map_or Move m Unknown)) _ _ _ _ _ _ _ _ _ _ _ (silent_follows _ _ _ _ _ _ _ _ _ c.in_ok-movement-in-Some-Search.ensures.sought) (ends_follow _ _ _ _ _ _ _ (grind arith)))
 
 pub returns-in-Some-Replace-clause-asks : goal.returns-in-Some-Replace-clause-asks
 returns-in-Some-Replace-clause-asks g c = key_asked _ _ _ _ c.replacement.ensures.asks

@@ -1,8 +1,22 @@
--- What contracts read of a reader or a writer whose calls are noted.
-use Rattle.std.specs.Prelude.{◌≡◌, ℕ, List, ◌++◌, Option}
+-- What contracts read of an adapter's parts: its fixed array, and its reader or writer, whose calls
+-- are noted.
+use Rattle.std.specs.Prelude.{◌≡◌, ℕ, ◌-◌, List, ◌++◌, slice_range, take, Option}
 use Rattle.std.specs.Io.KnownBytes.{Appends}
 use Rattle.line_config.specs.DeviceCalls.{DeviceCall, Since}
+use Rattle.line_config.specs.declared.buffer.Buffer.{Buffer}
 use Rattle.line_config.specs.declared.recorded.Recorded.{Recorded}
+
+-- the bytes that an array holds
+abbrev pub bytes_in : {N : ℕ} → Buffer N → List ℕ
+bytes_in w = slice_range w.bytes w.start w.end
+
+-- all that it was filled with, given or not
+abbrev pub piece_in : {N : ℕ} → Buffer N → List ℕ
+piece_in w = take w.end w.bytes
+
+-- how many more bytes fit
+abbrev pub room_in : {N : ℕ} → Buffer N → ℕ
+room_in {N} w = N - w.end
 
 -- what its reads gave; or what a writer had before, if that is known, and then what its writes took
 abbrev pub took : {D : Type 0} → Recorded D → List ℕ
