@@ -50,23 +50,24 @@ digit_char char = if nat_le 0x30 char && nat_le char 0x39 then Some (char - 0x30
 abbrev pub digit_of : KeyEvent → Option ℕ
 digit_of k = option_and_then digit_char (char_with none k)
 
--- the count that a minus (2D) leads to, or the one that a digit leads to
-abbrev pub by_minus_or_digit : ℤ → (ℕ → ℤ) → ℕ → Option ℤ
-by_minus_or_digit minus digit char =
-    if char == 0x2D then Some minus else option_map digit (digit_char char)
+-- a count with one more character: a digit, or a minus (2D), which is ignored
+abbrev pub count_with_char : ℤ → ℕ → Option ℤ
+count_with_char c char = if char == 0x2D then Some c else option_map (and_digit c) (digit_char char)
 
--- a count with one more key: a digit, or in Emacs mode a minus, which is ignored, there also with
--- Alt; any other key ends it
+-- a count with one more key, in Emacs mode also with Alt; any other key ends it
 abbrev pub count_with_key : EditMode → ℤ → KeyEvent → Option ℤ
 count_with_key Emacs c k =
-    option_and_then (by_minus_or_digit c (and_digit c))
-    (option_or (char_with none k) (char_with alt k))
+    option_and_then (count_with_char c) (option_or (char_with none k) (char_with alt k))
 count_with_key Vi c k = option_map (and_digit c) (digit_of k)
 
--- the count that a key starts: in Emacs mode with Alt, by a digit or by a minus, which alone stands
--- for -1; in Vi's command mode by a digit other than 0
+-- the count that a character starts: a digit, or a minus, which alone stands for -1
+abbrev pub count_from_char : ℕ → Option ℤ
+count_from_char char =
+    if char == 0x2D then Some (neg_ℤ (pos 1)) else option_map pos (digit_char char)
+
+-- the count that a key starts: in Emacs mode with Alt, in Vi's command mode by a digit other than 0
 abbrev pub count_from_key : EditMode → KeyEvent → Option ℤ
-count_from_key Emacs k = option_and_then (by_minus_or_digit (neg_ℤ (pos 1)) pos) (char_with alt k)
+count_from_key Emacs k = option_and_then count_from_char (char_with alt k)
 count_from_key Vi k = option_and_then (λ d. if d == 0 then None else Some (pos d)) (digit_of k)
 
 -- ---- a count and the key after it
