@@ -1,6 +1,6 @@
 -- What is answered to an error that words give, and which errors they give.
 use Rattle.std.proofs.Common.{◌≡◌, ◌∙◌, List, [], inl, inr, refl, sym, subst, true, Result, Ok, Err}
-use Rattle.std.specs.Prelude.{IsErrAnd}
+use Rattle.std.specs.Prelude.{IsErrAnd, MatchResult}
 use Rattle.clap.specs.Words.{App, HasKind, HasMatchesOf, IsAmong, Text, fault_of, found_of, is_simple, kind_of, matches_of, rows_of}
 use Rattle.clap.specs.Faults.{is_simple_and_free}
 use Rattle.clap.specs.declared.error.Error.{Error}

@@ -62,9 +62,9 @@ use Rattle.keyline.specs.declared.session.TheConstants.{KILL_RING_SIZE}
 -- ---- what no binding answers, the tables do
 
 -- no binding is for this key
-record IsFree (custom : Custom) (k : KeyEvent) : Type 0 where
-  own : custom.answers (single k) ≡ None
-  any : custom.answers Any ≡ None
+pub record IsFree (custom : Custom) (k : KeyEvent) : Type 0 where
+  pub own : custom.answers (single k) ≡ None
+  pub any : custom.answers Any ≡ None
 
 unbound_answer : (s : Situation) (k : KeyEvent) → IsFree s.custom k → custom_answer s k ≡ gives_at_once None
 unbound_answer s k free =
