@@ -2,8 +2,7 @@
 use Rattle.std.proofs.Common.{◌≡◌, ℕ, suc, ◌+◌, ◌≤◌, Bool, true, false, cond, List, [], ◌∷◌, ◌++◌, Option, None, Some, length, refl, ap, arith}
 use Rattle.std.specs.Prelude.{codes, ◌&&◌, ◌||◌, ◌==◌, nat_lt, take, slice_index}
 use Rattle.line_config.specs.declared.device.Last.{Last}
-use Rattle.line_config.specs.declared.settings.EditMode.{EditMode}
-use Rattle.line_config.specs.declared.settings.EditMode.TheVariants.{Vi}
+use Rattle.line_config.specs.declared.settings.EditMode.{EditMode, TheVariants.Vi}
 use Rattle.line_keys.specs.declared.key.KeyEvent.{KeyEvent}
 use Rattle.line_keys.specs.Keys.{alt, key_of, none}
 use Rattle.line_screen.specs.Input.{AtBad, AtFailure, Chars, Continuation, Next, Over, Stop, after_byte, chars_of, in_char, lead_in, lead_rows, value_with, is_scalar}

@@ -2,8 +2,7 @@
 use Rattle.std.proofs.Common.{◌≡◌, ℕ, append-nil, Bool, true, false, ◌&&◌, List, [], ◌∷◌, inl, inr, refl, sym, ap, subst, IsTrue, Result, Ok, Err, IfErr}
 use Rattle.std.specs.Global.{Global}
 use Rattle.std.specs.Prelude.{IfOk, MatchResult, OnErr, OnOk, ⊤, String, if◌then◌else◌, string_bytes}
-use Rattle.line_config.specs.declared.errors.ReadlineError.{ReadlineError}
-use Rattle.line_config.specs.declared.errors.ReadlineError.TheVariants.{Display, Lines, Memory}
+use Rattle.line_config.specs.declared.errors.ReadlineError.{ReadlineError, TheVariants.Display, TheVariants.Lines, TheVariants.Memory}
 use Rattle.line_config.specs.Sending.{Takes, TakesSome, Sends}
 use Rattle.script.proofs.ScriptLaws.{err_in}
 use Rattle.line_config.proofs.Taking.{takes_none}

@@ -2,8 +2,7 @@
 use Rattle.std.proofs.Common.{◌≡◌, ℕ, ◌+◌, ◌==◌, ◌&&◌, Bool, true, false, if◌then◌else◌, IsTrue, List, [], ◌∷◌, ◌++◌, take, codes, refl, sym, ap, ◌∙◌, subst}
 use Rattle.std.specs.Prelude.{slice_index}
 use Rattle.line_config.specs.declared.device.Last.TheVariants.{End}
-use Rattle.line_config.specs.declared.settings.EditMode.{EditMode}
-use Rattle.line_config.specs.declared.settings.EditMode.TheVariants.{Emacs, Vi}
+use Rattle.line_config.specs.declared.settings.EditMode.{EditMode, TheVariants.Emacs, TheVariants.Vi}
 use Rattle.line_keys.specs.declared.key.KeyCode.TheVariants.{BracketedPasteStart, Char, Esc, Left}
 use Rattle.line_keys.specs.KeyFeeds.{Coming, Pressed, Pasted, CutOff, Ends, End as AtItsEnd, bytes_to_come}
 use Rattle.line_keys.specs.declared.key.KeyEvent.{KeyEvent}

@@ -3,8 +3,7 @@ use Rattle.std.proofs.Common.{Bool, true, false, inl, inr, refl, subst}
 use Rattle.std.specs.Prelude.{if◌then◌else◌}
 use Rattle.line_config.specs.Feed.{Feed}
 use Rattle.line_config.specs.declared.config.Config.{Config}
-use Rattle.line_config.specs.declared.errors.ReadlineError.{ReadlineError}
-use Rattle.line_config.specs.declared.errors.ReadlineError.TheVariants.{HistoryText, Memory, Reader}
+use Rattle.line_config.specs.declared.errors.ReadlineError.{ReadlineError, TheVariants.HistoryText, TheVariants.Memory, TheVariants.Reader}
 use Rattle.keyline.specs.SessionCalls.{LoadRefused, RefusesText}
 use Rattle.keyline.specs.Program.{IsByEnvironment, config_without_colours}
 

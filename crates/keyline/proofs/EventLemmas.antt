@@ -6,14 +6,12 @@ use Rattle.std.proofs.lemmas.Grind.{flat_map-append}
 use Rattle.line_buffer.specs.declared.layout.Layout.{Layout}
 use Rattle.script.specs.Scripts.{Goes as GoesOn}
 use Rattle.line_config.specs.Sending.{Takes as TakesAll, TakesSome}
-use Rattle.line_config.specs.declared.errors.ReadlineError.{ReadlineError}
-use Rattle.line_config.specs.declared.errors.ReadlineError.TheVariants.{Display, Helper, Memory}
+use Rattle.line_config.specs.declared.errors.ReadlineError.{ReadlineError, TheVariants.Display, TheVariants.Helper, TheVariants.Memory}
 use Rattle.line_config.proofs.Taking.{takes_none, takes_then, some_of_more, some_then}
 use Rattle.line_help.specs.History.{Filed, history_with_line, history_with_lines}
 use Rattle.line_keys.specs.KeyFeeds.{InputItem, IsReadFault, Paste, behind, Coming, coming_after_error}
 use Rattle.line_keys.specs.PhraseScripts.{Reads}
-use Rattle.line_editor.specs.RenderCalls.{Call, Canvas, MadeIn, CutCall, CutCalls}
-use Rattle.line_editor.specs.RenderCalls.Call.{Help}
+use Rattle.line_editor.specs.RenderCalls.{Call, Canvas, MadeIn, CutCall, CutCalls, Call.Help}
 use Rattle.line_editor.specs.LineScripts.{CutLineAsk, Keys, LineAsk, LineScript, LineStage, LineState, Obeys, Stopped, effect_at, left_at, line_world, line_stage, played_from, steps_along}
 use Rattle.line_editor.specs.Redraws.{RedrawCalls, calls_of_redraw}
 use Rattle.line_editor.specs.States.{reason_of}

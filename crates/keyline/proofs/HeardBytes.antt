@@ -1,10 +1,8 @@
 -- Bytes after which the source fails read as the first keys and pastes of more bytes.
 use Rattle.std.proofs.Common.{◌≡◌, inl, inr, ℕ, Bool, true, false, ◌||◌, nat_lt, ◌==◌, if◌then◌else◌, List, [], ◌∷◌, ◌++◌, take, Option, Some, None, refl, sym, ap, ◌∙◌, true≢false, eqb-true}
 use Rattle.std.specs.Prelude.{⊤, slice_index, codes, ◌&&◌, ◌+◌}
-use Rattle.line_config.specs.declared.device.Last.{Last}
-use Rattle.line_config.specs.declared.device.Last.TheVariants.{Failed}
-use Rattle.line_config.specs.declared.settings.EditMode.{EditMode}
-use Rattle.line_config.specs.declared.settings.EditMode.TheVariants.{Emacs, Vi}
+use Rattle.line_config.specs.declared.device.Last.{Last, TheVariants.Failed}
+use Rattle.line_config.specs.declared.settings.EditMode.{EditMode, TheVariants.Emacs, TheVariants.Vi}
 use Rattle.line_keys.specs.KeyFeeds.{Coming, Pressed, Pasted, CutOff, Ends as NoMore, Refused}
 use Rattle.line_keys.specs.KeyFeeds.LastItem.{End as EndItem}
 use Rattle.line_keys.specs.Keys.{key_of, none, alt}

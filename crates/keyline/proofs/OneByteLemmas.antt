@@ -12,15 +12,13 @@ use Rattle.line_buffer.specs.declared.layout.Layout.{Layout}
 use Rattle.line_buffer.specs.declared.layout.Position.{Position}
 use Rattle.line_keys.specs.CustomBindings.{Custom}
 use Rattle.line_keys.specs.PhraseScripts.{steps}
-use Rattle.line_keys.specs.declared.command.Cmd.{Cmd}
-use Rattle.line_keys.specs.declared.command.Cmd.TheVariants.{SelfInsert}
+use Rattle.line_keys.specs.declared.command.Cmd.{Cmd, TheVariants.SelfInsert}
 use Rattle.line_editor.specs.RenderCalls.{Marks}
 use Rattle.line_editor.specs.RenderCalls.Call.{Append}
 use Rattle.line_editor.specs.Drawing.{Since, since, ask_anew_effect, shown_in}
 use Rattle.line_keys.specs.Replies.{Reply, fails}
 use Rattle.line_editor.specs.Inserting.{is_bare, may_be_typed, may_be_appended, may_be_put_in, insertion_way, put_redraw, show_inserted_effect, insert_char}
-use Rattle.line_editor.specs.declared.way.Way.{Way}
-use Rattle.line_editor.specs.declared.way.Way.TheVariants.{AtEnd, Alone, Inside, Whole}
+use Rattle.line_editor.specs.declared.way.Way.{Way, TheVariants.AtEnd, TheVariants.Alone, TheVariants.Inside, TheVariants.Whole}
 use Rattle.line_editor.specs.LineScripts.{turn_start, Meets, LineState, line_plan, made_from, meet_script, phrase_script, played_from, steps_along, turn_script, Obeys}
 use Rattle.line_editor.specs.Modal.{Modal, is_at_rest}
 use Rattle.line_editor.specs.NextCommand.{line_phrase}
@@ -29,8 +27,7 @@ use Rattle.line_editor.proofs.ShortCalls.{move_call, char_call, append_call, put
 use Rattle.line_editor.specs.Redraws.Redraw.{Drawn, Moved, Typed, Appended, Taken, Erased, PutIn, TakenOut, DrawnFrom, Bared, ToEnd, Cleared, Rewritten}
 use Rattle.line_editor.specs.Sights.{Sight, sight, Fits}
 use Rattle.line_editor.specs.EditSteps.{calls_of_steps, one}
-use Rattle.line_editor.specs.Values.{shown_marks, Value, Setting, Effect, EditStep, help_steps, hint_reply, no_effect}
-use Rattle.line_editor.specs.Values.EditStep.{Draws, Helped}
+use Rattle.line_editor.specs.Values.{shown_marks, Value, Setting, Effect, EditStep, help_steps, hint_reply, no_effect, EditStep.Draws, EditStep.Helped}
 use Rattle.line_editor.specs.declared.commands.Status.{Status}
 use Rattle.line_editor.proofs.PastLemmas.{plays_past, steps_past, phrase_keeps}
 use Rattle.line_editor.proofs.StopsLemmas.{asked_both}

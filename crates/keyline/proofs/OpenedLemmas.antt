@@ -2,8 +2,7 @@
 use Rattle.std.proofs.Common.{◌≡◌, ℕ, List, Option, ap, refl, ◌∙◌, Bool, [], subst, sym}
 use Rattle.line_config.specs.Feed.{AlwaysTold, Feed, fresh_feed}
 use Rattle.line_config.specs.declared.config.Config.{Config}
-use Rattle.line_config.specs.declared.device.Last.{Last}
-use Rattle.line_config.specs.declared.device.Last.TheVariants.{End}
+use Rattle.line_config.specs.declared.device.Last.{Last, TheVariants.End}
 use Rattle.line_keys.specs.CustomBindings.{Custom, custom_of, Meaning}
 use Rattle.line_screen.specs.ScreenCalls.{Screen, screen_of}
 use Rattle.keyline.specs.Desks.{desk_feed, session_state_of}

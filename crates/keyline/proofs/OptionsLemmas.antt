@@ -5,13 +5,11 @@ use Rattle.clap.specs.Words.{App, HasKind, HasMatchesOf, IsAmong, Text, fault_of
 use Rattle.clap.specs.Faults.{is_simple_and_free}
 use Rattle.clap.specs.declared.error.Error.{Error}
 use Rattle.clap.specs.declared.parser.matches.ArgMatches.{ArgMatches}
-use Rattle.clap.specs.declared.error.kind.ErrorKind.{ErrorKind}
-use Rattle.clap.specs.declared.error.kind.ErrorKind.TheVariants.{DisplayHelp, InvalidValue, OutOfMemory}
+use Rattle.clap.specs.declared.error.kind.ErrorKind.{ErrorKind, TheVariants.DisplayHelp, TheVariants.InvalidValue, TheVariants.OutOfMemory}
 use Rattle.clap.proofs.OnLiterals.{clap_on_literals}
 use Rattle.keyline.specs.Options.{ParsesTo, FailsBy, Says, command_line}
 use Rattle.keyline.specs.declared.options.Options.{Options}
-use Rattle.keyline.specs.declared.options.Parsed.{Parsed}
-use Rattle.keyline.specs.declared.options.Parsed.TheVariants.{Run, Help, Usage, Memory}
+use Rattle.keyline.specs.declared.options.Parsed.{Parsed, TheVariants.Run, TheVariants.Help, TheVariants.Usage, TheVariants.Memory}
 
 -- an error is answered as its kind says
 pub answered : (words : List Text) (kind : ErrorKind) (r : Parsed) → FailsBy words kind → Says kind r → ParsesTo words r

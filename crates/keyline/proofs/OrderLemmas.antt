@@ -11,8 +11,7 @@ use Rattle.keyline.specs.Sessions.{Given, LineGiven, SessionState, for_line, set
 use Rattle.line_buffer.specs.declared.layout.Layout.{Layout}
 use Rattle.line_editor.specs.EditSteps.{calls_of_steps, one}
 use Rattle.line_editor.specs.LineScripts.{Keys, LineAsk, LineState, effect_at, left_at}
-use Rattle.line_editor.specs.Values.{EditStep, Setting}
-use Rattle.line_editor.specs.Values.EditStep.{Draws}
+use Rattle.line_editor.specs.Values.{EditStep, Setting, EditStep.Draws}
 use Rattle.line_keys.specs.PhraseScripts.{Reads}
 use Rattle.line_screen.specs.ScreenCalls.{Screen, ruler_of}
 

@@ -1,11 +1,9 @@
 -- A pasted text as a phrase: it goes in at the cursor, and with Enter it is accepted.
 use Rattle.std.proofs.Common.{◌≡◌, ◌≢◌, ℕ, suc, ◌==◌, Bool, true, false, List, [], ◌∷◌, ◌++◌, Option, None, Some, option_map, Ok, refl, ap, ◌∙◌, eqb-true, not, length, Result, sym, append-nil, arith, subst, codes}
 use Rattle.line_buffer.specs.declared.types.CharSearch.{CharSearch}
-use Rattle.line_config.specs.declared.device.Last.{Last}
-use Rattle.line_config.specs.declared.settings.EditMode.{EditMode}
-use Rattle.line_config.specs.declared.settings.EditMode.TheVariants.{Emacs, Vi}
-use Rattle.line_keys.specs.declared.command.Cmd.{Cmd}
-use Rattle.line_keys.specs.declared.command.Cmd.TheVariants.{Insert, AcceptOrInsertLine, Noop}
+use Rattle.line_config.specs.declared.device.Last.{Last, TheVariants.End}
+use Rattle.line_config.specs.declared.settings.EditMode.{EditMode, TheVariants.Emacs, TheVariants.Vi}
+use Rattle.line_keys.specs.declared.command.Cmd.{Cmd, TheVariants.Insert, TheVariants.AcceptOrInsertLine, TheVariants.Noop}
 use Rattle.line_keys.specs.declared.command.InputMode.{InputMode}
 use Rattle.line_keys.specs.declared.command.InputMode.TheVariants.{Command, Insert as Inserting, Replace as Overwriting}
 use Rattle.line_keys.specs.declared.key.KeyEvent.{KeyEvent}
@@ -40,9 +38,7 @@ use Rattle.line_buffer.specs.Line.{Line}
 use Rattle.line_buffer.specs.declared.types.Anchor.TheVariants.{Before}
 use Rattle.line_buffer.specs.declared.layout.GraphemeClusterMode.TheVariants.{Unicode}
 use Rattle.line_config.specs.Config.{default_config}
-use Rattle.line_config.specs.declared.device.Last.TheVariants.{End}
-use Rattle.line_keys.specs.declared.command.CmdKind.{CmdKind}
-use Rattle.line_keys.specs.declared.command.CmdKind.TheVariants.{ForcedRefresh}
+use Rattle.line_keys.specs.declared.command.CmdKind.{CmdKind, TheVariants.ForcedRefresh}
 use Rattle.line_keys.specs.declared.events.Event.TheVariants.{Any}
 use Rattle.line_keys.specs.declared.key.KeyCode.TheVariants.{Char, Enter}
 use Rattle.line_keys.specs.InputStates.{new_input, phrase_from}
@@ -52,8 +48,7 @@ use Rattle.line_editor.specs.Commands.{in_vi_command, means_of}
 use Rattle.line_editor.specs.Moving.{cursor_moved_if}
 use Rattle.line_editor.specs.Modal.{is_at_rest, modal_first}
 use Rattle.line_editor.specs.Yanking.{behind_yank, yank_text}
-use Rattle.line_editor.specs.declared.commands.Status.{Status}
-use Rattle.line_editor.specs.declared.commands.Status.TheVariants.{Proceed, Submit}
+use Rattle.line_editor.specs.declared.commands.Status.{Status, TheVariants.Proceed, TheVariants.Submit}
 use Rattle.line_editor.proofs.PastLemmas.{begins_modal, first_rests, plays_past}
 use Rattle.line_editor.proofs.ToldLemmas.{follows, joined, joined_on, played_then}
 use Rattle.keyline.specs.Program.{nothing_bound}

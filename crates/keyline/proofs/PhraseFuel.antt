@@ -11,13 +11,12 @@ use Rattle.line_keys.specs.declared.key.KeyEvent.{KeyEvent}
 use Rattle.std.specs.Prelude.{ℤ, option_map}
 use Rattle.std.specs.Option.{option_map_or}
 use Rattle.line_config.specs.declared.errors.ReadlineError.TheVariants.{Handler}
-use Rattle.line_config.specs.declared.settings.EditMode.{EditMode}
+use Rattle.line_config.specs.declared.settings.EditMode.{EditMode, TheVariants.Emacs, TheVariants.Vi}
 use Rattle.line_keys.specs.CustomBindings.{Custom}
 use Rattle.line_keys.specs.Commands.{holds_text, flags_of, anew}
 use Rattle.line_keys.specs.Common.{bound_command, common, common_action, common_done, decision_of, terminal_command, is_paste_start, quote_of_paste, quoted_command, quotes}
 use Rattle.line_keys.specs.Counts.{count_from_key, count_and_key, count_with_key, rest_of_count, rest_of_count_by, rest_of_count_in, how_often, is_plus, prompt_for, prompting, Counted, count_times, typed_count}
-use Rattle.line_keys.specs.declared.keymap.custom.Followed.{Followed}
-use Rattle.line_keys.specs.declared.keymap.custom.Followed.TheVariants.{Bound, Unbound}
+use Rattle.line_keys.specs.declared.keymap.custom.Followed.{Followed, TheVariants.Bound, TheVariants.Unbound}
 use Rattle.line_keys.specs.CustomKeys.{Situation, sequence_or, custom_answer, key_sequence, rest_of_sequence, sequence_upto, in_vain, sequence_answer, situation}
 use Rattle.line_keys.specs.Emacs.{after_first_key, emacs_action, emacs_command, emacs_done, emacs_phrase, second_command, move_to_char}
 use Rattle.line_keys.specs.declared.command.Cmd.{Cmd}
@@ -28,15 +27,13 @@ use Rattle.line_keys.specs.declared.keymap.common.CommonAction.TheVariants as co
 use Rattle.line_keys.specs.declared.keymap.emacs.EmacsAction as emacs_actions
 use Rattle.line_keys.specs.declared.keymap.emacs.EmacsAction.TheVariants as emacses
 use Rattle.line_buffer.specs.declared.types.Movement.TheVariants.{ViCharSearch, WholeLine}
-use Rattle.line_config.specs.declared.settings.EditMode.TheVariants.{Emacs, Vi}
 use Rattle.line_keys.specs.InputStates.{phrase_from}
 use Rattle.line_keys.specs.Vi.{change_part, changes, command_done, command_of, command_table, insert_mode_if, in_mode, insert_done, insert_table, is_new, key_replacement, remember_if, insert_part, char_command, vi_command, vi_counted, vi_insert, with_last}
 use Rattle.line_keys.specs.ViMotions.{motion_done, vi_motion, search_of, search_part, opposite, search_movement, search_of_next_key}
 use Rattle.line_keys.specs.ViTables.{action_of, insert_action, motion_of}
 use Rattle.line_keys.specs.declared.command.InputMode.TheVariants.{Command, Insert}
 use Rattle.line_keys.specs.declared.key.KeyCode.TheVariants.{Char}
-use Rattle.line_keys.specs.declared.keymap.vi.motion.Motion.{Motion}
-use Rattle.line_keys.specs.declared.keymap.vi.motion.Motion.TheVariants.{Go, Seek, Again, Back}
+use Rattle.line_keys.specs.declared.keymap.vi.motion.Motion.{Motion, TheVariants.Go, TheVariants.Seek, TheVariants.Again, TheVariants.Back}
 use Rattle.line_keys.specs.declared.keymap.vi.motion.Search.{Search}
 use Rattle.line_keys.specs.declared.keymap.vi.table.ViAction.{ViAction}
 use Rattle.line_keys.specs.declared.keymap.vi.table.ViAction.TheVariants as action

@@ -4,10 +4,8 @@ use Rattle.std.specs.Prelude.{IsErr, IsOk, None, OnOk, Result, Ok, Err, is_err, 
 use Rattle.line_config.specs.Feed.{AlwaysTold, Feed, fresh_feed}
 use Rattle.line_config.specs.Adapters.{to_come}
 use Rattle.line_config.specs.declared.config.Config.{Config}
-use Rattle.line_config.specs.declared.device.Last.{Last}
-use Rattle.line_config.specs.declared.device.Last.TheVariants.{End}
-use Rattle.line_config.specs.declared.errors.ReadlineError.{ReadlineError}
-use Rattle.line_config.specs.declared.errors.ReadlineError.TheVariants.{Display, Helper, Lines, Memory}
+use Rattle.line_config.specs.declared.device.Last.{Last, TheVariants.End}
+use Rattle.line_config.specs.declared.errors.ReadlineError.{ReadlineError, TheVariants.Display, TheVariants.Helper, TheVariants.Lines, TheVariants.Memory}
 use Rattle.line_keys.specs.KeyFeeds.{Paste}
 use Rattle.line_screen.specs.Reader.{byte_ahead_of}
 use Rattle.std.specs.Option.{option_len}

@@ -3,8 +3,7 @@ use Rattle.std.proofs.Common.{ℕ, zero, suc, ◌<◌, Bool, true, false, List, 
 use Rattle.script.specs.Scripts.{Ends, Asks, then}
 use Rattle.line_editor.specs.LineScripts.{TurnStart, turn_start, Keys, LineAsk, LineScript, script_of_keys, line_script, meet_script, turn_script, line_script_after, turns_script, Begins, Makes, LineAnswer, LineState, answer_at, left_at, played_from}
 use Rattle.line_editor.specs.NextCommand.{with_group_begun}
-use Rattle.line_editor.specs.declared.commands.Status.{Status}
-use Rattle.line_editor.specs.declared.commands.Status.TheVariants.{Proceed, Submit}
+use Rattle.line_editor.specs.declared.commands.Status.{Status, TheVariants.Proceed, TheVariants.Submit}
 use Rattle.line_keys.specs.CustomBindings.{Custom}
 use Rattle.line_keys.specs.KeyFeeds.{Key, InputItem, InputOf, Paste, behind, item_at, Coming, Pressed, Pasted, CutOff, Ends as Ended, Refused, coming_after_error, refusal_of}
 use Rattle.line_keys.specs.InputStates.{phrase_from}
@@ -12,8 +11,7 @@ use Rattle.line_keys.specs.PhraseScripts.{Reads, KeyScript, after, and_then, ste
 use Rattle.line_keys.specs.declared.command.Cmd.{Cmd}
 use Rattle.line_keys.specs.declared.key.KeyEvent.{KeyEvent}
 use Rattle.script.specs.Played.{Played, play_with_first_ask, play_after_answer}
-use Rattle.line_config.specs.declared.errors.ReadlineError.{ReadlineError}
-use Rattle.line_config.specs.declared.errors.ReadlineError.TheVariants.{Eof}
+use Rattle.line_config.specs.declared.errors.ReadlineError.{ReadlineError, TheVariants.Eof}
 use Rattle.line_editor.specs.LineRun.{first_line_state}
 use Rattle.line_editor.specs.Values.{Setting, then_do, memory_effect}
 use Rattle.keyline.specs.Events.{Begins as LineBegins, Course, end_events, events_first, events_of, course_after_line, line_course, line_play_in, session}

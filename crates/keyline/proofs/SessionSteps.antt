@@ -1,7 +1,6 @@
 -- Lines one after the other make a session: a line in front of a session, and the line that ends it.
 use Rattle.std.proofs.Common.{◌≡◌, ℕ, zero, suc, ◌<◌, List, refl, sym, ap, subst, append-nil, IsTrue, Result, Ok, Err, IfErr, OnOk, arith}
-use Rattle.line_config.specs.declared.errors.ReadlineError.{ReadlineError}
-use Rattle.line_config.specs.declared.errors.ReadlineError.TheVariants.{Handler}
+use Rattle.line_config.specs.declared.errors.ReadlineError.{ReadlineError, TheVariants.Handler}
 use Rattle.script.proofs.ScriptLaws.{fault_or, ok_not_err}
 use Rattle.line_keys.specs.CustomBindings.{HandlerFails}
 use Rattle.keyline.specs.Desks.{PassesOn, TakesLine, TakesLines, DeskReason, desk_feed, session_state_of, work_of}

@@ -15,8 +15,7 @@ use Rattle.line_editor.specs.LineRun.{first_line_state, breaks_after}
 use Rattle.line_editor.specs.Sights.{Sight, no_sight, sight, sight_all, sight_drawn, sight_with, FitsAll, Turns, sight_of, info_after}
 use Rattle.line_editor.specs.EditSteps.{calls_of_steps, one}
 use Rattle.line_editor.specs.Values.{EditStep, Setting, Value, shown_marks, Effect}
-use Rattle.line_editor.specs.declared.modal_state.Standing.{Standing}
-use Rattle.line_editor.specs.declared.modal_state.Standing.TheVariants.{Searches}
+use Rattle.line_editor.specs.declared.modal_state.Standing.{Standing, TheVariants.Searches}
 use Rattle.line_editor.specs.Values.EditStep.{Draws as DrawStep}
 use Rattle.line_editor.proofs.LineLeads.{lines_lead, turn_leads}
 use Rattle.line_keys.specs.InputStates.{new_input}
@@ -32,8 +31,7 @@ use Rattle.keyline.specs.Shows.{picture, place_in, view_in, DisplayHolds, LowAll
 use Rattle.keyline.proofs.ShowSteps.{fresh_holds, step}
 use Rattle.line_editor.specs.Commands.{effect}
 use Rattle.line_editor.proofs.CommandsLead.{commands_lead}
-use Rattle.line_keys.specs.declared.command.Cmd.{Cmd}
-use Rattle.line_keys.specs.declared.command.Cmd.TheVariants.{Interrupt}
+use Rattle.line_keys.specs.declared.command.Cmd.{Cmd, TheVariants.Interrupt}
 
 pub all_of_map : {A : Type 0} (f : A → List ℕ) (xs : List A) → concat (map f xs) ≡ flat_map f xs
 all_of_map f [] = refl

@@ -25,8 +25,7 @@ use Rattle.line_editor.specs.Redraws.{RedrawCalls, info_text, fresh, layout_of, 
 use Rattle.line_editor.proofs.ShortCalls.{move_call, char_call, append_call, put_in_short, taken_out_short, write_over_call}
 use Rattle.line_editor.specs.Redraws.Redraw.{Drawn, Moved, Typed, Appended, Taken, Erased, PutIn, TakenOut, DrawnFrom, Bared, ToEnd, Beeped, Cleared, Rewritten}
 use Rattle.line_editor.specs.EditSteps.{one}
-use Rattle.line_editor.specs.Values.{shown_marks, EditStep}
-use Rattle.line_editor.specs.Values.EditStep.{Draws, Helped}
+use Rattle.line_editor.specs.Values.{shown_marks, EditStep, EditStep.Draws, EditStep.Helped}
 use Rattle.line_screen.specs.ScreenCalls.{Screen, bytes_of, ruler_of, styles_of, line_styles, widths}
 use Rattle.line_screen.specs.Colours.{Styles, span_of}
 use Rattle.line_screen.specs.Chain.{View, Good, Inside, LeadsView, empty_view, Types, with_text, with_line_styles, Picture, shown_items, finish_of, cursor_of, above}

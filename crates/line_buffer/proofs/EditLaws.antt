@@ -1,8 +1,7 @@
 -- The laws of the edits.
 use Rattle.std.proofs.Common.{◌≡◌, Bool, true, [], ◌∷◌, ◌++◌, Option, None, Some, refl, sym, ap, ◌∙◌, IsTrue, is_some, option_map, option_to_list, if◌then◌else◌}
 use Rattle.line_buffer.specs.declared.range.TextSpan.{TextSpan}
-use Rattle.line_buffer.specs.declared.types.Movement.{Movement}
-use Rattle.line_buffer.specs.declared.types.Movement.TheVariants.{WholeLine, BeginningOfLine, EndOfLine}
+use Rattle.line_buffer.specs.declared.types.Movement.{Movement, TheVariants.WholeLine, TheVariants.BeginningOfLine, TheVariants.EndOfLine}
 use Rattle.line_buffer.specs.Event.ChangeEvent.{StartKilling, StopKilling}
 use Rattle.line_buffer.specs.Laws.{leaves_rows_whole, deleted_texts, KillsWhatIsCopied}
 use Rattle.line_buffer.specs.Line.{Line}

@@ -4,8 +4,7 @@ use Rattle.std.specs.List.{repeat}
 use Rattle.std.proofs.lemmas.List.{length-append, append-nil, get_or_past}
 use Rattle.std.proofs.lemmas.Bool.Decides.{nat_tests}
 use Rattle.std.proofs.lemmas.Str.{IsCharBoundary-start}
-use Rattle.line_buffer.specs.Event.{ChangeEvent, InsertStr}
-use Rattle.line_buffer.specs.Event.ChangeEvent.{InsertChar}
+use Rattle.line_buffer.specs.Event.{ChangeEvent, InsertStr, ChangeEvent.InsertChar}
 use Rattle.line_buffer.specs.Insertions.{has_room, with_text_at_cursor, no_insertion, insertion_by, insertion_of, insert, Insertion, yank}
 use Rattle.line_buffer.specs.Line.{Line}
 use Rattle.std.specs.Fmt.Cut.{floor_char_boundary}

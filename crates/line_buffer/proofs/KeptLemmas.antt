@@ -3,8 +3,7 @@ use Rattle.std.proofs.Common.{◌≡◌, ◌≤◌, ℕ, List, [], ◌∷◌, �
 use Rattle.line_buffer.specs.declared.range.TextSpan.{TextSpan}
 use Rattle.line_buffer.specs.declared.types.Movement.{Movement}
 use Rattle.line_buffer.specs.Edit.{StopsAt}
-use Rattle.line_buffer.specs.Event.{ChangeEvent, TellsOfChange, deletion, line_after_events}
-use Rattle.line_buffer.specs.Event.ChangeEvent.{StartKilling, StopKilling}
+use Rattle.line_buffer.specs.Event.{ChangeEvent, TellsOfChange, deletion, line_after_events, ChangeEvent.StartKilling, ChangeEvent.StopKilling}
 use Rattle.line_buffer.specs.Insertions.{insert, yank}
 use Rattle.line_buffer.specs.Line.{Line}
 use Rattle.line_buffer.specs.Range.{range_of, goes_by_clusters, deletion_events, kill_events, kill_closing}

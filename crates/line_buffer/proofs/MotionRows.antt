@@ -2,12 +2,9 @@
 use Rattle.std.proofs.Common.{◌≡◌, ℕ, true, List, [], ◌∷◌, Some, None, refl, ap, codes, encode_utf8_all}
 use Rattle.unicode_segmentation.specs.Segments.{with_offsets}
 use Rattle.unicode_segmentation.proofs.Computing.{unicode_segmentation}
-use Rattle.line_buffer.specs.declared.types.At.{At}
-use Rattle.line_buffer.specs.declared.types.CharSearch.{CharSearch}
-use Rattle.line_buffer.specs.declared.types.Word.{Word}
-use Rattle.line_buffer.specs.declared.types.At.TheVariants.{Start, BeforeEnd, AfterEnd}
-use Rattle.line_buffer.specs.declared.types.CharSearch.TheVariants.{Forward, ForwardBefore, Backward, BackwardAfter}
-use Rattle.line_buffer.specs.declared.types.Word.TheVariants.{Big, Emacs, Vi}
+use Rattle.line_buffer.specs.declared.types.At.{At, TheVariants.Start, TheVariants.BeforeEnd, TheVariants.AfterEnd}
+use Rattle.line_buffer.specs.declared.types.CharSearch.{CharSearch, TheVariants.Forward, TheVariants.ForwardBefore, TheVariants.Backward, TheVariants.BackwardAfter}
+use Rattle.line_buffer.specs.declared.types.Word.{Word, TheVariants.Big, TheVariants.Emacs, TheVariants.Vi}
 use Rattle.line_buffer.specs.Clusters.{nth_or_last, place_forward, place_backward}
 use Rattle.line_buffer.specs.Hits.{search_place, chars_placed}
 use Rattle.line_buffer.specs.Line.{Line}

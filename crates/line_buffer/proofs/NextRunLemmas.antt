@@ -13,8 +13,7 @@ use Rattle.line_buffer.specs.Printable.{is_printable}
 use Rattle.line_buffer.specs.Words.{BeginsInRun, clusters_at, kind_of, kinds, is_word_byte, edges_of, edge_between}
 use Rattle.line_buffer.specs.declared.types.At.{At}
 use Rattle.line_buffer.specs.declared.types.Word.{Word}
-use Rattle.line_buffer.specs.declared.words.ClusterKind.{ClusterKind}
-use Rattle.line_buffer.specs.declared.words.ClusterKind.TheVariants.{InWord}
+use Rattle.line_buffer.specs.declared.words.ClusterKind.{ClusterKind, TheVariants.InWord}
 use Rattle.line_buffer.proofs.LetterLemmas.{first_letter}
 use Rattle.line_buffer.proofs.RestLemmas.{graphemes_rest}
 use Rattle.line_buffer.proofs.StopLemmas.{clusters-empty}

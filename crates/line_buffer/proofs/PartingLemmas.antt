@@ -26,8 +26,7 @@ use Rattle.ucd_bidi.specs.declared.JoiningType.TheVariants.{Transparent}
 use Rattle.ucd_bidi.proofs.JoiningGroupLemmas.{joining_group_stepped}
 use Rattle.unicode_width.specs.declared.state.After.{After}
 use Rattle.unicode_width.specs.declared.state.After.TheVariants as after
-use Rattle.unicode_width.specs.declared.state.Change.{Change}
-use Rattle.unicode_width.specs.declared.state.Change.TheVariants.{Same, Less, One, Three}
+use Rattle.unicode_width.specs.declared.state.Change.{Change, TheVariants.Same, TheVariants.Less, TheVariants.One, TheVariants.Three}
 use Rattle.unicode_width.specs.declared.state.State.{State}
 use Rattle.unicode_width.specs.declared.kind.Kind.{Kind}
 use Rattle.unicode_width.specs.declared.kind.Kind.TheVariants as kinds
@@ -36,8 +35,7 @@ use Rattle.unicode_width.specs.Width.{before, plain, single, of_kind, alone, cha
 use Rattle.unicode_width.proofs.Computing.{unicode_width}
 use Rattle.unicode_width.proofs.KindLemmas.{kind_stepped, is_ligature_transparent_stepped}
 use Rattle.unicode_width.proofs.Rules.{is_simple, str_width-append_simple}
-use Rattle.line_buffer.specs.declared.layout.GraphemeClusterMode.{GraphemeClusterMode}
-use Rattle.line_buffer.specs.declared.layout.GraphemeClusterMode.TheVariants.{Unicode, WcWidth, NoZwj}
+use Rattle.line_buffer.specs.declared.layout.GraphemeClusterMode.{GraphemeClusterMode, TheVariants.Unicode, TheVariants.WcWidth, TheVariants.NoZwj}
 use Rattle.line_buffer.specs.Width.{looks_ahead, is_solid, takes_marks, is_bare, parts, is_flag_letter, char_columns_of, columns_of}
 use Rattle.line_buffer.proofs.ListedRanges.{apart, implied}
 

@@ -4,8 +4,7 @@ use Rattle.std.specs.List.{replace_range, insert_slice, repeat}
 use Rattle.std.proofs.lemmas.List.{append-nil, drop_all}
 use Rattle.std.proofs.lemmas.List.Edits.{length-between}
 use Rattle.line_buffer.specs.declared.range.TextSpan.{TextSpan}
-use Rattle.line_buffer.specs.declared.types.Direction.{Direction}
-use Rattle.line_buffer.specs.declared.types.Direction.TheVariants.{Forward}
+use Rattle.line_buffer.specs.declared.types.Direction.{Direction, TheVariants.Forward}
 use Rattle.line_buffer.specs.declared.types.Movement.{Movement}
 use Rattle.line_buffer.specs.Event.{ChangeEvent, deletion, replacement, text_after_event, text_after_events, line_after_event, line_after_events, InsertStr}
 use Rattle.line_buffer.specs.Event.ChangeEvent.{StartKilling, StopKilling}

@@ -9,10 +9,8 @@ use Rattle.std.proofs.lemmas.Str.{IsCharBoundary-start, IsCharBoundary-end}
 use Rattle.unicode_segmentation.proofs.Computing.{unicode_segmentation}
 use Rattle.line_buffer.specs.Clusters.{clusters, nth_or_last}
 use Rattle.line_buffer.specs.Words.{kinds, kind_of, edges_of, edge_between, text_start, text_end, inner_stops, last_stop, stops_back, stops_forward}
-use Rattle.line_buffer.specs.declared.types.At.{At}
-use Rattle.line_buffer.specs.declared.types.At.TheVariants.{Start, BeforeEnd, AfterEnd}
-use Rattle.line_buffer.specs.declared.types.Word.{Word}
-use Rattle.line_buffer.specs.declared.types.Word.TheVariants.{Big, Emacs, Vi}
+use Rattle.line_buffer.specs.declared.types.At.{At, TheVariants.Start, TheVariants.BeforeEnd, TheVariants.AfterEnd}
+use Rattle.line_buffer.specs.declared.types.Word.{Word, TheVariants.Big, TheVariants.Emacs, TheVariants.Vi}
 use Rattle.line_buffer.specs.declared.words.ClusterKind.{ClusterKind}
 use Rattle.line_buffer.proofs.ChainLemmas.{All-last_or, All-reverse, last_or-append}
 use Rattle.line_buffer.proofs.PartLemmas.{All-IsPartAt}

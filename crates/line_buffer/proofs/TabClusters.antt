@@ -3,8 +3,7 @@ use Rattle.std.proofs.Common.{◌≡◌, ℕ, zero, suc, ◌+◌, ◌<◌, Bool,
 use Rattle.std.proofs.lemmas.List.{append-nil, map-append}
 use Rattle.std.proofs.lemmas.Str.{IsUtf8-append, IsUtf8-from_ascii, chars-append, chars_past_char, encode_ascii}
 use Rattle.ucd_breaks.specs.GraphemeClusterBreak.{grapheme_cluster_break}
-use Rattle.ucd_breaks.specs.declared.GraphemeClusterBreak.{GraphemeClusterBreak}
-use Rattle.ucd_breaks.specs.declared.GraphemeClusterBreak.TheVariants.{Control, Cr}
+use Rattle.ucd_breaks.specs.declared.GraphemeClusterBreak.{GraphemeClusterBreak, TheVariants.Control, TheVariants.Cr}
 use Rattle.unicode_segmentation.specs.Grapheme.{break_by_pair, joins_conjunct, joins_emoji, joins_flag, is_grapheme_break, graphemes}
 use Rattle.unicode_segmentation.specs.Segments.{cut, segments, prepend, with_offsets}
 use Rattle.unicode_segmentation.proofs.Computing.{unicode_segmentation}

@@ -11,8 +11,7 @@ use Rattle.unicode_segmentation.specs.Grapheme.{graphemes, is_grapheme_break}
 use Rattle.unicode_segmentation.specs.Segments.{with_offsets}
 use Rattle.unicode_segmentation.proofs.SegmentsLemmas.{concat-segments}
 use Rattle.unicode_width.proofs.Computing.{unicode_width}
-use Rattle.line_buffer.specs.declared.layout.GraphemeClusterMode.{GraphemeClusterMode}
-use Rattle.line_buffer.specs.declared.layout.GraphemeClusterMode.TheVariants.{Unicode, WcWidth, NoZwj}
+use Rattle.line_buffer.specs.declared.layout.GraphemeClusterMode.{GraphemeClusterMode, TheVariants.Unicode, TheVariants.WcWidth, TheVariants.NoZwj}
 use Rattle.line_buffer.specs.declared.layout.TabStops.{TabStops}
 use Rattle.line_buffer.specs.Clusters.{clusters, cluster_ends}
 use Rattle.line_buffer.specs.Columns.{place_at_column}

@@ -15,12 +15,9 @@ use Rattle.unicode_segmentation.proofs.SegmentsLemmas.{concat-segments, nil_from
 use Rattle.line_buffer.specs.Clusters.{clusters}
 use Rattle.line_buffer.specs.Printable.{is_printable}
 use Rattle.line_buffer.specs.Words.{EndsInRun, kind_of, kinds, is_word_byte, edges_of, edge_between}
-use Rattle.line_buffer.specs.declared.types.At.{At}
-use Rattle.line_buffer.specs.declared.types.At.TheVariants.{Start, BeforeEnd, AfterEnd}
-use Rattle.line_buffer.specs.declared.types.Word.{Word}
-use Rattle.line_buffer.specs.declared.types.Word.TheVariants.{Big, Emacs, Vi}
-use Rattle.line_buffer.specs.declared.words.ClusterKind.{ClusterKind}
-use Rattle.line_buffer.specs.declared.words.ClusterKind.TheVariants.{Blank, InWord, Other}
+use Rattle.line_buffer.specs.declared.types.At.{At, TheVariants.Start, TheVariants.BeforeEnd, TheVariants.AfterEnd}
+use Rattle.line_buffer.specs.declared.types.Word.{Word, TheVariants.Big, TheVariants.Emacs, TheVariants.Vi}
+use Rattle.line_buffer.specs.declared.words.ClusterKind.{ClusterKind, TheVariants.Blank, TheVariants.InWord, TheVariants.Other}
 use Rattle.line_buffer.proofs.FrontLemmas.{clusters_front, ends_or_not}
 use Rattle.line_buffer.proofs.JoinLemmas.{clusters-letters, printable_ascii}
 use Rattle.line_buffer.proofs.LetterLemmas.{printable_scalar}

@@ -2,8 +2,7 @@
 use Rattle.std.proofs.Common.{◌≡◌, ℕ, ◌+◌, ◌-◌, ◌^◌, ◌≤◌, Bool, List, [], ◌++◌, length, take, drop, Option, Some, None, IsTrue, append_assoc, take-append-drop, ◌∙◌, refl, ap, sym, arith}
 use Rattle.std.specs.Io.KnownBytes.{Consumes, IsAtEnd}
 use Rattle.std.proofs.lemmas.List.{length-take-le, length-drop}
-use Rattle.line_config.specs.declared.device.Last.{Last}
-use Rattle.line_config.specs.declared.device.Last.TheVariants.{End}
+use Rattle.line_config.specs.declared.device.Last.{Last, TheVariants.End}
 use Rattle.line_config.specs.Adapters.{feed_of, to_come}
 use Rattle.line_config.specs.Feed.{Fills, GivesBytes}
 use Rattle.line_config.specs.Foretold.{Foretells, HeldBefore}

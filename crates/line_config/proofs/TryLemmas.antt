@@ -3,8 +3,7 @@ use Rattle.std.proofs.Common.{◌≡◌, ℕ, zero, suc, ◌+◌, ◌-◌, ◌^�
 use Rattle.std.specs.Prelude.{⊤, OnOk, OnErr}
 use Rattle.std.specs.IoError.{error_kind}
 use Rattle.std.specs.declared.io.Error.{Error}
-use Rattle.std.specs.declared.io.ErrorKind.{ErrorKind}
-use Rattle.std.specs.declared.io.ErrorKind.TheVariants.{Interrupted}
+use Rattle.std.specs.declared.io.ErrorKind.{ErrorKind, TheVariants.Interrupted}
 use Rattle.line_config.specs.DeviceCalls.{Answers, DeviceCall, Moves, Flushes, EndsWithCall, IsWriteFailure, IsFlush, Since, Tries, again, flush_interrupted, flushes, move_interrupted, bytes_moved, moves}
 
 pub again_none : (call : DeviceCall) (before : List DeviceCall) → before ≡ again 0 call before

@@ -22,8 +22,7 @@ use Rattle.line_editor.specs.LineScripts.{LineAsk, LineAnswer, LineScript, Makes
 use Rattle.line_editor.specs.Modal.{Modal}
 use Rattle.line_editor.specs.States.{value_of, Reason, Stays, Does, Cause, Takes, stage_of, world_of}
 use Rattle.line_editor.specs.Values.{Value, Transition, memory_effect, then_do}
-use Rattle.line_editor.specs.declared.commands.Status.{Status}
-use Rattle.line_editor.specs.declared.commands.Status.TheVariants.{Proceed, Submit}
+use Rattle.line_editor.specs.declared.commands.Status.{Status, TheVariants.Proceed, TheVariants.Submit}
 use Rattle.line_editor.specs.declared.renderer as renderers
 use Rattle.line_editor.specs.declared.state.State.{State}
 use Rattle.line_editor.proofs.CommandedLemmas.{edit_cause}

@@ -14,8 +14,7 @@ use Rattle.line_keys.specs.CustomBindings.{Custom}
 use Rattle.line_keys.specs.KeyFeeds.{KeyFeed, Coming}
 use Rattle.line_keys.specs.InputStates.{Follows, Because, Happens, stage as key_stage}
 use Rattle.line_keys.specs.PhraseScripts.{Input, steps, is_emacs}
-use Rattle.line_keys.specs.declared.command.Cmd.{Cmd}
-use Rattle.line_keys.specs.declared.command.Cmd.TheVariants.{EndOfFile, AcceptOrInsertLine}
+use Rattle.line_keys.specs.declared.command.Cmd.{Cmd, TheVariants.EndOfFile, TheVariants.AcceptOrInsertLine}
 use Rattle.line_record.specs.Ring.{Ring}
 use Rattle.line_editor.specs.Accepting.{accepts, verdict}
 use Rattle.line_editor.specs.Drawing.{shown_in}
@@ -26,8 +25,7 @@ use Rattle.line_editor.specs.ModalCommands.{meeting, meeting_effect}
 use Rattle.line_editor.specs.Modal.{Modal}
 use Rattle.line_editor.specs.States.{value_of, setting_of, display_of, Stays, Reason, Executes, Meets, Cause, Takes, stage_of, world_of}
 use Rattle.line_editor.specs.Values.{Value, Setting}
-use Rattle.line_editor.specs.declared.commands.Status.{Status}
-use Rattle.line_editor.specs.declared.commands.Status.TheVariants.{Proceed, Submit}
+use Rattle.line_editor.specs.declared.commands.Status.{Status, TheVariants.Proceed, TheVariants.Submit}
 use Rattle.line_editor.specs.declared.renderer as renderers
 use Rattle.line_editor.specs.declared.state.State.{State}
 use Rattle.line_editor.proofs.DoesLemmas.{is_err, setting_stays, stays_same, stays_both}

@@ -9,11 +9,9 @@ use Rattle.line_buffer.specs.LetterCase.{word_to_edit, recase}
 use Rattle.line_buffer.specs.Line.{Line, with_cursor_at}
 use Rattle.line_buffer.specs.Range.{copied_range}
 use Rattle.line_buffer.specs.Transpositions.{transposes_words, transpose_words as exchanged_in, swap as swapped_in, words_around, before_transposed}
-use Rattle.line_buffer.specs.declared.types.Anchor.{Anchor}
-use Rattle.line_buffer.specs.declared.types.Anchor.TheVariants.{After, Before}
+use Rattle.line_buffer.specs.declared.types.Anchor.{Anchor, TheVariants.After, TheVariants.Before}
 use Rattle.line_buffer.specs.declared.types.Movement.{Movement}
-use Rattle.line_buffer.specs.declared.types.WordAction.{WordAction}
-use Rattle.line_buffer.specs.declared.types.WordAction.TheVariants.{Capitalize, Lowercase, Uppercase}
+use Rattle.line_buffer.specs.declared.types.WordAction.{WordAction, TheVariants.Capitalize, TheVariants.Lowercase, TheVariants.Uppercase}
 use Rattle.line_edits.specs.Edits.{yank_steps, pop_group, update_steps, update_group, overwrite_steps, replace_group, replace_group_if_any, indent_steps, transpose_words_group, word_group, after_undo, by}
 use Rattle.line_edits.proofs.StepLemmas.{overwrite_steps_to}
 use Rattle.line_edits.specs.WriteSteps.{WriteSteps, effect_of_steps, with_answer, no_steps, Written, group_opened, group_closed}
@@ -21,14 +19,11 @@ use Rattle.line_help.specs.Hints.{Hinted}
 use Rattle.line_keys.specs.Replies.{Reply}
 use Rattle.line_help.specs.Search.{Hit, entry_at}
 use Rattle.line_help.specs.Validation.{is_valid, has_message}
-use Rattle.line_help.specs.declared.history.search.SearchDirection.{SearchDirection}
-use Rattle.line_help.specs.declared.history.search.SearchDirection.TheVariants.{Forward, Reverse}
-use Rattle.line_help.specs.declared.helpers.validate.ValidationResult.{ValidationResult}
-use Rattle.line_help.specs.declared.helpers.validate.ValidationResult.TheVariants.{Incomplete, Invalid, Valid}
+use Rattle.line_help.specs.declared.history.search.SearchDirection.{SearchDirection, TheVariants.Forward, TheVariants.Reverse}
+use Rattle.line_help.specs.declared.helpers.validate.ValidationResult.{ValidationResult, TheVariants.Incomplete, TheVariants.Invalid, TheVariants.Valid}
 use Rattle.line_keys.specs.Refreshing.Ask.{Line as LineAsked, Message, Prompted, DoingInsert, DoneInserting}
 use Rattle.line_keys.specs.declared.command.Cmd.TheVariants.{AcceptLine, BeginningOfHistory, CapitalizeWord, ClearScreen, Complete, CompleteHint, Dedent, DowncaseWord, EndOfFile, EndOfHistory, HistorySearchBackward, HistorySearchForward, Indent, Insert, Interrupt, Kill, Move, NextHistory, Repaint, Overwrite, PreviousHistory, ReplaceChar, Replace, SelfInsert, TransposeChars, TransposeWords, Undo, UpcaseWord, ViYankTo, Yank, YankPop, LineUpOrPreviousHistory, LineDownOrNextHistory, Newline, AcceptOrInsertLine}
-use Rattle.line_keys.specs.declared.command.CmdKind.{CmdKind}
-use Rattle.line_keys.specs.declared.command.CmdKind.TheVariants.{ForcedRefresh, Other}
+use Rattle.line_keys.specs.declared.command.CmdKind.{CmdKind, TheVariants.ForcedRefresh, TheVariants.Other}
 use Rattle.line_record.specs.Held.{has_step, closes}
 use Rattle.line_record.specs.Ring.{yank_exchange}
 use Rattle.line_editor.specs.Accepting.{bare, verdict, verdict_told, verdict_effect, group_and_verdict_effect, validate, newline, accept, accepts, newline_if, accept_or_insert}

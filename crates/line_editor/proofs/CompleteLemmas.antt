@@ -4,8 +4,7 @@ use Rattle.std.proofs.Common.{◌≡◌, ◌⊎◌, inl, inr, ℕ, true, List, m
 use Rattle.std.proofs.lemmas.Simd.{map-map}
 use Rattle.line_buffer.specs.Line.{Line}
 use Rattle.line_buffer.specs.Event.{replacement}
-use Rattle.line_config.specs.declared.errors.ReadlineError.{ReadlineError}
-use Rattle.line_config.specs.declared.errors.ReadlineError.TheVariants.{Memory}
+use Rattle.line_config.specs.declared.errors.ReadlineError.{ReadlineError, TheVariants.Memory}
 use Rattle.line_config.specs.declared.errors.HookFault.{HookFault}
 use Rattle.line_config.specs.declared.errors.HookFault.TheVariants.{Memory as HookMemory}
 use Rattle.line_edits.specs.WriteSteps.{Written, Writes, group_opened, line_and_record, line_and_record_in}

@@ -6,8 +6,7 @@ use Rattle.line_config.specs.declared.config.Config.{Config}
 use Rattle.line_buffer.specs.Cells.{origin}
 use Rattle.line_buffer.specs.declared.types.Movement.{Movement}
 use Rattle.std.specs.List.{FoldsTo}
-use Rattle.line_config.specs.declared.errors.ReadlineError.{ReadlineError}
-use Rattle.line_config.specs.declared.errors.ReadlineError.TheVariants.{Display}
+use Rattle.line_config.specs.declared.errors.ReadlineError.{ReadlineError, TheVariants.Display}
 use Rattle.line_help.specs.declared.completion as completions
 use Rattle.line_help.specs.declared.helpers.hint as hints
 use Rattle.line_help.specs.declared.helpers.highlight as highlights

@@ -7,8 +7,7 @@ use Rattle.std.proofs.lemmas.Bool.{and_parts, le-ltb}
 use Rattle.line_buffer.specs.Cells.{origin, same_cell}
 use Rattle.line_buffer.specs.declared.layout.Layout.{Layout}
 use Rattle.line_buffer.specs.declared.layout.Position.{Position}
-use Rattle.line_config.specs.declared.errors.ReadlineError.{ReadlineError}
-use Rattle.line_config.specs.declared.errors.ReadlineError.TheVariants.{Display}
+use Rattle.line_config.specs.declared.errors.ReadlineError.{ReadlineError, TheVariants.Display}
 use Rattle.line_help.specs.declared.completion as completions
 use Rattle.line_help.specs.declared.helpers.hint as hints
 use Rattle.line_help.specs.declared.helpers.highlight as highlights
@@ -27,8 +26,7 @@ use Rattle.line_editor.specs.EditSteps.{Surface}
 use Rattle.line_editor.specs.Values.{Setting, Value, Transition, draw_effect, shown_hint, shown_marks}
 use Rattle.line_editor.specs.declared.renderer as renderers
 use Rattle.line_editor.specs.declared.state.State.{State}
-use Rattle.line_editor.specs.declared.way.Way.{Way}
-use Rattle.line_editor.specs.declared.way.Way.TheVariants.{Whole}
+use Rattle.line_editor.specs.declared.way.Way.{Way, TheVariants.Whole}
 use Rattle.line_editor.proofs.DoesLemmas.{does_refused, if_refused, is_err}
 use Rattle.line_editor.proofs.StopsLemmas.{broken_refused, stops_drawing, stops_drawn_as}
 

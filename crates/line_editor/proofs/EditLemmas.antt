@@ -7,8 +7,7 @@ use Rattle.line_buffer.specs.Line.{Line}
 use Rattle.line_buffer.specs.Range.{range_of}
 use Rattle.line_buffer.specs.Transpositions.{transposes_chars, transposes_words}
 use Rattle.line_buffer.specs.declared.types.Movement.{Movement}
-use Rattle.line_config.specs.declared.errors.ReadlineError.{ReadlineError}
-use Rattle.line_config.specs.declared.errors.ReadlineError.TheVariants.{Memory}
+use Rattle.line_config.specs.declared.errors.ReadlineError.{ReadlineError, TheVariants.Memory}
 use Rattle.line_edits.specs.Edits.{transpose_chars_group, transpose_words_group, char_steps, kill_steps, text_steps, pop_group, replace_group, replace_group_if_any, overwrite_steps, by}
 use Rattle.line_edits.proofs.StepLemmas.{overwrite_steps_to}
 use Rattle.line_edits.specs.WriteSteps.{WriteSteps, with_answer, no_steps, CutAlong, Edits as EditsRecorded, Written, line_and_record_in}
@@ -32,8 +31,7 @@ use Rattle.line_editor.specs.declared.renderer as renderers
 use Rattle.line_editor.specs.declared.state.State.{State}
 use Rattle.line_editor.proofs.DoesLemmas.{does_as, does_both, does_refused, edit_made, is_err, stays_same}
 use Rattle.line_editor.proofs.StopsLemmas.{stops_editing}
-use Rattle.line_editor.specs.declared.way.Way.{Way}
-use Rattle.line_editor.specs.declared.way.Way.TheVariants.{AtEnd, Inside}
+use Rattle.line_editor.specs.declared.way.Way.{Way, TheVariants.AtEnd, TheVariants.Inside}
 use Rattle.line_buffer.specs.Printable.{at_plain_end}
 use Rattle.std.proofs.lemmas.Bool.Decides.{nat_tests}
 use Rattle.std.proofs.Common.{arith, ◌&&◌, nat_lt}

@@ -2,8 +2,7 @@
 use Rattle.std.proofs.Common.{◌≡◌, ℕ, ◌==◌, ◌||◌, Bool, true, false, List, [], ◌∷◌, ◌++◌, length, drop, Option, Some, None, is_some, slice_get, ◌&&◌, refl, sym, ap, ◌∙◌, subst, arith, if◌then◌else◌}
 use Rattle.std.proofs.lemmas.Bool.Decides.{nat_tests}
 use Rattle.std.specs.Prelude.{◌≢◌, slice_range, option_and_then, fold, All}
-use Rattle.line_buffer.specs.Event.{ChangeEvent, text_after_event}
-use Rattle.line_buffer.specs.Event.ChangeEvent.{Delete, InsertStr, Replace}
+use Rattle.line_buffer.specs.Event.{ChangeEvent, text_after_event, ChangeEvent.Delete, ChangeEvent.InsertStr, ChangeEvent.Replace}
 use Rattle.line_buffer.specs.Insertions.{text_that_fits}
 use Rattle.line_buffer.specs.Line.{Line}
 use Rattle.line_buffer.specs.declared.types.Direction.TheVariants.{Forward}
@@ -13,11 +12,9 @@ use Rattle.line_help.specs.Search.{Hit, TermAt}
 use Rattle.line_help.specs.declared.history.search.SearchDirection.{SearchDirection}
 use Rattle.line_help.proofs.FoundLemmas.{nearest_is_found}
 use Rattle.line_keys.specs.declared.command.Cmd.TheVariants.{Complete, Abort}
-use Rattle.line_record.specs.Change.{Change, undo_place}
-use Rattle.line_record.specs.Change.Change.{Inserted, Replaced}
+use Rattle.line_record.specs.Change.{Change, undo_place, Change.Inserted, Change.Replaced}
 use Rattle.line_record.specs.RecordCourse.{record_after_events}
-use Rattle.line_record.specs.Held.{HeldItem, change_of, record_after_event, has_mark, closes, group_with_change, record_after_close, line_back}
-use Rattle.line_record.specs.Held.HeldItem.{Opened, Stepped}
+use Rattle.line_record.specs.Held.{HeldItem, change_of, record_after_event, has_mark, closes, group_with_change, record_after_close, line_back, HeldItem.Opened, HeldItem.Stepped}
 use Rattle.line_record.proofs.GroupLaws.{unchanged}
 use Rattle.line_record.proofs.RecordLaws.{no_mark}
 use Rattle.line_editor.specs.Candidates.{cycle_begun, cycle_first, candidate_at, turn_effect, cycle_at, cycle_back, cycle_effect, modal_after_ask, cycle}

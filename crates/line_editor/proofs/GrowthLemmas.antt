@@ -12,8 +12,7 @@ use Rattle.line_buffer.specs.Transpositions.{transposes_chars, transpose_chars a
 use Rattle.line_buffer.specs.declared.range.TextSpan.{TextSpan}
 use Rattle.line_buffer.specs.declared.types.Movement.{Movement}
 use Rattle.line_buffer.specs.declared.types.WordAction.{WordAction}
-use Rattle.line_record.specs.Held.{HeldItem, line_back, line_before_item}
-use Rattle.line_record.specs.Held.HeldItem.{Opened, Stepped}
+use Rattle.line_record.specs.Held.{HeldItem, line_back, line_before_item, HeldItem.Opened, HeldItem.Stepped}
 use Rattle.line_edits.specs.Edits.{by}
 use Rattle.line_edits.proofs.StepLemmas.{overwrite_steps_to}
 use Rattle.line_edits.specs.WriteSteps.{Written}

@@ -3,8 +3,7 @@ use Rattle.std.proofs.Common.{◌≡◌, ◌⊎◌, inl, inr, ℕ, Bool, true, f
 use Rattle.std.specs.Prelude.{Option, Some, None, is_some, option_map, Result, Ok, Err, IsErrAnd, IsTrue}
 use Rattle.std.specs.List.{FoldsTo}
 use Rattle.line_buffer.specs.Line.{Line}
-use Rattle.line_config.specs.declared.errors.ReadlineError.{ReadlineError}
-use Rattle.line_config.specs.declared.errors.ReadlineError.TheVariants.{Helper, Memory}
+use Rattle.line_config.specs.declared.errors.ReadlineError.{ReadlineError, TheVariants.Helper, TheVariants.Memory}
 use Rattle.line_edits.specs.WriteSteps.{group_opened}
 use Rattle.line_config.specs.declared.errors.HookFault.{HookFault}
 use Rattle.line_config.specs.declared.errors.HookFault.TheVariants.{Failed as HookFailed, Memory as HookMemory}
@@ -22,8 +21,7 @@ use Rattle.line_editor.specs.Drawing.{Since, draw_effect_since, hint_asked, ask_
 use Rattle.line_editor.specs.Inserting.{way_if_bare, put_redraw, show_inserted_effect}
 use Rattle.line_editor.specs.Killing.{taken_redraw, show_killed_effect}
 use Rattle.line_editor.specs.EditSteps.{calls_of_steps}
-use Rattle.line_editor.specs.declared.way.Way.{Way}
-use Rattle.line_editor.specs.declared.way.Way.TheVariants.{Alone, Back, Whole}
+use Rattle.line_editor.specs.declared.way.Way.{Way, TheVariants.Alone, TheVariants.Back, TheVariants.Whole}
 use Rattle.line_editor.specs.Redraws.Redraw.{Rewritten}
 use Rattle.line_editor.specs.Transforms.{has_letters, show_rewritten_effect, refresh_over_effect}
 use Rattle.line_editor.specs.States.{hooks_of, value_of, setting_of, error_of, reason_of, surface_of, Stays, Does}

@@ -9,8 +9,7 @@ use Rattle.unicode_segmentation.proofs.TextLemmas.{encode_utf8_nonempty}
 use Rattle.std.specs.Str.{is_utf8}
 use Rattle.line_buffer.specs.Clusters.{place_forward, place_backward}
 use Rattle.line_buffer.specs.Columns.{line_up, line_down}
-use Rattle.line_buffer.specs.Event.{ChangeEvent}
-use Rattle.line_buffer.specs.Event.ChangeEvent.{InsertChar}
+use Rattle.line_buffer.specs.Event.{ChangeEvent, ChangeEvent.InsertChar}
 use Rattle.line_buffer.specs.Hits.{search_place}
 use Rattle.line_buffer.specs.Insertions.{Insertion, insertion_by, insertion_of, no_insertion, with_text_at_cursor, insert as insertion}
 use Rattle.line_buffer.specs.Line.{Line, with_cursor_at, without_range}
@@ -27,8 +26,7 @@ use Rattle.line_edits.specs.Edits.{by, char_steps, text_steps, kill_steps}
 use Rattle.line_edits.specs.WriteSteps.{with_answer, WriteSteps}
 use Rattle.line_help.specs.History.{begins_with_space}
 use Rattle.line_keys.specs.Replies.{Reply}
-use Rattle.line_keys.specs.declared.command.CmdKind.{CmdKind}
-use Rattle.line_keys.specs.declared.command.CmdKind.TheVariants.{MoveCursor}
+use Rattle.line_keys.specs.declared.command.CmdKind.{CmdKind, TheVariants.MoveCursor}
 use Rattle.line_record.specs.Held.{HeldItem}
 use Rattle.line_editor.specs.Characters.{stands_apart, begins_apart, begins_apart_at}
 use Rattle.line_editor.specs.Drawing.{Since, redraw_of, line_spans, kept_upto, since, redraw_since, draw_effect_since, ask_anew_effect, refresh_effect, refresh_effect_since, effect_if, message_effect, cursor_moved, beep_effect, clear_and_draw_effect}

@@ -9,8 +9,7 @@ use Rattle.line_keys.specs.InputStates.{phrase}
 use Rattle.line_keys.specs.PhraseScripts.{Answer, KeyScript, steps, answer_part, show_then, Needs, Shows, Reads, Becomes, Refuses, and_then, own_by, Settles}
 use Rattle.line_keys.specs.Refreshing.{Ask}
 use Rattle.line_keys.specs.Refreshing.Ask.{Line, Message, Prompted, DoingInsert, DoneInserting}
-use Rattle.line_keys.specs.declared.command.Cmd.{Cmd}
-use Rattle.line_keys.specs.declared.command.Cmd.TheVariants.{Interrupt, Unknown}
+use Rattle.line_keys.specs.declared.command.Cmd.{Cmd, TheVariants.Interrupt, TheVariants.Unknown}
 use Rattle.line_keys.proofs.Settling.{phrase_settles, then_settles}
 use Rattle.line_editor.specs.Accepting.{submit_effect}
 use Rattle.line_editor.specs.Drawing.{shown_in, ask_effect, refresh_effect}
@@ -22,8 +21,7 @@ use Rattle.line_editor.specs.ModalCommands.{meeting, modal_seen}
 use Rattle.line_editor.specs.Modal.{Modal, Meeting, modal_first}
 use Rattle.line_editor.specs.Sights.{Sight, no_sight, sight_with, sight_of, sight, sight_all, FitsAll, info_after}
 use Rattle.line_editor.specs.Values.{Value, Setting, EditStep, Effect, first_value, shown_marks, memory_effect, then_do}
-use Rattle.line_editor.specs.declared.commands.Status.{Status}
-use Rattle.line_editor.specs.declared.commands.Status.TheVariants.{Proceed, Submit}
+use Rattle.line_editor.specs.declared.commands.Status.{Status, TheVariants.Proceed, TheVariants.Submit}
 use Rattle.line_editor.proofs.CommandsLead.{asks_lead, commands_lead, submitting_leads}
 use Rattle.line_editor.proofs.ToldLemmas.{PlayedOf, played_each, joined_on, follows, played_then}
 use Rattle.line_editor.proofs.LeadLemmas.{fits_both, sight_both, info_both}

@@ -8,8 +8,7 @@ use Rattle.line_help.specs.declared.helpers.hint as hints
 use Rattle.line_help.specs.declared.helpers.highlight as highlights
 use Rattle.line_help.specs.declared.helpers.validate as verdicts
 use Rattle.line_help.specs.declared.history as histories
-use Rattle.line_keys.specs.declared.command.CmdKind.{CmdKind}
-use Rattle.line_keys.specs.declared.command.CmdKind.TheVariants.{ForcedRefresh}
+use Rattle.line_keys.specs.declared.command.CmdKind.{CmdKind, TheVariants.ForcedRefresh}
 use Rattle.line_buffer.specs.Line.{Line, with_cursor_at}
 use Rattle.line_record.specs.Items.{record_on}
 use Rattle.line_editor.specs.Accepting.{bare}

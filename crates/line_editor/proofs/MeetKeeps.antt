@@ -9,10 +9,8 @@ use Rattle.line_config.specs.declared.settings.CompletionType.TheVariants as com
 use Rattle.line_edits.specs.Edits.{update_group}
 use Rattle.line_help.specs.Completion.{Offered, Completion, unless_empty}
 use Rattle.line_help.specs.Search.{Hit}
-use Rattle.line_help.specs.declared.history.search.SearchDirection.{SearchDirection}
-use Rattle.line_help.specs.declared.history.search.SearchDirection.TheVariants.{Forward, Reverse}
-use Rattle.line_keys.specs.declared.command.Cmd.{Cmd}
-use Rattle.line_keys.specs.declared.command.Cmd.TheVariants.{EndOfHistory, HistorySearchBackward, HistorySearchForward}
+use Rattle.line_help.specs.declared.history.search.SearchDirection.{SearchDirection, TheVariants.Forward, TheVariants.Reverse}
+use Rattle.line_keys.specs.declared.command.Cmd.{Cmd, TheVariants.EndOfHistory, TheVariants.HistorySearchBackward, TheVariants.HistorySearchForward}
 use Rattle.line_record.specs.Held.{HeldItem}
 use Rattle.line_editor.specs.Candidates.{only_text, candidate_at, several, is_ambiguous, modal_after_offer, cycle_at, cycle_back, cycle_effect, modal_after_ask, offer_effect, list_shown, only_put}
 use Rattle.line_editor.specs.Completing.{begins_word, common_text_among, common_text, word_updated, complete_effect, candidates_given, candidates_asked, word_completed}

@@ -6,12 +6,10 @@ use Rattle.line_config.specs.declared.settings.CompletionType.{CompletionType}
 use Rattle.line_config.specs.declared.settings.CompletionType.TheVariants as completion_type
 use Rattle.line_help.specs.Completion.{Completion}
 use Rattle.line_help.specs.Search.{Hit}
-use Rattle.line_help.specs.declared.history.search.SearchDirection.{SearchDirection}
-use Rattle.line_help.specs.declared.history.search.SearchDirection.TheVariants.{Forward, Reverse}
+use Rattle.line_help.specs.declared.history.search.SearchDirection.{SearchDirection, TheVariants.Forward, TheVariants.Reverse}
 use Rattle.line_keys.specs.Refreshing.Ask.{Line, Prompted}
 use Rattle.line_keys.specs.Replies.{Reply}
-use Rattle.line_keys.specs.declared.command.Cmd.{Cmd}
-use Rattle.line_keys.specs.declared.command.Cmd.TheVariants.{EndOfHistory, HistorySearchBackward, HistorySearchForward, Unknown}
+use Rattle.line_keys.specs.declared.command.Cmd.{Cmd, TheVariants.EndOfHistory, TheVariants.HistorySearchBackward, TheVariants.HistorySearchForward, TheVariants.Unknown}
 use Rattle.line_editor.specs.Candidates.{only_put, candidate_at, cycle_begun, cycle_first, cycle_back, cycle_at, cycle_effect, ask_and_turn_effect, modal_after_ask, several, several_modal, offer_effect, modal_after_offer, is_ambiguous, list_shown}
 use Rattle.line_editor.specs.Completing.{common_text, updates, word_updated, word_completed, candidates_given, candidates_asked}
 use Rattle.line_edits.specs.Edits.{update_group}

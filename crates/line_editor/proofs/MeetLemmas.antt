@@ -1,11 +1,9 @@
 -- What a search makes of the line, part after part.
 use Rattle.std.proofs.Common.{◌≡◌, ℕ, ◌==◌, Bool, true, false, List, [], length, refl, sym, ap, subst, ◌∙◌}
 use Rattle.std.specs.Prelude.{Option, Some, Result, Ok, Err, IsErrAnd}
-use Rattle.line_config.specs.declared.errors.ReadlineError.{ReadlineError}
-use Rattle.line_config.specs.declared.errors.ReadlineError.TheVariants.{Memory}
+use Rattle.line_config.specs.declared.errors.ReadlineError.{ReadlineError, TheVariants.Memory}
 use Rattle.line_help.specs.Search.{Hit}
-use Rattle.line_keys.specs.declared.command.Cmd.{Cmd}
-use Rattle.line_keys.specs.declared.command.Cmd.TheVariants.{Unknown}
+use Rattle.line_keys.specs.declared.command.Cmd.{Cmd, TheVariants.Unknown}
 use Rattle.line_help.specs.declared.completion as completions
 use Rattle.line_help.specs.declared.helpers.hint as hints
 use Rattle.line_help.specs.declared.helpers.highlight as highlights

@@ -9,10 +9,8 @@ use Rattle.line_editor.specs.LineScripts.{Keys, Meets, LineAsk, LineState, scrip
 use Rattle.line_editor.specs.ModalCommands.{OffPasses, meeting_at_rest, meeting_in}
 use Rattle.line_editor.specs.Modal.{Modal, Meeting, pass_meeting, is_at_rest, wish_of}
 use Rattle.line_editor.specs.Values.{Value, Setting}
-use Rattle.line_editor.specs.declared.modal_state.Standing.{Standing}
-use Rattle.line_editor.specs.declared.modal_state.Standing.TheVariants.{Off, Rests}
-use Rattle.line_editor.specs.declared.modal_state.Wish.{Wish}
-use Rattle.line_editor.specs.declared.modal_state.Wish.TheVariants.{Search, Up, Tab, Again}
+use Rattle.line_editor.specs.declared.modal_state.Standing.{Standing, TheVariants.Off, TheVariants.Rests}
+use Rattle.line_editor.specs.declared.modal_state.Wish.{Wish, TheVariants.Search, TheVariants.Up, TheVariants.Tab, TheVariants.Again}
 use Rattle.line_editor.proofs.ToldLemmas.{PlayedOf, played_each}
 
 -- whether a command may begin something if nothing stands

@@ -12,8 +12,7 @@ use Rattle.line_buffer.proofs.ReplayedLemmas.{update_replayed, insert_replayed, 
 use Rattle.line_buffer.proofs.SpanLemmas as spans
 use Rattle.line_edits.specs.Edits.{by, char_steps, yank_steps, update_steps, kill_steps, indent_steps}
 use Rattle.line_record.specs.Change.{Change}
-use Rattle.line_record.specs.Held.{HeldItem, change_of, join_of, step_of, has_mark, closes, group_with_change, record_after_close, line_back}
-use Rattle.line_record.specs.Held.HeldItem.{Opened, Stepped}
+use Rattle.line_record.specs.Held.{HeldItem, change_of, join_of, step_of, has_mark, closes, group_with_change, record_after_close, line_back, HeldItem.Opened, HeldItem.Stepped}
 use Rattle.line_record.specs.RecordCourse.{record_after_events}
 use Rattle.line_record.proofs.GroupLaws.{unchanged}
 use Rattle.line_editor.specs.Leads.{Reaches}

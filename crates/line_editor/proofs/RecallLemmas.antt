@@ -1,8 +1,7 @@
 -- An entry in place of the line, or the line that was left.
 use Rattle.std.proofs.Common.{◌≡◌, ℕ, true, List, take, refl, sym, ap, ◌∙◌}
 use Rattle.std.specs.Prelude.{⊤, Option, Some, length, Result, Err, Ok, IsErrAnd}
-use Rattle.line_config.specs.declared.errors.ReadlineError.{ReadlineError}
-use Rattle.line_config.specs.declared.errors.ReadlineError.TheVariants.{Memory}
+use Rattle.line_config.specs.declared.errors.ReadlineError.{ReadlineError, TheVariants.Memory}
 use Rattle.line_edits.specs.Edits.{update_group, update_steps}
 use Rattle.line_edits.specs.WriteSteps.{Edits as EditsRecorded}
 use Rattle.line_record.specs.Items.{record_on}

@@ -1,7 +1,6 @@
 -- An edit that fails, as the display's error.
 use Rattle.std.specs.Prelude.{Bool}
-use Rattle.line_config.specs.declared.errors.ReadlineError.{ReadlineError}
-use Rattle.line_config.specs.declared.errors.ReadlineError.TheVariants.{Display, Helper, Memory}
+use Rattle.line_config.specs.declared.errors.ReadlineError.{ReadlineError, TheVariants.Display, TheVariants.Helper, TheVariants.Memory}
 use Rattle.line_keys.specs.Refreshing.{IsDrawFault}
 use Rattle.line_editor.specs.States.{reason_of}
 

@@ -19,8 +19,7 @@ use Rattle.line_editor.specs.Drawing.{ask_effect}
 use Rattle.line_editor.specs.Commands.{Means, effect}
 use Rattle.line_editor.specs.Moving.{to_found}
 use Rattle.line_editor.specs.History.{with_saved_line, recall, come_back_effect as back_at_end, history_step, history_end, leave_effect, save_effect}
-use Rattle.line_editor.specs.Returns.{ValueStep, value_after, searches, ComesBack, Along}
-use Rattle.line_editor.specs.Returns.ValueStep.{Done, Asked, Met}
+use Rattle.line_editor.specs.Returns.{ValueStep, value_after, searches, ComesBack, Along, ValueStep.Done, ValueStep.Asked, ValueStep.Met}
 use Rattle.line_editor.specs.ModalCommands.{meeting_effect}
 use Rattle.line_editor.specs.Values.{Value, Setting, Effect, Saved, line_and_record_of, no_effect}
 use Rattle.line_editor.proofs.CommandKeeps.{KeptByCommands, either_holds, found_holds, command_keeps}

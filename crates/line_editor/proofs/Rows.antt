@@ -11,7 +11,6 @@ use Rattle.line_buffer.specs.declared.layout.GraphemeClusterMode.TheVariants.{Un
 use Rattle.line_buffer.specs.declared.layout.Layout.{Layout}
 use Rattle.line_buffer.specs.declared.layout.Position.{Position}
 use Rattle.line_config.specs.Config.{default_config}
-use Rattle.line_config.specs.declared.errors.ReadlineError.TheVariants.{Eof}
 use Rattle.line_config.specs.declared.settings.EditMode.TheVariants.{Emacs}
 use Rattle.line_keys.specs.CustomBindings.{Custom}
 use Rattle.line_keys.specs.Replies.{gives_at_once}
@@ -29,9 +28,8 @@ use Rattle.line_keys.specs.declared.key.KeyCode.TheVariants.{Backspace, Char, Do
 use Rattle.line_keys.specs.declared.key.KeyEvent.{KeyEvent}
 use Rattle.line_record.specs.RecordCourse.{record_after_events}
 use Rattle.line_record.specs.Ring.{Ring}
-use Rattle.line_editor.specs.RenderCalls.{Call, Ruler}
-use Rattle.line_editor.specs.RenderCalls.Call.{Draw, Move, Write, Beep}
-use Rattle.line_config.specs.declared.errors.ReadlineError.{ReadlineError}
+use Rattle.line_editor.specs.RenderCalls.{Call, Ruler, Call.Draw, Call.Move, Call.Write, Call.Beep}
+use Rattle.line_config.specs.declared.errors.ReadlineError.{ReadlineError, TheVariants.Eof}
 use Rattle.line_editor.specs.LineScripts.{line_state, played_from, steps_along, turn_script, turns_script, line_script}
 use Rattle.line_editor.specs.Modal.{Modal, modal_first}
 use Rattle.line_editor.specs.Redraws.{fresh}

@@ -4,8 +4,7 @@ use Rattle.std.specs.Prelude.{Option, None, option_map, Result, Ok, Err, length,
 use Rattle.script.specs.Scripts.{Goes}
 use Rattle.std.specs.Result.{result_and}
 use Rattle.line_config.specs.declared.config.Config.{Config}
-use Rattle.line_config.specs.declared.errors.ReadlineError.{ReadlineError}
-use Rattle.line_config.specs.declared.errors.ReadlineError.TheVariants.{Display, Helper, Memory}
+use Rattle.line_config.specs.declared.errors.ReadlineError.{ReadlineError, TheVariants.Display, TheVariants.Helper, TheVariants.Memory}
 use Rattle.script.proofs.ScriptLaws.{ok_not_err, fault_or}
 use Rattle.line_help.specs.declared.completion as completions
 use Rattle.line_help.specs.declared.helpers.hint as hints

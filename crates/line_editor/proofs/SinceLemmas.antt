@@ -3,8 +3,7 @@ use Rattle.std.proofs.Common.{◌≡◌, ℕ, ◌&&◌, Bool, true, false, not, 
 use Rattle.std.proofs.lemmas.Option.{cond_some}
 use Rattle.line_help.specs.declared.helpers.style.Style.{Style}
 use Rattle.line_editor.specs.Drawing.{Since, redraw_of, line_spans, kept_upto, draw_effect_since, draw_effect_behind}
-use Rattle.line_editor.specs.Redraws.{Redraw}
-use Rattle.line_editor.specs.Redraws.Redraw.{DrawnFrom}
+use Rattle.line_editor.specs.Redraws.{Redraw, Redraw.DrawnFrom}
 use Rattle.line_editor.specs.RenderCalls.{Marks}
 use Rattle.line_editor.specs.SharedStyles.{noted_styles, told_styles}
 use Rattle.line_editor.specs.Sights.{drawn_spans}

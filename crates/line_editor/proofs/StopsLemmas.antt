@@ -3,18 +3,15 @@ use Rattle.std.proofs.Common.{◌≡◌, ℕ, Bool, true, false, true≢false, L
 use Rattle.std.specs.Prelude.{⊤, Option, Some, None, is_some, Result, Ok, Err, IfErr, IsFalse, IsSomeAnd}
 use Rattle.std.specs.List.{FoldsTo}
 use Rattle.line_buffer.specs.declared.layout.Layout.{Layout}
-use Rattle.line_config.specs.declared.errors.ReadlineError.{ReadlineError}
-use Rattle.line_config.specs.declared.errors.ReadlineError.TheVariants.{Display, Helper, Memory}
+use Rattle.line_config.specs.declared.errors.ReadlineError.{ReadlineError, TheVariants.Display, TheVariants.Helper, TheVariants.Memory}
 use Rattle.line_edits.specs.WriteSteps.{WriteSteps, CutAlong, group_opened}
 use Rattle.line_keys.specs.Replies.{Reply, fails}
-use Rattle.line_editor.specs.RenderCalls.{Call, Canvas, Marks, Ruler, MadeIn, CutCall, CutCalls}
-use Rattle.line_editor.specs.RenderCalls.Call.{Help}
+use Rattle.line_editor.specs.RenderCalls.{Call, Canvas, Marks, Ruler, MadeIn, CutCall, CutCalls, Call.Help}
 use Rattle.line_editor.specs.Completing.{updates}
 use Rattle.line_editor.specs.Redraws.{Redraw, RedrawCalls, calls_of_redraw, then_asked}
 use Rattle.line_editor.specs.States.{fails_by}
 use Rattle.line_editor.specs.EditSteps.{one, calls_of_steps, Surface, surface, CutHelp, UndonePartly, CutEditSteps, CallsMade}
-use Rattle.line_editor.specs.Values.{Value, EditStep, line_and_record_of, value_with_edit, help_steps, shown_marks}
-use Rattle.line_editor.specs.Values.EditStep.{Draws, Edits, TakesBack, Takes}
+use Rattle.line_editor.specs.Values.{Value, EditStep, line_and_record_of, value_with_edit, help_steps, shown_marks, EditStep.Draws, EditStep.Edits, EditStep.TakesBack, EditStep.Takes}
 
 -- a fault of a hook that is called
 abbrev pub IsHelpFault : {A : Type 0} → Option (Reply A) → ReadlineError → Type 0

@@ -5,8 +5,7 @@ use Rattle.std.specs.List.{FoldsTo}
 use Rattle.line_buffer.specs.declared.layout.Layout.{Layout}
 use Rattle.script.specs.Played.{Plan, Played, play_with_first_ask, play_after_answer, play_of}
 use Rattle.script.specs.Scripts.{Script, Ends, Asks, Goes, then}
-use Rattle.line_config.specs.declared.errors.ReadlineError.{ReadlineError}
-use Rattle.line_config.specs.declared.errors.ReadlineError.TheVariants.{Display, Helper, Memory}
+use Rattle.line_config.specs.declared.errors.ReadlineError.{ReadlineError, TheVariants.Display, TheVariants.Helper, TheVariants.Memory}
 use Rattle.line_keys.specs.KeyFeeds.{InputItem, Paste, IsReadFault}
 use Rattle.line_keys.specs.PhraseScripts.{steps}
 use Rattle.line_editor.specs.RenderCalls.{Canvas, Ruler, MadeIn}
@@ -14,8 +13,7 @@ use Rattle.line_editor.specs.LineScripts.{LineAsk, LineAnswer, LineScript, LineS
 use Rattle.line_editor.specs.Redraws.{RedrawCalls}
 use Rattle.line_editor.specs.States.{reason_of}
 use Rattle.line_editor.specs.EditSteps.{calls_of_steps, Surface, CutHelp, CutStep, CutEditSteps, CallsMade}
-use Rattle.line_editor.specs.Values.{Value, Setting, EditStep}
-use Rattle.line_editor.specs.Values.EditStep.{Draws, Helped}
+use Rattle.line_editor.specs.Values.{Value, Setting, EditStep, EditStep.Draws, EditStep.Helped}
 use Rattle.line_editor.proofs.StopsLemmas.{asked_both, folds_both}
 
 -- by the answer to a request, and by its error

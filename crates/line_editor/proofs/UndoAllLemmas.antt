@@ -19,18 +19,15 @@ use Rattle.line_buffer.proofs.SpanLemmas.{IsLater, place_forward-later, deletion
 use Rattle.line_edits.specs.Edits.{clusters_after, by, text_steps, update_steps, delete_steps, exchange_steps, overwrite_steps, transpose_words_steps, update_group}
 use Rattle.line_edits.proofs.StepLemmas.{overwrite_steps_to}
 use Rattle.line_help.specs.Search.{Hit}
-use Rattle.line_help.specs.declared.history.search.SearchDirection.{SearchDirection}
-use Rattle.line_help.specs.declared.history.search.SearchDirection.TheVariants.{Forward, Reverse}
-use Rattle.line_keys.specs.Refreshing.{Ask}
-use Rattle.line_keys.specs.Refreshing.Ask.{DoingInsert, DoneInserting}
+use Rattle.line_help.specs.declared.history.search.SearchDirection.{SearchDirection, TheVariants.Forward, TheVariants.Reverse}
+use Rattle.line_keys.specs.Refreshing.{Ask, Ask.DoingInsert, Ask.DoneInserting}
 use Rattle.line_keys.specs.declared.command.Cmd.{Cmd}
 use Rattle.line_keys.specs.declared.command.Cmd.TheVariants.{BeginningOfHistory, EndOfHistory, HistorySearchBackward, HistorySearchForward, NextHistory, PreviousHistory, LineUpOrPreviousHistory, LineDownOrNextHistory}
 use Rattle.line_editor.specs.Commands.{Means, effect}
 use Rattle.line_editor.specs.Completing.{word_put}
 use Rattle.line_editor.specs.Leads.{Reaches, Sound}
 use Rattle.line_editor.specs.History.{at_place, recall, history_step, history_end, history_search, entry_shown, leave_effect, save_effect, with_saved_line}
-use Rattle.line_editor.specs.Returns.{ValueStep, value_after, UndoesAll, Along}
-use Rattle.line_editor.specs.Returns.ValueStep.{Done, Asked, Met}
+use Rattle.line_editor.specs.Returns.{ValueStep, value_after, UndoesAll, Along, ValueStep.Done, ValueStep.Asked, ValueStep.Met}
 use Rattle.line_editor.specs.Values.{Value, Setting, value_with_edit, line_and_record_of, no_effect}
 use Rattle.line_editor.proofs.CommandKeeps.{KeptByCommands, either_holds, found_holds, command_keeps}
 use Rattle.line_editor.proofs.MeetKeeps.{Fact, KeptByEdits, meeting_keeps}

@@ -2,12 +2,9 @@
 use Rattle.std.proofs.Common.{◌≡◌, ℕ, zero, suc, ◌≤◌, max, Bool, true, false, List, [], ◌∷◌, length, drop, Ok, refl, sym, ap, subst, arith, ◌∙◌, if◌then◌else◌}
 use Rattle.std.specs.Prelude.{Result, IsErrAnd}
 use Rattle.line_buffer.specs.Line.{Line}
-use Rattle.line_config.specs.declared.errors.ReadlineError.{ReadlineError}
-use Rattle.line_config.specs.declared.errors.ReadlineError.TheVariants.{Memory}
-use Rattle.line_record.specs.Held.{HeldItem, line_back, has_step}
-use Rattle.line_record.specs.Held.HeldItem.{Opened, Stepped}
-use Rattle.line_record.specs.Items.{Item, Items, CutUndo, items_with_texts, last_changes, no_items, record_on}
-use Rattle.line_record.specs.Items.Item.{Open, Lone, Group}
+use Rattle.line_config.specs.declared.errors.ReadlineError.{ReadlineError, TheVariants.Memory}
+use Rattle.line_record.specs.Held.{HeldItem, line_back, has_step, HeldItem.Opened, HeldItem.Stepped}
+use Rattle.line_record.specs.Items.{Item, Items, CutUndo, items_with_texts, last_changes, no_items, record_on, Item.Open, Item.Lone, Item.Group}
 use Rattle.line_edits.specs.Edits.{after_undo}
 use Rattle.line_editor.specs.Leads.{Reaches}
 use Rattle.line_help.specs.declared.completion as completions

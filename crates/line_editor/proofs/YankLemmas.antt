@@ -4,8 +4,7 @@ use Rattle.std.specs.Prelude.{⊤, Option, is_some, Result, Ok, Err, IsErrAnd}
 use Rattle.line_buffer.specs.Insertions.{yank as yanked_in}
 use Rattle.line_buffer.specs.Line.{Line}
 use Rattle.line_buffer.specs.declared.types.Anchor.{Anchor}
-use Rattle.line_config.specs.declared.errors.ReadlineError.{ReadlineError}
-use Rattle.line_config.specs.declared.errors.ReadlineError.TheVariants.{Memory}
+use Rattle.line_config.specs.declared.errors.ReadlineError.{ReadlineError, TheVariants.Memory}
 use Rattle.line_edits.specs.Edits.{yank_steps, by}
 use Rattle.line_edits.specs.WriteSteps.{WriteSteps, with_answer, Edits as EditsRecorded, Written, line_and_record, line_and_record_in}
 use Rattle.line_edits.specs.declared.recorded_line.RecordedLine.{RecordedLine}

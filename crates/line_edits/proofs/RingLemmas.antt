@@ -1,8 +1,7 @@
 -- What a kill that fails leaves of line, record and ring.
 use Rattle.std.proofs.Common.{◌≡◌, ◌⊎◌, inl, inr, ℕ, List, [], ◌∷◌, ◌++◌, refl, ap, ◌∙◌, Bool, true, false, if◌then◌else◌, is_some, Result, Ok, Err, OnErr, IsErrAnd, IsUtf8, sym, subst}
 use Rattle.line_buffer.specs.Edit.{StopsAt}
-use Rattle.line_buffer.specs.Event.{ChangeEvent, TakesAll, StopsAmong}
-use Rattle.line_buffer.specs.Event.ChangeEvent.{StartKilling, StopKilling}
+use Rattle.line_buffer.specs.Event.{ChangeEvent, TakesAll, StopsAmong, ChangeEvent.StartKilling, ChangeEvent.StopKilling}
 use Rattle.line_buffer.specs.Line.{Line}
 use Rattle.line_buffer.specs.Range.{range_of, goes_by_clusters, deletion_events, kill_events, kill_closing}
 use Rattle.line_buffer.specs.declared.types.Movement.{Movement}

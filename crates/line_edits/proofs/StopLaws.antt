@@ -1,7 +1,6 @@
 -- What a failed edit leaves: one of a single change, a kill, and a group.
 use Rattle.std.proofs.Common.{◌≡◌, ◌≤◌, ◌⊎◌, inl, inr, List, [], ◌∷◌, ◌++◌, length, refl, ap, ◌∙◌, arith, Bool, true, false, if◌then◌else◌}
-use Rattle.line_buffer.specs.Event.{ChangeEvent, line_after_events}
-use Rattle.line_buffer.specs.Event.ChangeEvent.{StartKilling}
+use Rattle.line_buffer.specs.Event.{ChangeEvent, line_after_events, ChangeEvent.StartKilling}
 use Rattle.line_buffer.specs.Line.{Line}
 use Rattle.line_buffer.specs.declared.types.Movement.{Movement}
 use Rattle.line_buffer.specs.Range.{range_of, goes_by_clusters, kill_events}

@@ -6,8 +6,7 @@ use Rattle.std.specs.List.{list_any}
 use Rattle.std.proofs.lemmas.List.{append-nil}
 use Rattle.line_help.specs.Brackets.{all_kinds, is_opening, is_closing, partner, Balanced, empty, other, pair}
 use Rattle.line_help.specs.Validation.{verdict_from, mismatch, closes_innermost, bracket_verdict, ValidIsBalanced, IncompleteIsBegun, InvalidIsLost}
-use Rattle.line_help.specs.declared.helpers.validate.ValidationResult.{ValidationResult}
-use Rattle.line_help.specs.declared.helpers.validate.ValidationResult.TheVariants.{Incomplete, Invalid, Valid}
+use Rattle.line_help.specs.declared.helpers.validate.ValidationResult.{ValidationResult, TheVariants.Incomplete, TheVariants.Invalid, TheVariants.Valid}
 
 -- whether two bytes are brackets of one kind
 abbrev pub are_kind : List (ℕ × ℕ) → ℕ → ℕ → Bool

@@ -10,8 +10,7 @@ use Rattle.std.proofs.lemmas.List.{drop-append-le, drop_at, take_at, take-append
 use Rattle.std.proofs.lemmas.List.Elements.{All-append, All-cons, All-head, All-nil, All-tail}
 use Rattle.std.proofs.lemmas.Slice.Eq.{starts_is}
 use Rattle.line_help.specs.Search.{Hit, hit_or, hit_by, first_hit, first_from, first_back, nearest, TermAt, HasTerm, IsHit, IsNearest, NearestIsFound}
-use Rattle.line_help.specs.declared.history.search.SearchDirection.{SearchDirection}
-use Rattle.line_help.specs.declared.history.search.SearchDirection.TheVariants.{Forward, Reverse}
+use Rattle.line_help.specs.declared.history.search.SearchDirection.{SearchDirection, TheVariants.Forward, TheVariants.Reverse}
 use Rattle.line_help.proofs.SearchLemmas.{begins_with_itself, unless_none}
 
 some_if : (b : Bool) (n pos : ℕ) (other : Option ℕ) → (if b then Some n else other) ≡ Some pos → ((b ≡ true) × (n ≡ pos)) ⊎ ((b ≡ false) × (other ≡ Some pos))

@@ -8,10 +8,8 @@ use Rattle.std.specs.Str.{is_utf8, chars}
 use Rattle.std.proofs.lemmas.Str.{IsUtf8-from_is_utf8, is_utf8-from_IsUtf8, IsUtf8-nil}
 use Rattle.std.proofs.lemmas.Slice.Eq.{bytes_eq-Decides}
 use lib.Utf8.{encode}
-use Rattle.line_config.specs.declared.device.Last.{Last}
-use Rattle.line_config.specs.declared.device.Last.TheVariants.{End, Failed}
-use Rattle.line_config.specs.declared.errors.ReadlineError.{ReadlineError}
-use Rattle.line_config.specs.declared.errors.ReadlineError.TheVariants.{HistoryText, Memory, Reader}
+use Rattle.line_config.specs.declared.device.Last.{Last, TheVariants.End, TheVariants.Failed}
+use Rattle.line_config.specs.declared.errors.ReadlineError.{ReadlineError, TheVariants.HistoryText, TheVariants.Memory, TheVariants.Reader}
 use Rattle.line_help.specs.History.{Filed, all_saved, history_with_line, history_with_lines, takes_all, ignores_line}
 use Rattle.line_help.specs.HistoryText.{LosesRow, behind_row, behind_rows, text_rows, entries_of, entry_of, good_rows, has_bad_row, header, load_answer, load_leaves, rows_answer, texts_of, LoadsSome, rest_after_load}
 use Rattle.line_help.proofs.RowLemmas.{GoodUpTo}

@@ -10,10 +10,8 @@ use Rattle.std.proofs.lemmas.List.Folds.{list_any-append, list_any_none}
 use Rattle.std.proofs.lemmas.Bool.{eq-eqb, eqb-true, false_from_ne_true, ne_eqb, or_from, or_parts}
 use Rattle.memchr.specs.Find.{IsFirstByte, is_byte}
 use Rattle.line_config.specs.Feed.{Feed, GivesBytes, device_failed, front_of}
-use Rattle.line_config.specs.declared.device.Last.{Last}
-use Rattle.line_config.specs.declared.device.Last.TheVariants.{End, Failed}
-use Rattle.line_config.specs.declared.errors.ReadlineError.{ReadlineError}
-use Rattle.line_config.specs.declared.errors.ReadlineError.TheVariants.{Memory, Reader}
+use Rattle.line_config.specs.declared.device.Last.{Last, TheVariants.End, TheVariants.Failed}
+use Rattle.line_config.specs.declared.errors.ReadlineError.{ReadlineError, TheVariants.Memory, TheVariants.Reader}
 use Rattle.script.proofs.ScriptLaws.{ok_not_err}
 use Rattle.line_help.specs.HistoryText.{TakesPiece, text_rows, onto, without_return, behind_row, EndIsMet, LosesRow, ReadsByte, ReadsGood, ReadsRow}
 

@@ -7,8 +7,7 @@ use Rattle.std.proofs.lemmas.List.{take_all, drop_all, length-drop, drop-drop, t
 use Rattle.std.proofs.lemmas.Grind.{flat_map-append}
 use Rattle.memchr.specs.Find.{Nowhere, Passes, is_byte2}
 use Rattle.line_config.specs.Sending.{Takes, TakesSome}
-use Rattle.line_config.specs.declared.errors.ReadlineError.{ReadlineError}
-use Rattle.line_config.specs.declared.errors.ReadlineError.TheVariants.{HistoryText}
+use Rattle.line_config.specs.declared.errors.ReadlineError.{ReadlineError, TheVariants.HistoryText}
 use Rattle.line_config.proofs.Taking.{Underway, takes_then, some_then, some_of_more, underway_end, underway_on, underway_some}
 use Rattle.line_help.specs.HistoryText.{escaped_byte, escaped_entry, SendsRun}
 

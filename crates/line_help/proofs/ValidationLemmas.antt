@@ -6,8 +6,7 @@ use Rattle.std.proofs.lemmas.List.Folds.{list_any_at}
 use Rattle.std.proofs.lemmas.List.Sums.{prefix_len-le-length}
 use Rattle.std.proofs.lemmas.List.{drop_more, drop-drop, length-drop, reverse-append, nil_from_length}
 use Rattle.std.proofs.lemmas.Bool.{ne_eqb, or_parts}
-use Rattle.line_config.specs.declared.errors.HookFault.{HookFault}
-use Rattle.line_config.specs.declared.errors.HookFault.TheVariants.{Memory}
+use Rattle.line_config.specs.declared.errors.HookFault.{HookFault, TheVariants.Memory}
 use Rattle.line_help.specs.Brackets.{is_opening, is_closing, is_bracket, partner}
 use Rattle.line_help.specs.Validation.{HasNoBracket, verdict_from, bracket_verdict, not_closed, message_of_unpaired}
 use Rattle.line_help.specs.declared.helpers.validate.ValidationResult.TheVariants.{Invalid}

@@ -1,7 +1,6 @@
 -- Requests of a reader, one after the other.
 use Rattle.std.proofs.Common.{Bool, false, refl, sym, subst}
-use Rattle.line_config.specs.declared.settings.EditMode.{EditMode}
-use Rattle.line_config.specs.declared.settings.EditMode.TheVariants.{Emacs, Vi}
+use Rattle.line_config.specs.declared.settings.EditMode.{EditMode, TheVariants.Emacs, TheVariants.Vi}
 use Rattle.line_keys.specs.Requests.{Request, NextKey, WaitForInput, PastedText, Asked, AsksInOrder, nothing, then, Begins, IsKey, IsLater, abort_in, first_request}
 
 module _ {S : Type 0} (asked : Asked S) where

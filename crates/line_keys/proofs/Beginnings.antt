@@ -5,8 +5,7 @@ use Rattle.std.proofs.lemmas.Bool.{or_right}
 use Rattle.std.proofs.lemmas.List.{take-append-drop}
 use Rattle.std.proofs.Math.Seq.{take-append_seam}
 use Rattle.line_keys.specs.declared.key.KeyEvent.{KeyEvent}
-use Rattle.line_keys.specs.declared.events.Event.{Event}
-use Rattle.line_keys.specs.declared.events.Event.TheVariants.{Any, KeySeq, Mouse}
+use Rattle.line_keys.specs.declared.events.Event.{Event, TheVariants.Any, TheVariants.KeySeq, TheVariants.Mouse}
 use Rattle.line_keys.specs.Events.{begins_with, find, begins, has_event}
 use Rattle.line_keys.proofs.SameEventsLemmas.{same_event-decides, same_keys-decides}
 

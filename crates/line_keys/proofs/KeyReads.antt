@@ -3,8 +3,7 @@ use Rattle.std.proofs.Common.{◌≡◌, inl, inr, refl, ap, ◌∙◌}
 use Rattle.std.specs.Prelude.{Result, Ok, Err}
 use Rattle.line_config.specs.declared.errors.ReadlineError.{ReadlineError}
 use Rattle.line_keys.specs.declared.key.KeyEvent.{KeyEvent}
-use Rattle.line_keys.specs.declared.tty.Event.{Event}
-use Rattle.line_keys.specs.declared.tty.Event.TheVariants.{KeyPress}
+use Rattle.line_keys.specs.declared.tty.Event.{Event, TheVariants.KeyPress}
 use Rattle.line_keys.specs.KeyFeeds.{KeyFeed, InputItem, Key, behind, ReadAs, ReadsBy, SomeRead, Coming, key_at, from_key_at, answer_map}
 
 abbrev of_press : Result Event ReadlineError → Result KeyEvent ReadlineError

@@ -4,8 +4,7 @@ use Rattle.std.specs.Prelude.{Bool, Decides}
 use Rattle.std.specs.Cmp.{unsigned_Decides}
 use Rattle.std.specs.Cmp.Lexicographic.{pointwise, pointwise_decides}
 use Rattle.std.proofs.lemmas.Bool.Decides.{Decides-and}
-use Rattle.line_keys.specs.declared.events.Event.{Event}
-use Rattle.line_keys.specs.declared.events.Event.TheVariants.{Any, KeySeq, Mouse}
+use Rattle.line_keys.specs.declared.events.Event.{Event, TheVariants.Any, TheVariants.KeySeq, TheVariants.Mouse}
 use Rattle.line_keys.specs.declared.key.KeyEvent.{KeyEvent}
 use Rattle.line_keys.specs.declared.key.KeyCode.{KeyCode}
 use Rattle.line_keys.specs.declared.key.KeyCode.TheVariants.{UnknownEscSeq, Backspace, BackTab, BracketedPasteStart, BracketedPasteEnd, Char, Delete, Down, End, Enter, Esc, F, Home, Insert, Left, Null, PageDown, PageUp, Right, Tab, Up}

@@ -3,8 +3,7 @@ use Rattle.std.proofs.Common.{ℕ, zero, suc, Bool, true, false, List, [], ◌�
 use Rattle.std.specs.Prelude.{Option, Some, None, ℤ}
 use Rattle.std.specs.Option.{option_map_or}
 use Rattle.line_config.specs.declared.errors.ReadlineError.TheVariants.{Handler}
-use Rattle.line_config.specs.declared.settings.EditMode.{EditMode}
-use Rattle.line_config.specs.declared.settings.EditMode.TheVariants.{Emacs, Vi}
+use Rattle.line_config.specs.declared.settings.EditMode.{EditMode, TheVariants.Emacs, TheVariants.Vi}
 use Rattle.line_keys.specs.declared.command.Cmd.{Cmd}
 use Rattle.line_keys.specs.declared.command.Cmd.TheVariants.{Insert, Move, QuotedInsert, Noop, Unknown}
 use Rattle.line_keys.specs.declared.key.KeyEvent.{KeyEvent}
@@ -23,8 +22,7 @@ use Rattle.line_keys.specs.declared.keymap.vi.table.InsertAction.{InsertAction}
 use Rattle.line_keys.specs.declared.keymap.vi.table.InsertAction.TheVariants as inserts
 use Rattle.line_keys.specs.Common.{common, common_action, common_done, decision_of, sequence, terminal_command, is_paste_start, quote_of_paste, quote_of_key, quoted_command, quotes, quote_part}
 use Rattle.line_keys.specs.Counts.{Counted, count_and_key, rest_of_count, rest_of_count_in, rest_of_count_by, count_from_key, count_with_key, how_often, is_plus, count_times, typed_count}
-use Rattle.line_keys.specs.declared.keymap.custom.Followed.{Followed}
-use Rattle.line_keys.specs.declared.keymap.custom.Followed.TheVariants.{Bound, Unbound}
+use Rattle.line_keys.specs.declared.keymap.custom.Followed.{Followed, TheVariants.Bound, TheVariants.Unbound}
 use Rattle.line_keys.specs.CustomKeys.{Situation, rest_of_sequence, sequence_upto, key_sequence, sequence_or, sequence_answer, situation, custom_answer}
 use Rattle.line_keys.specs.Emacs.{after_first_key, emacs_command, emacs_decided, emacs_action, emacs_done, emacs_phrase, move_to_char, second_command}
 use Rattle.line_keys.specs.KeyFeeds.{InputItem, InputOf, Key, Paste}

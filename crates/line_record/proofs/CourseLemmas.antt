@@ -2,8 +2,7 @@
 use Rattle.std.proofs.Common.{ℕ, zero, suc, Bool, true, false, List, [], ◌∷◌, drop, Option, Some, None, refl, inl, inr, if◌then◌else◌, arith}
 use Rattle.std.specs.Prelude.{option_map, unwrap_or, slice_get}
 use Rattle.std.proofs.lemmas.Bool.Decides.{nat_tests}
-use Rattle.line_buffer.specs.Event.{ChangeEvent, text_after_event}
-use Rattle.line_buffer.specs.Event.ChangeEvent.{StartKilling, StopKilling}
+use Rattle.line_buffer.specs.Event.{ChangeEvent, text_after_event, ChangeEvent.StartKilling, ChangeEvent.StopKilling}
 use Rattle.line_record.specs.Change.{Change}
 use Rattle.line_record.specs.Held.{HeldItem, Undone, text_of, step_of, record_after_event, change_of, join_of, record_after_close, closes, has_mark, group_with_change, text_back, ahead_back, record_ahead}
 use Rattle.line_record.specs.Held.HeldItem.{Opened, Stepped}

@@ -4,8 +4,7 @@ use Rattle.std.proofs.Math.Seq.{take-length}
 use Rattle.std.proofs.lemmas.Bool.Decides.{nat_tests}
 use Rattle.std.proofs.lemmas.List.{take-append-drop, take-take, take_at, drop_at, take_min, drop_all, length-reverse, length-drop, length-take-le, reverse-append, reverse-reverse}
 use Rattle.line_record.specs.Change.{Change}
-use Rattle.line_record.specs.Items.{Item, Items, items_with_texts, DoneStand, changes_of_all, group_of, EndedBy}
-use Rattle.line_record.specs.Items.Item.{Open}
+use Rattle.line_record.specs.Items.{Item, Items, items_with_texts, DoneStand, changes_of_all, group_of, EndedBy, Item.Open}
 use Rattle.line_record.specs.Log.{record_of, oldest_mark, IsRecord, mark_within}
 use Rattle.line_record.proofs.EndLemmas.{EndedAs, has_open, gather, gather-reverse, closing, unmarked, ended_nothing, mark_none, none_marked}
 use Rattle.line_record.proofs.StepsLemmas.{newest_item}

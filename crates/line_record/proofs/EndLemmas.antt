@@ -2,10 +2,8 @@
 use Rattle.std.proofs.Common.{◌≡◌, ℕ, ◌||◌, Bool, true, false, List, [], ◌∷◌, ◌++◌, reverse, refl, sym, ap, subst, ◌∙◌, None, append_assoc, if◌then◌else◌, is_some, slice_get}
 use Rattle.std.proofs.lemmas.List.{append-nil, reverse-append}
 use Rattle.line_record.specs.Change.{Change, newest_of, all_taken_back, AllStandIn, undo_place, text_after_undo, StandsIn}
-use Rattle.line_record.specs.Held.{HeldItem, has_mark, closes, group_with_change, record_after_close}
-use Rattle.line_record.specs.Held.HeldItem.{Stepped}
-use Rattle.line_record.specs.Items.{Item, changes_of, before_item, items_with_texts, DoneStand, changes_of_all, group_of, EndedBy}
-use Rattle.line_record.specs.Items.Item.{Open, Lone, Group}
+use Rattle.line_record.specs.Held.{HeldItem, has_mark, closes, group_with_change, record_after_close, HeldItem.Stepped}
+use Rattle.line_record.specs.Items.{Item, changes_of, before_item, items_with_texts, DoneStand, changes_of_all, group_of, EndedBy, Item.Open, Item.Lone, Item.Group}
 use Rattle.line_record.specs.Log.{oldest_mark, is_open, item_from}
 
 pub has_open : List Item → Bool

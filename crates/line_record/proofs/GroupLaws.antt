@@ -7,10 +7,8 @@ use Rattle.std.proofs.lemmas.Bool.Decides.{nat_tests}
 use Rattle.line_buffer.specs.Event.{ChangeEvent, text_after_event}
 use Rattle.line_buffer.specs.Event.ChangeEvent.{StartKilling, StopKilling, Delete, InsertChar, InsertStr, Replace}
 use Rattle.line_record.specs.Change.{Change}
-use Rattle.line_record.specs.Held.{HeldItem, change_of, join_of, step_of, record_after_event, has_mark, closes, record_after_close, text_back}
-use Rattle.line_record.specs.Held.HeldItem.{Opened, Stepped}
-use Rattle.line_record.specs.RecordCourse.{RecordCall, RecordCourse, after_call}
-use Rattle.line_record.specs.RecordCourse.RecordCall.{Told, Begun}
+use Rattle.line_record.specs.Held.{HeldItem, change_of, join_of, step_of, record_after_event, has_mark, closes, record_after_close, text_back, HeldItem.Opened, HeldItem.Stepped}
+use Rattle.line_record.specs.RecordCourse.{RecordCall, RecordCourse, after_call, RecordCall.Told, RecordCall.Begun}
 use Rattle.line_record.specs.Laws.{stays_open, UndoTakesTheGroupBack}
 use Rattle.line_record.proofs.NotedLemmas.{none_there, nothing_put}
 use Rattle.line_record.proofs.RecordLaws.{no_mark}

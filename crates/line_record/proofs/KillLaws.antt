@@ -9,8 +9,7 @@ use Rattle.std.proofs.lemmas.Option.{slice_get-get_or}
 use Rattle.std.proofs.lemmas.Bool.{ltb-true, ltb-false}
 use Rattle.std.proofs.lemmas.Bool.Decides.{nat_tests}
 use Rattle.line_buffer.specs.declared.range.TextSpan.{TextSpan}
-use Rattle.line_buffer.specs.declared.types.Mode.{Mode}
-use Rattle.line_buffer.specs.declared.types.Mode.TheVariants.{Append, Prepend}
+use Rattle.line_buffer.specs.declared.types.Mode.{Mode, TheVariants.Append, TheVariants.Prepend}
 use Rattle.line_buffer.specs.declared.types.Movement.{Movement}
 use Rattle.line_buffer.specs.declared.types.Movement.TheVariants.{BeginningOfLine, EndOfLine, BackwardWord, ForwardWord, ViCharSearch, BeginningOfBuffer, EndOfBuffer}
 use Rattle.line_buffer.specs.Event.ChangeEvent.{StartKilling, StopKilling}
@@ -19,8 +18,7 @@ use Rattle.line_buffer.specs.Line.{Line, without_range}
 use Rattle.line_buffer.specs.Range.{range_of, deletion_events, deletion_line, kill_events, kill as killed_in}
 use Rattle.line_buffer.specs.Event.{StandsAt, InsertStr}
 use Rattle.line_buffer.proofs.InsertionLemmas.{one_insertion}
-use Rattle.line_record.specs.declared.kill_ring.Action.{Action}
-use Rattle.line_record.specs.declared.kill_ring.Action.TheVariants.{Other, Kill, Yank}
+use Rattle.line_record.specs.declared.kill_ring.Action.{Action, TheVariants.Other, TheVariants.Kill, TheVariants.Yank}
 use Rattle.line_record.specs.Change.{text_with_exchange}
 use Rattle.line_record.specs.Laws.{is_directed, some_taken, KillsComeBack, after_kill}
 use Rattle.line_record.specs.Ring.{Ring, IsRing, joined_text, slot_after, slots_with_text, ring_with_kill, ring_with_kill_after, mode_of, ring_all}

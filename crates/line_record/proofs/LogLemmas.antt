@@ -7,8 +7,7 @@ use Rattle.std.proofs.lemmas.Str.{IsUtf8-append, IsUtf8-between, IsCharBoundary-
 use Rattle.unicode_segmentation.proofs.TextLemmas.{take_split, length-slice_range}
 use Rattle.line_buffer.specs.Event.{ChangeEvent}
 use Rattle.line_record.specs.declared.entry.LoggedChange.{LoggedChange}
-use Rattle.line_record.specs.declared.entry.Kind.{Kind}
-use Rattle.line_record.specs.declared.entry.Kind.TheVariants.{Insertion, Deletion, Replacement}
+use Rattle.line_record.specs.declared.entry.Kind.{Kind, TheVariants.Insertion, TheVariants.Deletion, TheVariants.Replacement}
 use Rattle.line_record.specs.Change.{Change, old_text_of, new_text_of, AllFitIn}
 use Rattle.line_record.specs.Held.{join_of}
 use Rattle.line_buffer.specs.Line.{Line}

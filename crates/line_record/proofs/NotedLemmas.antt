@@ -7,8 +7,7 @@ use Rattle.unicode_segmentation.specs.Segments.{is_alphanumeric}
 use Rattle.line_buffer.specs.Event.{ChangeEvent, Swaps, Replays, StandsAt}
 use Rattle.line_buffer.specs.Event.ChangeEvent.{StartKilling, StopKilling, Delete, InsertChar, InsertStr, Replace}
 use Rattle.line_buffer.specs.declared.types.Direction.{Direction}
-use Rattle.line_record.specs.Change.{Change, place_of, old_text_of, new_text_of, text_after_undo, text_with_exchange, StandsIn}
-use Rattle.line_record.specs.Change.Change.{Inserted, Deleted, Replaced}
+use Rattle.line_record.specs.Change.{Change, place_of, old_text_of, new_text_of, text_after_undo, text_with_exchange, StandsIn, Change.Inserted, Change.Deleted, Change.Replaced}
 use Rattle.line_record.specs.Held.{HeldItem, step_of, record_after_event, change_of, join_of, is_one_alphanumeric}
 use Rattle.line_record.specs.Items.{Item, Items, items_with_texts, DoneStand, ItemsStand, record_on, ahead_on, items_after_event, ahead_after, RecordsEvent, RecordsEventIn, join_of_items, items_with_event}
 use Rattle.line_record.specs.Items.Item.{Open, Lone, Group}

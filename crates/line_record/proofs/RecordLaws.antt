@@ -1,7 +1,6 @@
 -- Laws of the record.
 use Rattle.std.proofs.Common.{◌≡◌, ℕ, false, List, [], ◌∷◌, length, refl, ap, ◌∙◌, IsUtf8}
-use Rattle.line_record.specs.Held.{HeldItem, text_back, record_after_close, closes, has_mark}
-use Rattle.line_record.specs.Held.HeldItem.{Opened, Stepped}
+use Rattle.line_record.specs.Held.{HeldItem, text_back, record_after_close, closes, has_mark, HeldItem.Opened, HeldItem.Stepped}
 use Rattle.line_record.specs.Items.{Item, changes_of, before_item, after_item, items_with_texts, DoneStand}
 use Rattle.line_record.specs.Laws.{text_after_all, RecordGivesTheText, EmptyGroupLeavesNothing, RedoGivesTheTextBack}
 use Rattle.line_record.proofs.StoredLemmas.{text_of-holding}

@@ -1,13 +1,11 @@
 -- The record of texts, computed at some runs of events.
 use Rattle.std.proofs.Common.{◌≡◌, ℕ, true, false, List, [], ◌∷◌, None, refl, codes}
 use Rattle.unicode_segmentation.proofs.Computing.{unicode_segmentation}
-use Rattle.line_buffer.specs.Event.{ChangeEvent}
-use Rattle.line_buffer.specs.Event.ChangeEvent.{Delete, InsertChar, InsertStr, Replace}
+use Rattle.line_buffer.specs.Event.{ChangeEvent, ChangeEvent.Delete, ChangeEvent.InsertChar, ChangeEvent.InsertStr, ChangeEvent.Replace}
 use Rattle.line_buffer.specs.Line.{Line}
 use Rattle.line_buffer.specs.declared.types.Direction.TheVariants.{Forward, Backward}
 use Rattle.line_record.specs.Change.Change.{Inserted, Deleted, Replaced}
-use Rattle.line_record.specs.Held.{HeldItem, line_back, ahead_back, line_ahead, record_after_close, closes, last_inserted}
-use Rattle.line_record.specs.Held.HeldItem.{Opened, Stepped}
+use Rattle.line_record.specs.Held.{HeldItem, line_back, ahead_back, line_ahead, record_after_close, closes, last_inserted, HeldItem.Opened, HeldItem.Stepped}
 use Rattle.line_record.specs.RecordCourse.{record_after_events}
 
 abbrev at : List ℕ → ℕ → Line

@@ -5,11 +5,9 @@ use Rattle.std.proofs.lemmas.Option.{slice_get-get_or}
 use Rattle.std.proofs.Math.Seq.{take-nil, take-append_seam, drop-append_seam, get_or-append_seam, set-append_seam}
 use Rattle.std.proofs.lemmas.Bool.{eqb-true}
 use Rattle.std.proofs.lemmas.Bool.Decides.{nat_tests}
-use Rattle.line_buffer.specs.Event.{ChangeEvent}
-use Rattle.line_buffer.specs.Event.ChangeEvent.{StartKilling, StopKilling, Delete}
+use Rattle.line_buffer.specs.Event.{ChangeEvent, ChangeEvent.StartKilling, ChangeEvent.StopKilling, ChangeEvent.Delete}
 use Rattle.line_buffer.specs.declared.types.Mode.{Mode}
-use Rattle.line_record.specs.declared.kill_ring.Action.{Action}
-use Rattle.line_record.specs.declared.kill_ring.Action.TheVariants.{Other, Kill, Yank}
+use Rattle.line_record.specs.declared.kill_ring.Action.{Action, TheVariants.Other, TheVariants.Kill, TheVariants.Yank}
 use Rattle.line_record.specs.Ring.{RingCall, Kills, no_kills, run_with, kill_taken, kills_after, ring_after, Ring, new_ring, joined_text, slot_after, slots_with_text, ring_with_kill, ring_with_kill_after, mode_of, ring_after_yank, ring_step}
 use Rattle.line_record.specs.Ring.RingCall.{Taken, Heard, Ended, Lent}
 use Rattle.line_record.specs.Laws.{RingHoldsTheLastRuns}

@@ -1,8 +1,7 @@
 -- A record that is undone altogether gives the text that it began on.
 use Rattle.std.proofs.Common.{◌≡◌, ℕ, zero, suc, Bool, true, false, List, [], ◌∷◌, length, drop, Option, Some, None, refl, sym, ap, subst, ◌∙◌, if◌then◌else◌}
 use Rattle.std.specs.Prelude.{option_map, unwrap_or, slice_get}
-use Rattle.line_buffer.specs.Event.{ChangeEvent, text_after_event}
-use Rattle.line_buffer.specs.Event.ChangeEvent.{StartKilling, StopKilling}
+use Rattle.line_buffer.specs.Event.{ChangeEvent, text_after_event, ChangeEvent.StartKilling, ChangeEvent.StopKilling}
 use Rattle.line_record.specs.Change.{Change}
 use Rattle.line_record.specs.Held.{HeldItem, Undone, text_of, change_of, join_of, step_of, has_mark, closes, group_with_change, record_after_close, text_back, ahead_back, record_ahead}
 use Rattle.line_record.specs.Held.HeldItem.{Opened, Stepped}

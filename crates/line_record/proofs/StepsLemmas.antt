@@ -5,13 +5,11 @@ use Rattle.std.specs.Prelude.{slice_range, is_some, slice_get, option_map, ⊤, 
 use Rattle.std.proofs.lemmas.Bool.Decides.{nat_tests}
 use Rattle.std.proofs.lemmas.List.{take-take, take_min, take_at, drop_at, take-map, drop-map, get_or-map, get_or-take, get_or-drop, length-map, length-append, length-take, length-drop, length-take-le, reverse-append, take_more, take_more_set, drop-drop}
 use Rattle.line_record.specs.declared.steps.Step.{Step}
-use Rattle.line_record.specs.Change.{Change}
+use Rattle.line_record.specs.Change.{Change, Change.Inserted}
 use Rattle.line_buffer.specs.Event.{ChangeEvent}
-use Rattle.line_record.specs.Change.Change.{Inserted}
 use Rattle.line_record.specs.Held.{join_of, text_inserted_by}
 use Rattle.line_record.specs.Log.{join_at, Adjoin, items_in, AreSteps, item_from, item_inserted, is_open}
-use Rattle.line_record.specs.Items.{Item, changes_of, changes_of_all, group_of, join_of_items}
-use Rattle.line_record.specs.Items.Item.{Open, Lone}
+use Rattle.line_record.specs.Items.{Item, changes_of, changes_of_all, group_of, join_of_items, Item.Open, Item.Lone}
 use Rattle.line_record.proofs.EndLemmas.{changes_of-item_from, group_pushed}
 use Rattle.line_record.proofs.LogLemmas.{joined_at_is}
 use Rattle.line_record.proofs.StoredLemmas.{before_last, inserted_last}

@@ -3,8 +3,7 @@ use Rattle.std.proofs.Common.{◌≡◌, ℕ, zero, suc, ◌-◌, ◌<◌, Bool,
 use Rattle.std.proofs.Math.Seq.{take-suc, take-length}
 use Rattle.line_record.specs.Change.{Change}
 use Rattle.line_record.specs.Held.{text_of, text_back, text_inserted_by, HeldItem}
-use Rattle.line_record.specs.Items.{Item, before_item, item_with_text, items_with_texts, DoneStand, Items, ItemsStand, record_on}
-use Rattle.line_record.specs.Items.Item.{Open}
+use Rattle.line_record.specs.Items.{Item, before_item, item_with_text, items_with_texts, DoneStand, Items, ItemsStand, record_on, Item.Open}
 use Rattle.line_record.specs.Log.{item_from, item_inserted}
 use Rattle.line_record.proofs.EndLemmas.{newest_of-append}
 use Rattle.line_record.proofs.StepLemmas.{first_items}

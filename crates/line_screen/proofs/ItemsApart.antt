@@ -18,8 +18,7 @@ use Rattle.line_buffer.proofs.JoinLemmas.{next_alone, cut-some, cut-join}
 use Rattle.line_buffer.proofs.ListedRanges.{apart}
 use Rattle.line_editor.specs.Characters.{is_apart, ends_apart, stands_apart, starts_apart, begins_apart}
 use Rattle.line_screen.specs.Display.{is_printable}
-use Rattle.line_screen.specs.Drawing.{DrawnItem, Widths, drawn_item, row_items, join_rows, split_rows, text_items}
-use Rattle.line_screen.specs.Drawing.DrawnItem.{NewRow, Letter}
+use Rattle.line_screen.specs.Drawing.{DrawnItem, Widths, drawn_item, row_items, join_rows, split_rows, text_items, DrawnItem.NewRow, DrawnItem.Letter}
 use Rattle.line_screen.proofs.ApartLemmas.{breaks, cut_from, clusters_apart, apart_scalar}
 use Rattle.line_screen.proofs.Draws.{list_all_since}
 use Rattle.line_screen.proofs.EncodedChars.{encode_one, encode_two, encode_three, encode_four}

@@ -7,8 +7,7 @@ use Rattle.std.proofs.lemmas.List.Folds.{list_all-append}
 use Rattle.line_buffer.specs.declared.layout.Position.{Position}
 use Rattle.line_buffer.specs.Width.{tab_width}
 use Rattle.line_screen.specs.Display.{Placed, cluster_placed_at, right}
-use Rattle.line_screen.specs.Drawing.{DrawnItem, next_row, fit, leave, after_one, place_after, lay_one, blanks, lay_run}
-use Rattle.line_screen.specs.Drawing.DrawnItem.{NewRow, Letter, Cluster, Tab}
+use Rattle.line_screen.specs.Drawing.{DrawnItem, next_row, fit, leave, after_one, place_after, lay_one, blanks, lay_run, DrawnItem.NewRow, DrawnItem.Letter, DrawnItem.Cluster, DrawnItem.Tab}
 use Rattle.line_screen.specs.StyledTexts.{StyledItem, lay}
 use Rattle.line_screen.proofs.Draws.{list_all_since, Fits, AllFit}
 

@@ -10,8 +10,7 @@ use Rattle.line_buffer.specs.Printable.{is_printable}
 use Rattle.line_buffer.specs.declared.layout.Position.{Position}
 use Rattle.line_screen.specs.Chain.{above, from_top}
 use Rattle.line_screen.specs.Display.{Placed, cluster_placed_at, Display, reading_after_bytes, start, right, ends_before, is_uncut, put_cells, placed_in, touches}
-use Rattle.line_screen.specs.Drawing.{DrawnItem, next_row, leave, place_after, lay_run}
-use Rattle.line_screen.specs.Drawing.DrawnItem.{NewRow, Letter}
+use Rattle.line_screen.specs.Drawing.{DrawnItem, next_row, leave, place_after, lay_run, DrawnItem.NewRow, DrawnItem.Letter}
 use Rattle.line_screen.specs.StyledTexts.{StyledItem, lay}
 use Rattle.line_screen.proofs.Draws.{D, list_all_since, apart_uncut, ends_apart, ends_right, ends_itself}
 use Rattle.line_screen.proofs.Ends.{plain_letters, row_after}

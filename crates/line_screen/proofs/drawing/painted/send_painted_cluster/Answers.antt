@@ -1,8 +1,7 @@
 -- A cluster that is no letter and no tab.
 use Rattle.std.proofs.Common.{Bool, ℕ, Option, None, ◌≡◌, ◌∙◌, sym, subst, if◌then◌else◌, [], ◌∷◌}
 use Rattle.std.specs.Prelude.{slice_index}
-use Rattle.line_screen.specs.Drawing.{DrawnItem, drawn_cluster, item_of_cluster}
-use Rattle.line_screen.specs.Drawing.DrawnItem.{Letter}
+use Rattle.line_screen.specs.Drawing.{DrawnItem, drawn_cluster, item_of_cluster, DrawnItem.Letter}
 use Rattle.line_screen.specs.Measure.{cluster_width}
 use Rattle.line_screen.specs.Styles.{numbers}
 use Rattle.line_screen.specs.Colours.{painted_item, SendsPainted}

@@ -1,8 +1,7 @@
 use Rattle.std.proofs.Common.{List, ◌∙◌, subst}
 use Rattle.line_screen.specs.Styles.{numbers}
 use Rattle.line_screen.specs.Drawing.DrawnItem.{Tab}
-use Rattle.line_screen.specs.Colours.{PaintedItem, SendsPainted}
-use Rattle.line_screen.specs.Colours.PaintedItem.{Bare, Padded}
+use Rattle.line_screen.specs.Colours.{PaintedItem, SendsPainted, PaintedItem.Bare, PaintedItem.Padded}
 use Rattle.line_screen.proofs.StyleLemmas.{plain_none}
 use Rattle.line_screen.proofs.PaintRuns.{sends_one, bare_item, padded_item}
 use Rattle.line_screen.proofs.drawing.painted.send_painted_tab.Goals as goal

@@ -3,8 +3,7 @@ use Rattle.std.proofs.Common.{List, ◌++◌, map, subst, ◌∙◌}
 use Rattle.line_screen.proofs.StyleLemmas.{plain_none}
 use Rattle.line_screen.specs.Styles.{numbers}
 use Rattle.line_screen.specs.Drawing.{no_style}
-use Rattle.line_screen.specs.Colours.{end_of, PaintedItem, style_bytes, bytes_of_all_painted, SendsPainted}
-use Rattle.line_screen.specs.Colours.PaintedItem.{Shaded}
+use Rattle.line_screen.specs.Colours.{end_of, PaintedItem, style_bytes, bytes_of_all_painted, SendsPainted, PaintedItem.Shaded}
 use Rattle.line_screen.specs.Drawing.DrawnItem.{Letter}
 use Rattle.line_screen.proofs.PaintRuns.{sends_framed, sends_items, shaded_none}
 use Rattle.line_screen.proofs.Sendings.{sends_to_then, sends_to_cut}
