@@ -76,7 +76,8 @@ fn refused(alloc: Global, error: &Error) -> Parsed
 }
 
 fn try_parse<'a, S: AsStr>(alloc: Global, words: &'a [S]) -> Result<Options, Error>
-    ensures gives { MatchResult result (λ options. ParsesTo (map S.text words.now) (Parsed.Run options))
+    ensures gives { MatchResult result
+        (λ options. ParsesTo (map S.text words.now) (Parsed.Run options))
         (λ error. FailsBy (map S.text words.now) (kind_of error)) }
     ensures columns { IfOk result (λ options. (2 ≤ options.columns) × (options.columns ≤ 1000)) }
 {

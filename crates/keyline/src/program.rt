@@ -216,8 +216,8 @@ pub fn edit_with<
 /// `K` says which bytes the reader, as it is passed in, is assumed to give. If what its reads gave
 /// agrees with them, the session is that of these bytes, and the writers got its display bytes and
 /// its lines. The devices are made in boxes, and return so. The history's text is made only if the
-/// options name a file for it. An error means that the session was not opened: the text isn't UTF-8,
-/// or memory ran out. Then reader and writers come back, and no call of them was made.
+/// options name a file for it. An error means that the session was not opened: the text isn't
+/// UTF-8, or memory ran out. Then reader and writers come back, and no call of them was made.
 pub fn play<'a, K: Foretold<R>, R: Read + Drop, E: Write + Drop, W: Write + Drop>(
     alloc: Global,
     options: &Options,

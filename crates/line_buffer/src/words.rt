@@ -150,8 +150,8 @@ fn word_upto(word: Word, bytes: &[u8]) -> usize
     }
 }
 
-/// The last clusters of a text, of one kind: where they start, and the kind. The bytes of a word are
-/// clusters each, except the first if it may be joined to what stands before it.
+/// The last clusters of a text, of one kind: where they start, and the kind. The bytes of a word
+/// are clusters each, except the first if it may be joined to what stands before it.
 fn last_run(text: &str, word: Word) -> Option<(usize, ClusterKind)>
     ensures { MatchOption result (length text.now ≡ 0)
         (λ run. Words.EndsInRun word text.now run.0 run.1) }

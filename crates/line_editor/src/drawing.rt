@@ -60,7 +60,8 @@ fn marked_by<H: Helper>(
 
 /// Whether nothing is shown after the line, and a character after the cursor doesn't fill the row.
 fn may_type<Out: Renderer>(out: &Out, layout: &Layout) -> bool
-    ensures value { result ≡ may_write_over (Out.canvas.ruler out.now) layout.now layout.now.cursor 1 }
+    ensures value { result
+        ≡ may_write_over (Out.canvas.ruler out.now) layout.now layout.now.cursor 1 }
     ensures room { IsTrue result → layout.now.cursor.col + 1 ≤ 65535 }
 {
     let columns = out.get_columns();
@@ -133,8 +134,8 @@ fn may_take_out<Out: Renderer>(
         && is_printable_text(rest)
 }
 
-/// Whether nothing is shown after the line, and `count` letters written from a cell on don't fill its
-/// row.
+/// Whether nothing is shown after the line, and `count` letters written from a cell on don't fill
+/// its row.
 fn may_write_over<Out: Renderer>(out: &Out, layout: &Layout, at: Position, count: usize) -> bool
     ensures value { result ≡ may_write_over (Out.canvas.ruler out.now) layout.now at count }
     ensures room { IsTrue result → at.col + count < (Out.canvas.ruler out.now).columns }
@@ -358,7 +359,8 @@ impl<'p, 'h, Out: Renderer, H: Helper + Drop, Hi: History> State<'p, 'h, Out, H,
 
     /// Moves the display's cursor to the text's cursor.
     pub(crate) fn show_cursor(&mut self) -> Result<(), ReadlineError>
-        ensures { Renders (λ s v. draw_effect (Moved v.line.text v.line.place) s v) self.old self.new result }
+        ensures { Renders (λ s v. draw_effect (Moved v.line.text v.line.place) s v) self.old
+            self.new result }
     {
         let pos = self.recorded.line.pos();
         let cursor = self.position_at(pos);
@@ -570,8 +572,8 @@ impl<'p, 'h, Out: Renderer, H: Helper + Drop, Hi: History> State<'p, 'h, Out, H,
     }
 
     /// Shows that printable characters of a plain line were replaced by as many: they are written
-    /// over the old ones, if they don't fill their row and nothing is shown after the line. Else the
-    /// line is drawn from them on.
+    /// over the old ones, if they don't fill their row and nothing is shown after the line. Else
+    /// the line is drawn from them on.
     pub(crate) fn show_rewritten(&mut self, from: usize, upto: usize) -> Result<(), ReadlineError>
         requires bare { is_bare (value_of self.old) ≡ true }
         requires order { from ≤ upto }

@@ -116,8 +116,8 @@ impl<'p, 'h, Out: Renderer, H: Helper + Drop, Hi: History> State<'p, 'h, Out, H,
         Ok(())
     }
 
-    /// Draws the line with the current hint: from a place on if a change left the line and its styles
-    /// up to there and it may be drawn so, else in full.
+    /// Draws the line with the current hint: from a place on if a change left the line and its
+    /// styles up to there and it may be drawn so, else in full.
     pub(crate) fn draw_since(&mut self, since: &Option<Since<'_>>) -> Result<(), ReadlineError>
         ensures { Renders (draw_effect_since since.now) self.old self.new result }
     {

@@ -118,8 +118,8 @@ impl<'p, 'h, Out: Renderer, H: Helper + Drop, Hi: History> State<'p, 'h, Out, H,
         if self.is_bare() { way } else { Way::Whole }
     }
 
-    /// Shows an inserted character in this way, if the line is still bare, with a new hint. Else the
-    /// line is drawn, from a place on if it may be.
+    /// Shows an inserted character in this way, if the line is still bare, with a new hint. Else
+    /// the line is drawn, from a place on if it may be.
     fn show_inserted(
         &mut self,
         ch: char,

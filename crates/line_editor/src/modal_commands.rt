@@ -67,7 +67,8 @@ impl<'p, 'h, Out: Renderer, H: Helper + Drop, Hi: History> State<'p, 'h, Out, H,
     /// The same in place of the last entry that was found.
     fn put_hit(&mut self, put: bool, entry: &str, pos: usize) -> Result<(), ReadlineError>
         requires { IsCharBoundary entry.now pos }
-        ensures does { Does (then_do (hit_undo_effect put) (edit_effect (update_group entry.now pos)))
+        ensures does { Does
+            (then_do (hit_undo_effect put) (edit_effect (update_group entry.now pos)))
             self.old self.new result }
     {
         self.take_hit_back(put)?;
@@ -162,8 +163,8 @@ impl<'p, 'h, Out: Renderer, H: Helper + Drop, Hi: History> State<'p, 'h, Out, H,
     fn search_typed(&mut self, modal: &mut ModalState, c: char) -> Result<(), ReadlineError>
         ensures does { Does (λ a v. (looks_typed c (modal_of modal.old) a v).effect) self.old
             self.new result }
-        ensures modal { OnOk result (modal_of modal.new
-            ≡ (looks_typed c (modal_of modal.old) (setting_of self.old) (value_of self.old)).modal) }
+        ensures modal { OnOk result (modal_of modal.new ≡ (looks_typed
+            c (modal_of modal.old) (setting_of self.old) (value_of self.old)).modal) }
         ensures query { (modal_of modal.new ≡ modal_of modal.old)
             ⊎ (string_bytes modal.new.query ≡ (modal_with_char c (modal_of modal.old)).query) }
     {
@@ -435,8 +436,8 @@ impl<'p, 'h, Out: Renderer, H: Helper + Drop, Hi: History> State<'p, 'h, Out, H,
         }
     }
 
-    /// A command before it is done: what goes on between commands makes of it, and which one is done
-    /// in its place.
+    /// A command before it is done: what goes on between commands makes of it, and which one is
+    /// done in its place.
     pub(crate) fn meet(
         &mut self,
         modal: &mut ModalState,

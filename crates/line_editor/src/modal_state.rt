@@ -204,7 +204,8 @@ pub(crate) fn cycle_at(dir: SearchDirection, at: usize, count: usize) -> usize
 
 /// A text without its last character.
 fn drop_last(text: &mut String)
-    ensures { string_bytes text.new ≡ (let old = string_bytes text.old in take (last_char old) old) }
+    ensures { string_bytes text.new
+        ≡ (let old = string_bytes text.old in take (last_char old) old) }
 {
     match text.pop() {
         Some(last) => {

@@ -78,8 +78,8 @@ pub trait Renderer: Drop {
         ensures { Makes canvas (MoveAndClearToEol old new) self.old self.new result };
 
     /// Writes a character in a cell that is opened at the cursor, in `old`. The letters after it,
-    /// `rest`, move on by a cell, over rows if needed, so that the drawing ends at `end`. The cursor
-    /// goes to `new`, behind the character.
+    /// `rest`, move on by a cell, over rows if needed, so that the drawing ends at `end`. The
+    /// cursor goes to `new`, behind the character.
     fn insert_char(
         &mut self,
         ch: char,
@@ -113,9 +113,9 @@ pub trait Renderer: Drop {
         ensures makes { Makes canvas (Append text.now at) self.old self.new result }
         ensures end { IfOk result (λ end. end ≡ (canvas.ruler self.old).measure text.now at) };
 
-    /// Moves the cursor from `old` to `at`, a cell inside the drawing, and draws the line's text from
-    /// the place `from` on, and the hint or message after it, in place of everything from there on.
-    /// Then the cursor goes to its place in the new layout.
+    /// Moves the cursor from `old` to `at`, a cell inside the drawing, and draws the line's text
+    /// from the place `from` on, and the hint or message after it, in place of everything from
+    /// there on. Then the cursor goes to its place in the new layout.
     ///
     /// A highlighter is given if the display has colours. The text has the line's styles if it is
     /// `marked`. The text after the line is a message if `told`, else a hint.

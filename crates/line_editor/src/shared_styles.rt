@@ -13,8 +13,8 @@ const MOST_SPANS: usize = 64;
 /// The first spans of a line, up to a place. Those that are missing are plain.
 pub(crate) type FirstSpans = [Span; MOST_SPANS];
 
-/// The place up to which a change leaves a line, and the first spans of the line before it, if it is
-/// drawn with styles.
+/// The place up to which a change leaves a line, and the first spans of the line before it, if it
+/// is drawn with styles.
 #[derive(Drop)]
 pub(crate) struct Since<'a> {
     from: usize,

@@ -111,7 +111,8 @@ impl<'b, D: Decides> InputState<'b, D> {
         wrt: &mut W,
         key: KeyEvent,
     ) -> Result<Cmd, ReadlineError>
-        ensures phrase { FollowsOn (λ custom input shown. phrase_from input.mode custom input shown key)
+        ensures phrase { FollowsOn
+            (λ custom input shown. phrase_from input.mode custom input shown key)
             self.old self.new D.decides W.display wrt.old wrt.new
             (R.feed rdr.old) (R.feed rdr.new) result }
         ensures asks { AsksInOrder R.asked IsLater rdr.old rdr.new }

@@ -63,7 +63,8 @@ impl Changeset {
     /// marks.
     pub fn begin(&mut self, alloc: Global) -> Result<usize, OutOfMemory>
         ensures answer { IfOk result (λ n. (text : List ℕ) → n ≡ length (record_on self.old text)) }
-        ensures value { OnOk result (self.new ≡ record { done = Open ∷ self.old.done; undone = [] }) }
+        ensures value { OnOk result
+            (self.new ≡ record { done = Open ∷ self.old.done; undone = [] }) }
         ensures kept { OnErr result (self.new ≡ self.old) }
     {
         let before = self.done;

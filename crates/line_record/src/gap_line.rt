@@ -52,7 +52,8 @@ impl GapLine {
 
     /// Replaces a line's text and cursor by these.
     pub fn write(self, alloc: Global, line: &mut LineBuffer) -> Result<(), OutOfMemory>
-        ensures line { OnOk result (line.new ≡ record line.old { text = self.text; place = self.place }) }
+        ensures line { OnOk result
+            (line.new ≡ record line.old { text = self.text; place = self.place }) }
         ensures kept { OnErr result (line.new ≡ line.old) }
     {
         let mut before = self.before;

@@ -202,8 +202,8 @@ impl<D: Sink + Drop> Renderer for ScreenRenderer<D> {
         answer(draw_behind(&mut self.sink, self.grid, at, text))
     }
 
-    /// If the column of `at` isn't one of the screen's, the rest is drawn as from the first one. All
-    /// bytes are passed on together.
+    /// If the column of `at` isn't one of the screen's, the rest is drawn as from the first one.
+    /// All bytes are passed on together.
     fn refresh_rest<H: Highlighter>(
         &mut self,
         line: &LineBuffer,
@@ -284,8 +284,8 @@ impl<D: Sink + Drop> Renderer for ScreenRenderer<D> {
     }
 }
 
-/// The texts of a line, with a highlighter's styles if there is one: the line's own if it is marked,
-/// and after it those of a hint, or of a message if `told`.
+/// The texts of a line, with a highlighter's styles if there is one: the line's own if it is
+/// marked, and after it those of a hint, or of a message if `told`.
 fn painting_of<'a, H: Highlighter>(
     highlighter: Option<&'a H>,
     marked: bool,

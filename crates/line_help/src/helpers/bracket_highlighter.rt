@@ -135,8 +135,8 @@ impl Highlighter for MatchingBracketHighlighter {
         self.bracket.is_some()
     }
 
-    /// Up to the match of the bracket at the cursor a span is plain, and the match is bold and blue.
-    /// A kept bracket changes no span.
+    /// Up to the match of the bracket at the cursor a span is plain, and the match is bold and
+    /// blue. A kept bracket changes no span.
     fn next_span(&self, part: Part, text: &str, from: Mark) -> Option<(Span, Mark)> {
         match part {
             Part::Line(pos) => match_span(text, pos, from),

@@ -75,8 +75,8 @@ pub trait Highlighter {
         ensures kept { kept self.old self.new };
 
     /// The next span of a text in a part of a drawing, and the mark after it; `None` if the rest of
-    /// the text has no style. `from` is `Mark::first()`, or the mark that came with the span before.
-    /// The answer depends only on the part, the text and the mark. A line in which
+    /// the text has no style. `from` is `Mark::first()`, or the mark that came with the span
+    /// before. The answer depends only on the part, the text and the mark. A line in which
     /// `highlight_char` highlights nothing is drawn without its spans.
     fn next_span(&self, part: Part, text: &str, from: Mark) -> Option<(Span, Mark)>
         ensures { IsNextSpan ((marks self.now).paints part text.now) from result };

@@ -48,7 +48,8 @@ impl<D: Decides> InputState<'_, D> {
         self.bound_key(alloc, wrt, key, count)
     }
 
-    /// The same, looked up in the bindings. Not inlined, so that a key costs little if there are none.
+    /// The same, looked up in the bindings. Not inlined, so that a key costs little if there are
+    /// none.
     #[inline(never)]
     fn bound_key<W: Refresher>(
         &self,

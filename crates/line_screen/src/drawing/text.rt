@@ -56,7 +56,8 @@ pub(crate) fn make_room<D: Sink>(
 /// The text of a cluster between two sequences without effect. A cluster of two or three bytes, as
 /// most letters have, is one write.
 fn send_fenced<D: Sink>(sink: &mut D, cluster: &str) -> Result<(), DeviceFailed>
-    ensures { Sends D.held D.has_failed (no_style ++ cluster.now ++ no_style) sink.old sink.new result }
+    ensures { Sends D.held D.has_failed (no_style ++ cluster.now ++ no_style)
+        sink.old sink.new result }
 {
     let bytes = cluster.as_bytes();
     if let [a, b] = *bytes {
