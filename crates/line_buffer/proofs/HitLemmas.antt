@@ -27,7 +27,8 @@ pub places_of-cons : (c : ℕ) (x : ℕ × ℕ) (xs : List (ℕ × ℕ)) → pla
 places_of-cons c x xs = ⊎_elim (λ (t : (x.1 == c) ≡ true). rw t) (λ (t : (x.1 == c) ≡ false). rw t) (cases_Bool (x.1 == c))
 
 pub places_of-append : (c : ℕ) (xs ys : List (ℕ × ℕ)) → places_of c (xs ++ ys) ≡ places_of c xs ++ places_of c ys
-places_of-append c xs ys = ap (map (λ x. x.0)) (filter-append (λ x. x.1 == c) xs ys) ∙ map-append (λ x. x.0) (filter (λ x. x.1 == c) xs) (filter (λ x. x.1 == c) ys)
+places_of-append c xs ys =
+    ap (map (λ x. x.0)) (filter-append (λ x. x.1 == c) xs ys) ∙ map-append (λ x. x.0) (filter (λ x. x.1 == c) xs) (filter (λ x. x.1 == c) ys)
 
 pub chars_placed-snoc : (at : ℕ) (cs : List ℕ) (c : ℕ) → chars_placed at (cs ++ c ∷ []) ≡ chars_placed at cs ++ (at + length (encode_utf8_all cs), c) ∷ []
 unfolding chars_placed

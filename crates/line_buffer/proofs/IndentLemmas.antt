@@ -90,5 +90,7 @@ pub rows_more : (xs : List ℕ) → prefix_len is_in_row xs < length xs → rows
 rows_more xs h =
     let n : ℕ = prefix_len is_in_row xs in
     let in_row : All (λ byte. (byte == 10) ≡ false) (take n xs) =
-    λ k d l. let low : k < n = omega (arith, l, length-take n xs) in ap (λ byte. byte == 10) (get_or-take n xs k d low) ∙ not-true _ (prefix_len_passes is_in_row xs k d low) in
-    ap rows_of (split_at_newline xs n h (is_newline _ (prefix_len_stops is_in_row xs 0 h))) ∙ slice_split_at (λ byte. byte == 10) (take n xs) 10 (drop (n + 1) xs) in_row refl
+    λ k d l. let low : k < n = omega (arith, l, length-take n xs) in
+    ap (λ byte. byte == 10) (get_or-take n xs k d low) ∙ not-true _ (prefix_len_passes is_in_row xs k d low) in
+    ap rows_of (split_at_newline xs n h (is_newline _ (prefix_len_stops is_in_row xs 0 h)))
+    ∙ slice_split_at (λ byte. byte == 10) (take n xs) 10 (drop (n + 1) xs) in_row refl

@@ -63,7 +63,8 @@ unfolding unicode_segmentation
 printable_class c h =
     let bounds = printable_bounds c h in
     grapheme_cluster_break_number_injective _ _ (eqb-true _ _ (implied (nat_le 32 c) _ (le-leb 32 c bounds.0)
-    (Stepped-below grapheme_cluster_break grapheme_cluster_break_stepped (λ x v. not (nat_le 32 x) || (grapheme_cluster_break_number v == 12)) 127 refl c bounds.1)))
+    (Stepped-below grapheme_cluster_break grapheme_cluster_break_stepped (λ x v. not (nat_le 32 x) || (grapheme_cluster_break_number v == 12))
+    127 refl c bounds.1)))
 
 printable-breaks : (c : ℕ) (before : List ℕ) (d : ℕ) (after : List ℕ) → is_printable c ≡ true → is_printable d ≡ true → is_grapheme_break true (c ∷ before) (d ∷ after) ≡ true
 printable-breaks c before d after p q =

@@ -48,14 +48,18 @@ links _ = false
 all_extending : (c : ℕ) → (not (extends (indic_conjunct_break c)) || joins_before (grapheme_cluster_break c)) ≡ true
 unfolding tables indic_conjunct_break_stepped grapheme_cluster_break_stepped
 all_extending =
-    Stepped-everywhere _ (zip_stepped (λ i g. not (extends i) || joins_before g) indic_conjunct_break grapheme_cluster_break indic_conjunct_break_stepped grapheme_cluster_break_stepped) refl
+    Stepped-everywhere _
+    (zip_stepped (λ i g. not (extends i) || joins_before g) indic_conjunct_break grapheme_cluster_break
+    indic_conjunct_break_stepped grapheme_cluster_break_stepped) refl
 
 all_dull : (c : ℕ) → (not (is_control (grapheme_cluster_break c)) || (not (links (indic_conjunct_break c)) && not (is_extended_pictographic c))) ≡ true
 unfolding tables indic_conjunct_break_stepped grapheme_cluster_break_stepped is_extended_pictographic_stepped
 all_dull =
     Stepped-everywhere _
-    (zip_stepped (λ g b. not (is_control g) || b) grapheme_cluster_break (λ c. not (links (indic_conjunct_break c)) && not (is_extended_pictographic c)) grapheme_cluster_break_stepped
-    (zip_stepped (λ i p. not (links i) && not p) indic_conjunct_break is_extended_pictographic indic_conjunct_break_stepped is_extended_pictographic_stepped)) refl
+    (zip_stepped (λ g b. not (is_control g) || b) grapheme_cluster_break (λ c. not (links (indic_conjunct_break c)) && not (is_extended_pictographic c))
+    grapheme_cluster_break_stepped
+    (zip_stepped (λ i p. not (links i) && not p) indic_conjunct_break is_extended_pictographic
+    indic_conjunct_break_stepped is_extended_pictographic_stepped)) refl
 
 -- such a character is joined to what stands before it, unless that is a control character
 after_control : (v w : GraphemeClusterBreak) (b : Bool) → joins_before w ≡ true → unwrap_or (break_by_pair true v w) b ≡ true → is_control v ≡ true
@@ -127,7 +131,8 @@ nothing_seen c x before rest h = record {
         → (is_regional v && not (ends_in_half_flag before)) ≡ false
     half Gcb.RegionalIndicator e k r =
         ap (λ v. is_regional v && not (ends_in_half_flag before)) (sym e)
-        ∙ first_false (ends_in_half_flag (c ∷ before)) (is_regional (grapheme_cluster_break x)) (ap is_regional r) (or_parts _ (joins_flag (c ∷ before) x) (not-true _ k)).1
+        ∙ first_false (ends_in_half_flag (c ∷ before)) (is_regional (grapheme_cluster_break x)) (ap is_regional r)
+        (or_parts _ (joins_flag (c ∷ before) x) (not-true _ k)).1
     half _ e k r = refl
 
     flagged : (w : GraphemeClusterBreak) → grapheme_cluster_break x ≡ w → (is_regional w && not (ends_in_half_flag (c ∷ before))) ≡ (is_regional w && not (ends_in_half_flag []))

@@ -24,4 +24,5 @@ row_end-boundary text at b = elim (prefix_len-stops (drop at text)) [
 pub row_start-boundary : (text : List ℕ) (at : ℕ) → IsUtf8 text → IsCharBoundary text at → IsCharBoundary text (row_start text at)
 row_start-boundary text at u b =
     let last = opens_from (take at text) (row_start text at) (omega (arith, length-take-le at text b.0)) in
-    behind_newline text (row_start text at) u (λ l. (omega (arith, l, b.0), sym (get_or-take at text (row_start text at - 1) 0 (omega (arith, l))) ∙ last.newline l))
+    behind_newline text (row_start text at) u
+    (λ l. (omega (arith, l, b.0), sym (get_or-take at text (row_start text at - 1) 0 (omega (arith, l))) ∙ last.newline l))

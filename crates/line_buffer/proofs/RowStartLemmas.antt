@@ -60,11 +60,14 @@ finds_row_end text bytes end same fits newline in_row =
     })
   where
     inside : (k : ℕ) → k < end → is_in_row (get_or bytes k 0) ≡ true
-    inside k l = ap is_in_row (sym (get_or-take end bytes k 0 l)) ∙ AllPass-from_list_all is_in_row (take end bytes) in_row k 0 (omega (arith, l, length-take-le end bytes fits))
+    inside k l =
+        ap is_in_row (sym (get_or-take end bytes k 0 l))
+        ∙ AllPass-from_list_all is_in_row (take end bytes) in_row k 0 (omega (arith, l, length-take-le end bytes fits))
 
 pub row_close_some : (bs : List ℕ) (k : ℕ) → (k < length bs) × (get_or bs k 0 ≡ 10) × ((i : ℕ) → i < k → get_or bs i 0 ≢ 10) → row_close bs 0 ≡ k + 1
 row_close_some bs k h =
-    let len = prefix_len_is is_in_row bs k 0 (omega (arith, h.0)) (λ i l. ap not (ne_eqb _ 10 (h.2 i l))) (λ l. ap not (eq-eqb _ 10 h.1)) in omega (arith, len, h.0)
+    let len = prefix_len_is is_in_row bs k 0 (omega (arith, h.0)) (λ i l. ap not (ne_eqb _ 10 (h.2 i l))) (λ l. ap not (eq-eqb _ 10 h.1)) in
+    omega (arith, len, h.0)
 
 pub row_close_none : (bs : List ℕ) → ((i : ℕ) → i < length bs → get_or bs i 0 ≢ 10) → row_close bs 0 ≡ length bs
 row_close_none bs h =

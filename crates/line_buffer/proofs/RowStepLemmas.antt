@@ -20,7 +20,11 @@ pub row_events-some : (margin : List ℕ) (dedent : Bool) (at : ℕ) (text : Lis
     → (never : List ChangeEvent) × (row_events margin dedent at (rows_of text) ≡ row_event margin dedent at (take (prefix_len is_in_row text) text) ∷ never)
 unfolding row_events
 row_events-some margin dedent at text = elim (prefix_len-stops text) [
-  | inl e ↦ ([], ap (row_events margin dedent at) (rows_last text e) ∙ ap (λ x. row_event margin dedent at x ∷ []) (sym (take_all (prefix_len is_in_row text) text (omega (arith, e)))))
+  | inl e ↦ (
+    [],
+    ap (row_events margin dedent at) (rows_last text e)
+        ∙ ap (λ x. row_event margin dedent at x ∷ []) (sym (take_all (prefix_len is_in_row text) text (omega (arith, e)))),
+  )
   | inr h ↦ (_, ap (row_events margin dedent at) (rows_more text h.0))
 ]
 

@@ -114,7 +114,8 @@ module _ (l : Line) (u : IsUtf8 l.text) (b : IsCharBoundary l.text l.place) wher
       mapped (λ i. from_cursor (i + length (encode_utf8 c)) l) (λ i. IsHitAt c i × (l.place ≤ i)) (IsSpanOf l.text) (hit_forward c n l)
       (λ i h. record { order = omega (arith, h.1); start = b; end = h.0.end }) (hit_forward-part c n)
   search_spans n (ForwardBefore c) =
-      mapped (λ i. from_cursor i l) (λ i. IsHitAt c i × (l.place ≤ i)) (IsSpanOf l.text) (hit_forward c n l) (λ i h. record { order = h.1; start = b; end = h.0.start }) (hit_forward-part c n)
+      mapped (λ i. from_cursor i l) (λ i. IsHitAt c i × (l.place ≤ i)) (IsSpanOf l.text) (hit_forward c n l)
+      (λ i h. record { order = h.1; start = b; end = h.0.start }) (hit_forward-part c n)
   search_spans n (BackOnto c) =
       mapped (λ i. up_to_cursor i l) (λ i. IsHitAt c i × (i + length (encode_utf8 c) ≤ l.place)) (IsSpanOf l.text) (hit_backward c n l)
       (λ i h. record { order = omega (arith, h.1); start = h.0.start; end = b }) (hit_backward-part c n)
@@ -137,7 +138,8 @@ module _ (l : Line) (u : IsUtf8 l.text) (b : IsCharBoundary l.text l.place) wher
   newline_before at_start some =
       let first : row_start l.text l.place ≡ l.place = omega (arith, at_start) in
       let last = opens_from (text_before l) l.place (omega (arith, first, length-take-le l.place l.text b.0)) in
-      IsCharBoundary-before_ascii l.text (l.place - 1) (omega (arith, some, b.0)) (omega (arith, sym (get_or-take l.place l.text (l.place - 1) 0 (omega (arith, some))) ∙ last.newline some))
+      IsCharBoundary-before_ascii l.text (l.place - 1) (omega (arith, some, b.0))
+      (omega (arith, sym (get_or-take l.place l.text (l.place - 1) 0 (omega (arith, some))) ∙ last.newline some))
 
   from_row_start-spans : IfSome (from_row_start l) (IsSpanOf l.text)
   from_row_start-spans = by_tests (nat_lt (row_start l.text l.place) l.place) (nat_lt 0 l.place) refl refl
@@ -194,7 +196,8 @@ module _ (l : Line) (u : IsUtf8 l.text) (b : IsCharBoundary l.text l.place) wher
   line_down-spans : (n : ℕ) → IfSome (range_of (LineDown n) l) (IsSpanOf l.text)
   line_down-spans n =
       rows_span (IsLater l) (λ start. (row_start l.text l.place, row_close l.text start)) (nth_or_last n (starts_below l))
-      (λ start h. around_span (row_start l.text l.place) (row_close l.text start) (omega (arith, h.1, h.0.0)) (row_start-boundary l.text l.place u b) (row_close-boundary l u b start h.0))
+      (λ start h. around_span (row_start l.text l.place) (row_close l.text start) (omega (arith, h.1, h.0.0))
+      (row_start-boundary l.text l.place u b) (row_close-boundary l u b start h.0))
       (All-last_or (IsLater l) (take n (starts_below l)) (All-take (IsLater l) n (starts_below l) (All-behind l u b l.place (text_after l) b.0 refl)))
 
   -- a part of a text as a whole, if there is a text

@@ -45,7 +45,8 @@ clusters-empty (b ∷ text) e = absurd (omega (arith, e))
 
 text_end-cases : (text : List ℕ) → ((text_end text ≡ []) × (clusters text ≡ [])) ⊎ ((t : ℕ) × (text_end text ≡ t ∷ []))
 text_end-cases text =
-    ⊎_elim (λ (e : (length text == 0) ≡ true). inl (rw e refl, clusters-empty text (grind (arith, e)))) (λ (e : (length text == 0) ≡ false). inr (length text, rw e refl)) (cases_Bool (length text == 0))
+    ⊎_elim (λ (e : (length text == 0) ≡ true). inl (rw e refl, clusters-empty text (grind (arith, e))))
+    (λ (e : (length text == 0) ≡ false). inr (length text, rw e refl)) (cases_Bool (length text == 0))
 
 last-some : {A : Type 0} (x : A) (xs : List A) → (z : A) × (last_or (Some x) xs ≡ Some z)
 last-some x [] = (x, refl)

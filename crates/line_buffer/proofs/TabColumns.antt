@@ -228,7 +228,8 @@ module _ (mode : GraphemeClusterMode) (stops : TabStops) where
   none_fit : (first column : ℕ) (row : List ℕ) → column < first → (is : List ℕ) → filter (fits column) (map (measure (Some stops) first row) is) ≡ []
   none_fit first column row past [] = refl
   none_fit first column row past (i ∷ is) =
-      rw (lt-leb (column_after mode (Some stops) first (take i row)) column (omega (arith, past, parts_grow first (slice_split is_tab (take i row))))) (none_fit first column row past is)
+      rw (lt-leb (column_after mode (Some stops) first (take i row)) column (omega (arith, past, parts_grow first (slice_split is_tab (take i row)))))
+      (none_fit first column row past is)
 
   module _ (first column : ℕ) (xs ys : List ℕ) (u : IsUtf8 xs) (v : IsUtf8 ys) (none : NoTabs xs) where
     abbrev next : ℕ

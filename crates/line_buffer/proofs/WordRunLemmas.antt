@@ -211,7 +211,9 @@ run_split word text end at kind right run =
 
 -- nothing starts at the text's end
 pub blank_end : (word : Word) (text : List ℕ) → edges_of Start (kinds word (clusters text)) ≡ edges_of Start (kinds word (clusters (take (length text) text)) ++ (length text, Blank) ∷ [])
-blank_end word text = sym (ap (λ bs. edges_of Start (kinds word (clusters bs) ++ (length text, Blank) ∷ [])) (take_all (length text) text (omega arith)) ∙ behind (kinds word (clusters text)))
+blank_end word text =
+    sym (ap (λ bs. edges_of Start (kinds word (clusters bs) ++ (length text, Blank) ∷ [])) (take_all (length text) text (omega arith))
+    ∙ behind (kinds word (clusters text)))
   where
     behind : (xs : List (ℕ × ClusterKind)) → edges_of Start (xs ++ (length text, Blank) ∷ []) ≡ edges_of Start xs
     behind [] = refl

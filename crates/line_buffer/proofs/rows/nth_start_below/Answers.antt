@@ -25,4 +25,5 @@ returns-after-loop-clause-value c =
 pub returns-in-None-clause-value : goal.returns-in-None-clause-value
 returns-in-None-clause-value c =
     search_ended _ _ _ _ c.loop.invariant.answer
-    (ap (behind_newlines c.loop.start) (sym c.range_from.ensures.value) ∙ behind_none c.loop.start c.range_from.result.now (find_char 10 _ None c.in-None.ensures.cases (lit< tt)))
+    (ap (behind_newlines c.loop.start) (sym c.range_from.ensures.value)
+    ∙ behind_none c.loop.start c.range_from.result.now (find_char 10 _ None c.in-None.ensures.cases (lit< tt)))
