@@ -1,5 +1,5 @@
 -- The greatest place at which a text may be cut, and what is kept of it.
-use Rattle.std.proofs.Common.{◌≡◌, ℕ, zero, suc, ◌≤◌, Bool, true, false, ◌||◌, List, [], length, take, drop, refl, sym, ap, subst, ◌∙◌, arith, append-nil, take-append-drop, length-append, IsUtf8, IsCharBoundary, nat_le, if◌then◌else◌}
+use Rattle.std.proofs.Common.{◌≡◌, ℕ, zero, suc, ◌≤◌, true, ◌||◌, List, [], length, take, drop, sym, ap, subst, ◌∙◌, arith, append-nil, take-append-drop, length-append, IsUtf8, IsCharBoundary, nat_le, if◌then◌else◌}
 use Rattle.std.proofs.lemmas.List.{length-take-le}
 use Rattle.std.proofs.lemmas.Bool.Decides.{nat_tests}
 use Rattle.std.proofs.lemmas.Str.{IsCharBoundary-start, IsCharBoundary-from_take, IsUtf8-take}
@@ -8,7 +8,7 @@ use Rattle.std.specs.Fmt.Cut.{floor_char_boundary}
 use Rattle.std.specs.Fmt.{is_char_start}
 use Rattle.std.specs.Prelude.{slice_index}
 use Rattle.std.proofs.Math.Seq.{take-append_seam}
-use Rattle.std.proofs.lemmas.Bool.{leb-true, leb-false, true≢false}
+use Rattle.std.proofs.lemmas.Bool.{leb-true, leb-false, true≢false, cond_both}
 use Rattle.line_buffer.proofs.InsertionLemmas.{not_inside}
 
 record IsGreatestCut (text : List ℕ) (room cut : ℕ) : Type 0 where
@@ -22,17 +22,17 @@ outside text n le e = (le, λ less high. grind (arith, nat_tests))
 greatest_cut : (text : List ℕ) (room : ℕ) → IsUtf8 text → room ≤ length text → IsGreatestCut text room (floor_char_boundary text room)
 unfolding floor_char_boundary
 greatest_cut text zero u le = record { boundary = IsCharBoundary-start text u; fits = omega arith; greatest = λ i l b. l }
-greatest_cut text (suc n) u le = by (is_char_start (slice_index text (suc n))) refl (greatest_cut text n u (omega arith))
-  where
-    by : (b : Bool) → is_char_start (slice_index text (suc n)) ≡ b → IsGreatestCut text n (floor_char_boundary text n) → IsGreatestCut text (suc n) (if b then suc n else floor_char_boundary text n)
-    by false e h = record {
+greatest_cut text (suc n) u le =
+    let h = greatest_cut text n u (omega arith) in
+    cond_both (is_char_start (slice_index text (suc n))) (suc n) (floor_char_boundary text n) (IsGreatestCut text (suc n))
+    (λ e. record { boundary = outside text (suc n) le e; fits = omega arith; greatest = λ i l b. l })
+    (λ e. record {
       boundary = h.boundary;
       fits = omega (arith, h.fits);
       greatest = λ i l b.
           let other : i ≡ suc n → ⊥ = λ same. true≢false (sym (not_inside text (suc n) (subst (IsCharBoundary text) same b)) ∙ e) in
           h.greatest i (omega (arith, l, other)) b;
-    }
-    by true e h = record { boundary = outside text (suc n) le e; fits = omega arith; greatest = λ i l b. l }
+    })
 
 cut_is_longest : (text : List ℕ) (room : ℕ) → IsUtf8 text → room ≤ length text → IsLongestThatFits text (take (floor_char_boundary text room) text) room
 cut_is_longest text room u le =
@@ -61,8 +61,6 @@ whole_is_longest text room u le = record {
 pub keeps_the_longest_that_fits : KeepsTheLongestThatFits
 keeps_the_longest_that_fits text l u small =
     subst (λ g. IsLongestThatFits text (if g || nat_le (length text) l.limit then text else take (floor_char_boundary text l.limit) text) l.limit) (sym small)
-    (by (nat_le (length text) l.limit) refl)
-  where
-    by : (b : Bool) → nat_le (length text) l.limit ≡ b → IsLongestThatFits text (if b then text else take (floor_char_boundary text l.limit) text) l.limit
-    by true e = whole_is_longest text l.limit u (leb-true (length text) l.limit e)
-    by false e = cut_is_longest text l.limit u (omega (arith, leb-false (length text) l.limit e))
+    (cond_both (nat_le (length text) l.limit) text (take (floor_char_boundary text l.limit) text) (λ kept. IsLongestThatFits text kept l.limit)
+    (λ e. whole_is_longest text l.limit u (leb-true (length text) l.limit e))
+    (λ e. cut_is_longest text l.limit u (omega (arith, leb-false (length text) l.limit e))))

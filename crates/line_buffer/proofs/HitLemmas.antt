@@ -36,15 +36,7 @@ chars_placed-snoc at [] c = ap (λ k. (k, c) ∷ []) (let e : at ≡ at + 0 = om
 chars_placed-snoc at (d ∷ cs) c = ap (λ xs. (at, d) ∷ xs) (chars_placed-snoc (at + length (encode_utf8 d)) cs c
     ∙ ap (λ k. chars_placed (at + length (encode_utf8 d)) cs ++ (k, c) ∷ []) (omega (arith, length-append (encode_utf8 d) (encode_utf8_all cs))))
 
--- the first character of a text
-module _ (at : ℕ) (c : ℕ) (old new : List ℕ) (next : ℕ) (u : IsUtf8 old) (came : old ≡ encode_utf8 next ++ new) where
-  pub hits-first : hits_from at c old ≡ place_if (next == c) at ++ hits_from (at + length (encode_utf8 next)) c new
-  unfolding chars_placed
-  hits-first =
-      ap (λ cs. places_of c (chars_placed at cs)) (chars_past_char old new next u came)
-      ∙ places_of-cons c (at, next) (chars_placed (at + length (encode_utf8 next)) (chars new))
-
--- the last one
+-- the last character of a text
 module _ (at : ℕ) (c : ℕ) (old new : List ℕ) (last : ℕ) (u : IsUtf8 old) (s : IsScalar last) (came : old ≡ new ++ encode_utf8 last) where
   pub utf8-before : IsUtf8 new
   utf8-before = IsUtf8-before old new (encode_utf8 last) u (IsUtf8-encode last s) came
@@ -78,8 +70,11 @@ hits-none at c (b ∷ bs) e = absurd (omega (arith, e))
 -- the same as the iterators say it: `i` is the character's place, and `onward` where the rest stands
 pub first-read : (at i onward c : ℕ) (old new : List ℕ) (next : ℕ) → IsUtf8 old → (i ≡ at) × (old ≡ encode_utf8 next ++ new) × (onward ≡ at + length (encode_utf8 next))
     → hits_from at c old ≡ place_if (next == c) i ++ hits_from onward c new
+unfolding chars_placed
 first-read at i onward c old new next u h =
-    hits-first at c old new next u h.1 ∙ ap₂ (λ k m. place_if (next == c) k ++ hits_from m c new) (sym h.0) (sym h.2)
+    ap (λ cs. places_of c (chars_placed at cs)) (chars_past_char old new next u h.1)
+    ∙ places_of-cons c (at, next) (chars_placed (at + length (encode_utf8 next)) (chars new))
+    ∙ ap₂ (λ k m. place_if (next == c) k ++ hits_from m c new) (sym h.0) (sym h.2)
 
 pub last-read : (at i onward c : ℕ) (old new : List ℕ) (last : ℕ) → IsUtf8 old → IsScalar last → (onward ≡ at) × (old ≡ new ++ encode_utf8 last) × (i ≡ at + length new)
     → reverse (hits_from at c old) ≡ place_if (last == c) i ++ reverse (hits_from onward c new)

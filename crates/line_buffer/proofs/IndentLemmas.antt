@@ -1,5 +1,5 @@
 -- The whitespace at the front of a row.
-use Rattle.std.proofs.Common.{◌≡◌, ℕ, zero, suc, ◌+◌, ◌-◌, ◌<◌, ◌≤◌, Bool, true, false, List, [], ◌∷◌, ◌++◌, length, take, drop, refl, sym, ap, ◌∙◌, arith, append_assoc, cond, ◌==◌, All, IsUtf8, take_while, chars, encode_utf8, encode_utf8_all}
+use Rattle.std.proofs.Common.{◌≡◌, ℕ, zero, suc, ◌+◌, ◌-◌, ◌<◌, ◌≤◌, true, false, List, [], ◌∷◌, ◌++◌, length, take, drop, refl, sym, ap, ◌∙◌, arith, append_assoc, ◌==◌, All, IsUtf8, take_while, chars, encode_utf8, encode_utf8_all}
 use Rattle.std.specs.Char.{is_whitespace}
 use Rattle.std.specs.List.{prefix_len}
 use Rattle.std.proofs.lemmas.Bool.{not-true}
@@ -15,24 +15,19 @@ use Rattle.line_buffer.proofs.RowStartLemmas.{is_newline, split_at_newline}
 leading_empty : (n : ℕ) (bs : List ℕ) → bs ≡ [] → front_whitespace n bs ≡ []
 leading_empty n bs e = ap (front_whitespace n) e ∙ ap (λ cs. encode_utf8_all (take n (take_while is_whitespace cs))) chars-nil ∙ ap encode_utf8_all (take-nil n)
 
-take_while_first : (c : ℕ) (cs : List ℕ) (b : Bool) → is_whitespace c ≡ b → take_while is_whitespace (c ∷ cs) ≡ cond b (c ∷ take_while is_whitespace cs) []
-take_while_first c cs true e = ap (λ b. take (cond b (1 + prefix_len is_whitespace cs) 0) (c ∷ cs)) e ∙ ap (λ k. take k (c ∷ cs)) (let k : 1 + prefix_len is_whitespace cs ≡ suc (prefix_len is_whitespace cs) = omega arith in k)
-take_while_first c cs false e = ap (λ b. take (cond b (1 + prefix_len is_whitespace cs) 0) (c ∷ cs)) e
-
-leading_first : (n c : ℕ) (bs rest : List ℕ) → IsUtf8 bs → bs ≡ encode_utf8 c ++ rest
-    → front_whitespace n bs ≡ encode_utf8_all (take n (cond (is_whitespace c) (c ∷ take_while is_whitespace (chars rest)) []))
-leading_first n c bs rest u e = ap (λ cs. encode_utf8_all (take n (take_while is_whitespace cs))) (chars_past_char bs rest c u e)
-    ∙ ap (λ cs. encode_utf8_all (take n cs)) (take_while_first c (chars rest) (is_whitespace c) refl)
+take_while_more : (c : ℕ) (cs : List ℕ) → is_whitespace c ≡ true → take_while is_whitespace (c ∷ cs) ≡ c ∷ take_while is_whitespace cs
+take_while_more c cs e = rw e (ap (λ k. take k (c ∷ cs)) (let k : 1 + prefix_len is_whitespace cs ≡ suc (prefix_len is_whitespace cs) = omega arith in k))
 
 leading_more : (n c : ℕ) (bs rest : List ℕ) → IsUtf8 bs → bs ≡ encode_utf8 c ++ rest → is_whitespace c ≡ true → 0 < n → front_whitespace n bs ≡ encode_utf8 c ++ front_whitespace (n - 1) rest
 leading_more zero c bs rest u e w some = absurd (omega arith)
 leading_more (suc n) c bs rest u e w some =
-    leading_first (suc n) c bs rest u e ∙ ap (λ b. encode_utf8_all (take (suc n) (cond b (c ∷ take_while is_whitespace (chars rest)) []))) w
+    ap (λ cs. encode_utf8_all (take (suc n) (take_while is_whitespace cs))) (chars_past_char bs rest c u e)
+    ∙ ap (λ cs. encode_utf8_all (take (suc n) cs)) (take_while_more c (chars rest) w)
     ∙ ap (λ k. encode_utf8 c ++ front_whitespace k rest) (let k : n ≡ suc n - 1 = omega arith in k)
 
 leading_none : (n c : ℕ) (bs rest : List ℕ) → IsUtf8 bs → bs ≡ encode_utf8 c ++ rest → is_whitespace c ≡ false → front_whitespace n bs ≡ []
 leading_none n c bs rest u e w =
-    leading_first n c bs rest u e ∙ ap (λ b. encode_utf8_all (take n (cond b (c ∷ take_while is_whitespace (chars rest)) []))) w ∙ ap encode_utf8_all (take-nil n)
+    ap (λ cs. encode_utf8_all (take n (take_while is_whitespace cs))) (chars_past_char bs rest c u e) ∙ rw w (ap encode_utf8_all (take-nil n))
 
 -- the walk over a row stands at a place, with the rest of the row and so many characters still to take
 pub record Walks (row : List ℕ) (count at : ℕ) (rest : List ℕ) (missing : ℕ) : Type 0 where

@@ -104,16 +104,13 @@ killing_stopped {S} {takes} {stops} {es} {s} {begun} {left} {t} {l} {m} start st
 pub stopped_killing : {S T E : Type 0} (r : Result T E) (takes stops : S → ChangeEvent → S → Type 0) (es : List ChangeEvent) (plain : Bool) (s begun left t : S) (l m : Line) → plain ≡ false
     → takes s StartKilling begun → OnErr r (StopsAt takes stops [] es begun left l m) → takes left StopKilling t
     → OnErr r (StopsAt takes stops (if plain then [] else StopKilling ∷ []) (if plain then es else StartKilling ∷ (es ++ (StopKilling ∷ []))) s t l m)
-stopped_killing {S} {T} {E} r takes stops es plain s begun left t l m e start stopped stop =
-    subst (λ v. OnErr r (StopsAt takes stops (if v then [] else StopKilling ∷ []) (if v then es else StartKilling ∷ (es ++ (StopKilling ∷ []))) s t l m)) (sym e)
-    (on_err_weaker r (killing_stopped start stop) stopped)
+stopped_killing r takes stops es plain s begun left t l m e start stopped stop = rw e (on_err_weaker r (killing_stopped start stop) stopped)
 
 -- a deletion by clusters stands between no marks
 pub stopped_unmarked : {S T E : Type 0} (r : Result T E) (takes stops : S → ChangeEvent → S → Type 0) (es : List ChangeEvent) (plain : Bool) (s t : S) (l m : Line) → plain ≡ true
     → OnErr r (StopsAt takes stops [] es s t l m)
     → OnErr r (StopsAt takes stops (if plain then [] else StopKilling ∷ []) (if plain then es else StartKilling ∷ (es ++ (StopKilling ∷ []))) s t l m)
-stopped_unmarked r takes stops es plain s t l m e stopped =
-    subst (λ v. OnErr r (StopsAt takes stops (if v then [] else StopKilling ∷ []) (if v then es else StartKilling ∷ (es ++ (StopKilling ∷ []))) s t l m)) (sym e) stopped
+stopped_unmarked r takes stops es plain s t l m e stopped = rw e stopped
 
 carried_settings : (es : List ChangeEvent) (l : Line) → SameSettings l (line_after_events es l)
 unfolding line_after_events

@@ -114,10 +114,10 @@ is_shaky s = s.emoji || (s.text || is_shaky_after s.after)
 record Facts (own : ℕ × State) (emoji empty close turn tone : Bool) : Type 0 where
   wide : (own.0 == 0) ≡ false
   empty_is : empty ≡ false
-  closing : close ≡ true → own.1 ≡ plain
-  turning : turn ≡ true → own.1 ≡ before after.Emoji
-  joined : emoji ≡ true → own.1 ≡ before after.Emoji
-  toned : tone ≡ true → own.1 ≡ before after.EmojiModifier
+  closing : close ≡ true → plain ≡ own.1
+  turning : turn ≡ true → before after.Emoji ≡ own.1
+  joined : emoji ≡ true → before after.Emoji ≡ own.1
+  toned : tone ≡ true → before after.EmojiModifier ≡ own.1
   steady : tone ≡ false → is_shaky own.1 ≡ false
 
 abbrev is_single : Kind → Bool
@@ -168,15 +168,13 @@ module _ (c : ℕ) (wide : ((alone false c).0 == 0) ≡ false) (apart : looks_ah
 
   facts : Facts (alone false c) (is_emoji (kind c)) (is_zero c) (closes c) (turns c) (in_ranges tones c)
   unfolding holds alone is_sound
-  facts = by (is_single (kind c)) refl
+  facts =
+      ⊎_elim (λ (e : is_single (kind c) ≡ true). sound_facts _ _ _ _ _ _ (single_sound (single_is (kind c) e)))
+      (λ (e : is_single (kind c) ≡ false). by_kind c (kind c) _ _ _ _ e (all_hold c) wide) (cases_Bool (is_single (kind c)))
     where
       single_is : (k : Kind) → is_single k ≡ true → k ≡ kinds.Single
       single_is kinds.Single e = refl
       single_is _ e = cc
-
-      by : (b : Bool) → is_single (kind c) ≡ b → Facts (alone false c) (is_emoji (kind c)) (is_zero c) (closes c) (turns c) (in_ranges tones c)
-      by true e = sound_facts _ _ _ _ _ _ (single_sound (single_is (kind c) e))
-      by false e = by_kind c (kind c) _ _ _ _ e (all_hold c) wide
 
 -- ---- what stands before such a character sees the character alone, except some characters before a shaky state
 
@@ -219,19 +217,19 @@ module _ (c : ℕ) (f : Facts (alone false c) (is_emoji (kind c)) (is_zero c) (c
   no_indicator = grind (arith, nat_tests, ahead)
 
   closing_at : (d : ℕ) → in_ranges closers d ≡ true → (c == d) ≡ true → plain ≡ (alone false c).1
-  closing_at d k e = sym (f.closing (or_right (is_lam c) (in_ranges closers c) (ap (in_ranges closers) (eqb-true c d e) ∙ k)))
+  closing_at d k e = f.closing (or_right (is_lam c) (in_ranges closers c) (ap (in_ranges closers) (eqb-true c d e) ∙ k))
 
   closing_lisu : is_in_range 0xA4F8 0xA4FB c ≡ true → plain ≡ (alone false c).1
   unfolding in_ranges
-  closing_lisu e = sym (f.closing (grind (arith, nat_tests, e)))
+  closing_lisu e = f.closing (grind (arith, nat_tests, e))
 
   closing_quote : is_quote c ≡ true → plain ≡ (alone false c).1
   unfolding in_ranges
-  closing_quote e = sym (f.closing (grind (arith, nat_tests, e)))
+  closing_quote e = f.closing (grind (arith, nat_tests, e))
 
   turning_flag : (c == 0x1F3F4) ≡ true → before after.Emoji ≡ (alone false c).1
   unfolding in_ranges
-  turning_flag e = sym (f.turning (or_left (in_ranges flag c) _ (ap (in_ranges flag) (eqb-true c 0x1F3F4 e))))
+  turning_flag e = f.turning (or_left (in_ranges flag c) _ (ap (in_ranges flag) (eqb-true c 0x1F3F4 e)))
 
   -- a rule whose test the character passes leaves its own state
   abbrev Own : ℕ → Option (Change × After) → Type 0
@@ -251,24 +249,15 @@ module _ (c : ℕ) (f : Facts (alone false c) (is_emoji (kind c)) (is_zero c) (c
   refuted b s t h k = absurd (true≢false (sym h ∙ k))
 
   modified : is_emoji_modifier_base c ≡ true → Left c (alone false c).1 true (before after.Emoji)
-  modified e = by (is_emoji_variation_base c) refl
-    where
-      by : (b : Bool) → is_emoji_variation_base c ≡ b → Left c (alone false c).1 true (before after.Emoji)
-      by true base = inr (or_left _ _ base, inr refl)
-      by false base = inl (sym (f.turning (or_right (in_ranges flag c) _ (and_from (is_emoji_modifier_base c) _ e (ap not base)))))
+  modified e =
+      ⊎_elim (λ (base : is_emoji_variation_base c ≡ true). inr (or_left _ _ base, inr refl))
+      (λ (base : is_emoji_variation_base c ≡ false). inl (f.turning (or_right (in_ranges flag c) _ (and_from (is_emoji_modifier_base c) _ e (ap not base)))))
+      (cases_Bool (is_emoji_variation_base c))
 
   marked : is_tifinagh c ≡ true → Left c (alone false c).1 true plain
   marked h = inr (or_right (is_emoji_variation_base c) _ h, inl refl)
 
-  alef : is_lam c ≡ true → plain ≡ (alone false c).1
-  alef e = sym (f.closing (or_left (is_lam c) _ e))
-
-  toned : is_in_range 0x1F3FB 0x1F3FF c ≡ true → before after.EmojiModifier ≡ (alone false c).1
-  unfolding in_ranges
-  toned e = sym (f.toned (or_left _ _ e))
-
-  joined : is_emoji (kind c) ≡ true → before after.Emoji ≡ (alone false c).1
-  joined e = sym (f.joined e)
+  ruleset refuting = (own_if, own_first, refuted, other, beside, no_letter, no_digit, no_indicator)
 
   joins_left : (n : ℕ) (a : After) → Left c (alone false c).1 (is_shaky_after a) (joined_or n (joins false a c) (alone false c)).1
   unfolding joins before_alef in_ranges
@@ -284,7 +273,8 @@ module _ (c : ℕ) (f : Facts (alone false c) (is_emoji (kind c)) (is_zero c) (c
       cond_both (is_tifinagh c) (Some (Less, after.Nothing)) None (λ j. Left c (alone false c).1 true (joined_or n (first_of j None) (alone false c)).1)
       marked (λ _. inl refl)
   joins_left n after.ZwjEmoji =
-      inl (simp (other, no_indicator) (own_if n _ (Same, after.EmojiModifier) _ toned (own_if n _ (Same, after.Emoji) None joined refl)))
+      inl (simp (other, no_indicator) (own_if n _ (Same, after.EmojiModifier) _ (λ e. f.toned (or_left (is_in_range 0x1F3FB 0x1F3FF c) _ e))
+      (own_if n _ (Same, after.Emoji) None f.joined refl)))
   joins_left n after.TagDigit3 = inl (own_if n _ (Same, after.Emoji) None turning_flag refl)
   joins_left n after.TagLetter3 = inl (simp (no_letter, no_digit) (own_if n _ (Same, after.Emoji) None turning_flag refl))
   joins_left n after.TagLetter4 = inl (simp (no_letter, no_digit) (own_if n _ (Same, after.Emoji) None turning_flag refl))
@@ -294,12 +284,12 @@ module _ (c : ℕ) (f : Facts (alone false c) (is_emoji (kind c)) (is_zero c) (c
       inl (simp beside (own_first n _ (Same, after.Nothing) _ (closing_at 0x16D63 refl)
       (own_first n _ (Same, after.Nothing) None (closing_at 0x16D69 refl) refl)))
   joins_left n after.KiratAi = inl (own_first n _ (Same, after.Nothing) None (closing_at 0x16D63 refl) refl)
-  joins_left n after.Alef = inl (simp f.wide (own_if n _ (Same, after.Nothing) _ alef refl))
+  joins_left n after.Alef = inl (simp f.wide (own_if n _ (Same, after.Nothing) _ (λ e. f.closing (or_left (is_lam c) _ e)) refl))
   joins_left n after.ZwjLamed = inl (own_first n _ (Same, after.Nothing) None (closing_at 0x05D0 refl) refl)
   joins_left n after.VowelZwjYa = inl (own_first n _ (Same, after.Nothing) None (closing_at 0x1A15 refl) refl)
   joins_left n after.LisuTone = inl (own_first n _ (Same, after.Nothing) None closing_lisu refl)
   joins_left n after.ZwjOrkhonI = inl (own_first n _ (Same, after.Nothing) None (closing_at 0x10C32 refl) refl)
-  joins_left n _ = inl (search (own_if, own_first, refuted, other, beside, no_letter, no_digit, no_indicator))
+  joins_left n _ = inl (search refuting)
 
   past_selectors_left : (n : ℕ) (a : After) → Left c (alone false c).1 (is_shaky_after a) (past_selectors false c n a).1
   unfolding past_selectors in_ranges
@@ -365,11 +355,9 @@ module _ (c : ℕ) (solid : is_solid c ≡ true) where
 
 steady_own : (c : ℕ) → is_solid c ≡ true → is_tone c ≡ false → is_shaky (own c) ≡ false
 unfolding own
-steady_own c solid bare = by (nat_le c 0xA0) refl
-  where
-    by : (b : Bool) → nat_le c 0xA0 ≡ b → is_shaky (cond b plain (alone false c).1) ≡ false
-    by true e = refl
-    by false e = (facts_above c solid e).steady (sym (in_ranges-some (0x1F3FB, 0x1F3FF) [] c) ∙ bare)
+steady_own c solid bare =
+    cond_both (nat_le c 0xA0) plain (alone false c).1 (λ s. is_shaky s ≡ false) (λ _. refl)
+    (λ high. (facts_above c solid high).steady (sym (in_ranges-some (0x1F3FB, 0x1F3FF) [] c) ∙ bare))
 
 -- texts that leave a state, after however many columns
 abbrev pub Leaves : State → List ℕ → Type 0

@@ -28,12 +28,9 @@ IsTailOf rest xs = ((rest ≡ []) × (xs ≡ [])) ⊎ ((t : ℕ) × (rest ≡ t 
 
 pub nth_or_last-then : (n : ℕ) (xs rest : List ℕ) → 0 < n → IsTailOf rest xs → nth_or_last n (xs ++ rest) ≡ option_or (slice_get xs (n - 1)) (last_or None rest)
 nth_or_last-then zero xs rest p h = absurd (omega (arith, p))
-nth_or_last-then (suc k) xs rest p (inl (e, f)) =
-    subst (λ ys. nth_or_last (suc k) (ys ++ rest) ≡ option_or (slice_get ys (suc k - 1)) (last_or None rest)) (sym f)
-    (subst (λ r. last_or None (take (suc k) r) ≡ last_or None r) (sym e) refl)
+nth_or_last-then (suc k) xs rest p (inl (e, f)) = rw (e, f)
 nth_or_last-then (suc k) xs rest p (inr (t, e)) =
-    subst (λ r. nth_or_last (suc k) (xs ++ r) ≡ option_or (slice_get xs (suc k - 1)) (last_or None r)) (sym e)
-    (nth-then xs t None k ∙ ap (λ j. option_or (slice_get xs j) (Some t)) (let q : k ≡ suc k - 1 = omega arith in q))
+    rw e (nth-then xs t None k ∙ ap (λ j. option_or (slice_get xs j) (Some t)) (let q : k ≡ suc k - 1 = omega arith in q))
 
 clusters-nil : clusters [] ≡ []
 unfolding unicode_segmentation
