@@ -1,5 +1,5 @@
 -- What a chain over the clusters of a text gives.
-use Rattle.std.proofs.Common.{◌≡◌, ℕ, suc, ◌-◌, ◌<◌, List, [], ◌∷◌, ◌++◌, length, map, reverse, take, Option, None, Some, refl, sym, ap, ◌∙◌, subst, arith, option_map, IfSome, All}
+use Rattle.std.proofs.Common.{◌≡◌, ℕ, suc, ◌-◌, ◌<◌, Bool, true, filter, List, [], ◌∷◌, ◌++◌, length, map, reverse, take, Option, None, Some, refl, sym, ap, ◌∙◌, subst, arith, option_map, IfSome, All}
 use Rattle.std.specs.List.{last_or}
 use Rattle.std.specs.Iterator.{Drains}
 use Rattle.std.specs.Iterator.Adapters.{rev_source, rev_steps}
@@ -7,6 +7,8 @@ use Rattle.std.specs.declared.iter.Rev.{Rev}
 use Rattle.std.proofs.lemmas.Iterator.{YieldsList, items_from_drains}
 use Rattle.std.proofs.lemmas.Iterator.Consumers.{YieldsList-from_shown}
 use Rattle.std.proofs.lemmas.List.{reverse-append, length-reverse, get_or-reverse, take-map}
+use Rattle.std.proofs.lemmas.List.Elements.{All-map, All-filter, filter_passes}
+use Rattle.std.proofs.Math.Seq.{take-nil}
 use Rattle.unicode_segmentation.specs.Segments.{GivesLast}
 
 pub option_map-last_or : {A B : Type 0} (v : A → B) (o : Option A) (xs : List A) → option_map v (last_or o xs) ≡ last_or (option_map v o) (map v xs)
@@ -45,3 +47,14 @@ All-reverse P xs h = λ k d l.
 -- the n-th of mapped items
 pub nth_or_last-map : {A B : Type 0} (f : A → B) (n : ℕ) (xs : List A) → last_or None (take n (map f xs)) ≡ option_map f (last_or None (take n xs))
 nth_or_last-map f n xs = ap (last_or None) (take-map f n xs) ∙ sym (option_map-last_or f None (take n xs))
+
+-- what passes a test and is mapped
+pub All-passing : {A B : Type 0} (P : B → Type 0) (f : A → B) (p : A → Bool) (xs : List A) → All (λ x. p x ≡ true → P (f x)) xs → All P (map f (filter p xs))
+All-passing P f p xs h = All-map P f (filter p xs) (λ k d l. All-filter p (λ x. p x ≡ true → P (f x)) xs h k d l (filter_passes p xs k d l))
+
+-- a search takes one place after the other, and keeps the last that it took: none is left, or no more is wanted
+pub search_ended : (v found : Option ℕ) (left : List ℕ) (missing : ℕ) → v ≡ last_or found (take missing left) → left ≡ [] → found ≡ v
+search_ended v found left missing so_far e = sym (so_far ∙ ap (λ xs. last_or found (take missing xs)) e ∙ ap (last_or found) (take-nil missing))
+
+pub search_spent : (v found : Option ℕ) (left : List ℕ) (missing : ℕ) → v ≡ last_or found (take missing left) → missing ≡ 0 → found ≡ v
+search_spent v found left missing so_far e = sym (so_far ∙ ap (λ k. last_or found (take k left)) e)

@@ -19,7 +19,7 @@ use Rattle.line_buffer.specs.Columns.{place_at_column}
 use Rattle.ucd_emoji.specs.Binary.{is_emoji_variation_base}
 use Rattle.line_buffer.specs.Width.{parts, is_selected, is_flag_letter, columns_of, width_of}
 use Rattle.line_buffer.proofs.ChainLemmas.{last_or-append}
-use Rattle.line_buffer.proofs.PartingLemmas.{first, parts_bare, columns_parted, columns_selected, columns_of_flags}
+use Rattle.line_buffer.proofs.PartingLemmas.{first, Balanced, parts_bare, columns_parted, columns_selected, columns_of_flags}
 
 -- no number of columns that is shown is beyond what is counted
 pub enough : 65535 ≤ 18446744073709551615
@@ -229,7 +229,10 @@ module _ (text : List ℕ) (end : ℕ) (old new : List ℕ) (next : Option ℕ) 
       (subst IsUtf8 (sym (sym (take-take (length new) end text parts_text_before) ∙ ap (take (length new)) tiles_of ∙ take-append_seam new mid_of)) new_ok)
 
   -- where the two texts that begin here act alike
-  pub parts_text_balance : IsCharBoundary text end → IsUtf8 text → ((mode : GraphemeClusterMode) (cs : List ℕ) → columns_of mode (cs ++ c ∷ (chars w.mid ++ rest)) + columns_of mode (c ∷ chars w.mid) ≡ columns_of mode (cs ++ c ∷ chars w.mid) + columns_of mode (c ∷ (chars w.mid ++ rest)))
+  abbrev pub Alike : List ℕ → Type 0
+  Alike ds = (mode : GraphemeClusterMode) (cs : List ℕ) → Balanced (columns_of mode) cs (c ∷ (ds ++ rest)) (c ∷ ds)
+
+  pub parts_text_balance : IsCharBoundary text end → IsUtf8 text → Alike (chars w.mid)
       → (mode : GraphemeClusterMode) → columns_of mode (chars text) + columns_of mode (chars (slice_range text (length new) end)) ≡ columns_of mode (chars (take end text)) + columns_of mode (chars (drop (length new) text))
   parts_text_balance at u alike mode =
       let split : text ≡ new ++ (mid_of ++ drop end text) = sym (take-append-drop end text) ∙ ap (λ bs. bs ++ drop end text) tiles_of ∙ append_assoc new mid_of (drop end text) in
@@ -249,14 +252,13 @@ module _ (text : List ℕ) (end : ℕ) (old new : List ℕ) (next : Option ℕ) 
       by [] k = parts_bare c n h
       by (d ∷ ds) k = ap (parts c) (sym k) ∙ h
 
-  alike_parted : parts c next ≡ true → (mode : GraphemeClusterMode) (cs : List ℕ) → columns_of mode (cs ++ c ∷ (chars w.mid ++ rest)) + columns_of mode (c ∷ chars w.mid) ≡ columns_of mode (cs ++ c ∷ chars w.mid) + columns_of mode (c ∷ (chars w.mid ++ rest))
+  alike_parted : parts c next ≡ true → Alike (chars w.mid)
   alike_parted h = columns_parted c (chars w.mid ++ rest) (chars w.mid) (ap (parts c) (sym w.next_is) ∙ h) (first_of_both w.next_is h)
 
-  alike_inside : inside ≡ true → (is_selected c next || (flags && is_flag_letter c)) ≡ true
-      → (mode : GraphemeClusterMode) (cs : List ℕ) → columns_of mode (cs ++ c ∷ (chars w.mid ++ rest)) + columns_of mode (c ∷ chars w.mid) ≡ columns_of mode (cs ++ c ∷ chars w.mid) + columns_of mode (c ∷ (chars w.mid ++ rest))
+  alike_inside : inside ≡ true → (is_selected c next || (flags && is_flag_letter c)) ≡ true → Alike (chars w.mid)
   alike_inside i h =
       let last = w.not_last i in
-      subst (λ xs. (mode : GraphemeClusterMode) (cs : List ℕ) → columns_of mode (cs ++ c ∷ (xs ++ rest)) + columns_of mode (c ∷ xs) ≡ columns_of mode (cs ++ c ∷ xs) + columns_of mode (c ∷ (xs ++ rest))) (sym last.1.1)
+      subst Alike (sym last.1.1)
       (⊎_elim
       (λ chosen.
       let both = selected_is next (w.next_is ∙ ap (λ xs. first (xs ++ rest)) last.1.1) chosen in
@@ -271,6 +273,5 @@ module _ (text : List ℕ) (end : ℕ) (old new : List ℕ) (next : Option ℕ) 
       selected_is None e k = cc
       selected_is (Some x) e k = let both = and_parts (is_emoji_variation_base c) (x == 0xFE0F) k in (both.0, sym e ∙ ap Some (eqb-true x 0xFE0F both.1))
 
-  pub alike : (parts c next || (inside && (is_selected c next || (flags && is_flag_letter c)))) ≡ true
-      → (mode : GraphemeClusterMode) (cs : List ℕ) → columns_of mode (cs ++ c ∷ (chars w.mid ++ rest)) + columns_of mode (c ∷ chars w.mid) ≡ columns_of mode (cs ++ c ∷ chars w.mid) + columns_of mode (c ∷ (chars w.mid ++ rest))
+  pub alike : (parts c next || (inside && (is_selected c next || (flags && is_flag_letter c)))) ≡ true → Alike (chars w.mid)
   alike h = ⊎_elim alike_parted (λ k. let both = and_parts inside _ k in alike_inside both.0 both.1) (or_cases (parts c next) _ h)

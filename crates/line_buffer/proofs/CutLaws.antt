@@ -1,12 +1,15 @@
 -- The greatest place at which a text may be cut, and what is kept of it.
-use Rattle.std.proofs.Common.{◌≡◌, ℕ, zero, suc, ◌≤◌, Bool, true, false, ◌||◌, List, [], ◌∷◌, ◌++◌, length, take, drop, refl, sym, ap, subst, ◌∙◌, arith, append-nil, take-append-drop, length-append, IsUtf8, IsCharBoundary, nat_le, if◌then◌else◌}
-use Rattle.std.proofs.lemmas.List.{length-take-le, get_or_past}
+use Rattle.std.proofs.Common.{◌≡◌, ℕ, zero, suc, ◌≤◌, true, ◌||◌, List, [], length, take, drop, sym, ap, subst, ◌∙◌, arith, append-nil, take-append-drop, length-append, IsUtf8, IsCharBoundary, nat_le, if◌then◌else◌}
+use Rattle.std.proofs.lemmas.List.{length-take-le}
 use Rattle.std.proofs.lemmas.Bool.Decides.{nat_tests}
 use Rattle.std.proofs.lemmas.Str.{IsCharBoundary-start, IsCharBoundary-from_take, IsUtf8-take}
 use Rattle.line_buffer.specs.Laws.{IsLongestThatFits, KeepsTheLongestThatFits}
 use Rattle.std.specs.Fmt.Cut.{floor_char_boundary}
 use Rattle.std.specs.Fmt.{is_char_start}
 use Rattle.std.specs.Prelude.{slice_index}
+use Rattle.std.proofs.Math.Seq.{take-append_seam}
+use Rattle.std.proofs.lemmas.Bool.{leb-true, leb-false, true≢false, cond_both}
+use Rattle.line_buffer.proofs.InsertionLemmas.{not_inside}
 
 record IsGreatestCut (text : List ℕ) (room cut : ℕ) : Type 0 where
   boundary : IsCharBoundary text cut
@@ -16,24 +19,20 @@ record IsGreatestCut (text : List ℕ) (room cut : ℕ) : Type 0 where
 outside : (text : List ℕ) (n : ℕ) → n ≤ length text → is_char_start (slice_index text n) ≡ true → IsCharBoundary text n
 outside text n le e = (le, λ less high. grind (arith, nat_tests))
 
-never_inside : (text : List ℕ) (n : ℕ) → is_char_start (slice_index text n) ≡ false → IsCharBoundary text n → ⊥
-never_inside text n e b = grind (arith, nat_tests, get_or_past text n 0)
-
 greatest_cut : (text : List ℕ) (room : ℕ) → IsUtf8 text → room ≤ length text → IsGreatestCut text room (floor_char_boundary text room)
 unfolding floor_char_boundary
 greatest_cut text zero u le = record { boundary = IsCharBoundary-start text u; fits = omega arith; greatest = λ i l b. l }
-greatest_cut text (suc n) u le = by (is_char_start (slice_index text (suc n))) refl (greatest_cut text n u (omega arith))
-  where
-    by : (b : Bool) → is_char_start (slice_index text (suc n)) ≡ b → IsGreatestCut text n (floor_char_boundary text n) → IsGreatestCut text (suc n) (if b then suc n else floor_char_boundary text n)
-    by false e h = record {
+greatest_cut text (suc n) u le =
+    let h = greatest_cut text n u (omega arith) in
+    cond_both (is_char_start (slice_index text (suc n))) (suc n) (floor_char_boundary text n) (IsGreatestCut text (suc n))
+    (λ e. record { boundary = outside text (suc n) le e; fits = omega arith; greatest = λ i l b. l })
+    (λ e. record {
       boundary = h.boundary;
       fits = omega (arith, h.fits);
-      greatest = λ i l b. h.greatest i (below i l (λ same. never_inside text (suc n) e (subst (IsCharBoundary text) same b))) b;
-    }
-      where
-        below : (i : ℕ) → i ≤ suc n → (i ≡ suc n → ⊥) → i ≤ n
-        below i l other = omega arith
-    by true e h = record { boundary = outside text (suc n) le e; fits = omega arith; greatest = λ i l b. l }
+      greatest = λ i l b.
+          let other : i ≡ suc n → ⊥ = λ same. true≢false (sym (not_inside text (suc n) (subst (IsCharBoundary text) same b)) ∙ e) in
+          h.greatest i (omega (arith, l, other)) b;
+    })
 
 cut_is_longest : (text : List ℕ) (room : ℕ) → IsUtf8 text → room ≤ length text → IsLongestThatFits text (take (floor_char_boundary text room) text) room
 cut_is_longest text room u le =
@@ -45,14 +44,10 @@ cut_is_longest text room u le =
       whole = IsUtf8-take text (floor_char_boundary text room) u cut.boundary;
       fits = omega (arith, long, cut.fits);
       longest = λ other more e v l.
-          let front : take (length other) text ≡ other = ap (take (length other)) e ∙ take_front other more in
+          let front : take (length other) text ≡ other = ap (take (length other)) e ∙ take-append_seam other more in
           let at : IsCharBoundary text (length other) = IsCharBoundary-from_take text (length other) u (omega (arith, ap length e, length-append other more)) (subst IsUtf8 (sym front) v) in
           omega (arith, long, cut.greatest (length other) l at);
     }
-  where
-    take_front : (xs ys : List ℕ) → take (length xs) (xs ++ ys) ≡ xs
-    take_front [] ys = refl
-    take_front (x ∷ xs) ys = ap (λ zs. x ∷ zs) (take_front xs ys)
 
 whole_is_longest : (text : List ℕ) (room : ℕ) → IsUtf8 text → length text ≤ room → IsLongestThatFits text text room
 whole_is_longest text room u le = record {
@@ -66,14 +61,6 @@ whole_is_longest text room u le = record {
 pub keeps_the_longest_that_fits : KeepsTheLongestThatFits
 keeps_the_longest_that_fits text l u small =
     subst (λ g. IsLongestThatFits text (if g || nat_le (length text) l.limit then text else take (floor_char_boundary text l.limit) text) l.limit) (sym small)
-    (by (nat_le (length text) l.limit) refl)
-  where
-    by : (b : Bool) → nat_le (length text) l.limit ≡ b → IsLongestThatFits text (if b then text else take (floor_char_boundary text l.limit) text) l.limit
-    by true e = whole_is_longest text l.limit u (within e)
-      where
-        within : nat_le (length text) l.limit ≡ true → length text ≤ l.limit
-        within e = grind (arith, nat_tests)
-    by false e = cut_is_longest text l.limit u (within e)
-      where
-        within : nat_le (length text) l.limit ≡ false → l.limit ≤ length text
-        within e = grind (arith, nat_tests)
+    (cond_both (nat_le (length text) l.limit) text (take (floor_char_boundary text l.limit) text) (λ kept. IsLongestThatFits text kept l.limit)
+    (λ e. whole_is_longest text l.limit u (leb-true (length text) l.limit e))
+    (λ e. cut_is_longest text l.limit u (omega (arith, leb-false (length text) l.limit e))))

@@ -98,14 +98,10 @@ ends_or_not (x ∷ xs) = inr (elim (ends_or_not xs) [
   | inr h ↦ (x ∷ h.0, h.1, ap (λ t. x ∷ t) h.2)
 ])
 
-pub not_pushed : {A : Type 0} (xs : List A) (x : A) → xs ++ x ∷ [] ≡ [] → ⊥
-not_pushed [] x h = cc
-not_pushed (y ∷ xs) x h = cc
-
 pub clusters_front : (text : List ℕ) (i : ℕ) (last : List ℕ) (new : List (ℕ × List ℕ)) → IsUtf8 text → clusters text ≡ new ++ (i, last) ∷ [] → IsCharBoundary text i × (clusters (take i text) ≡ new)
 unfolding segments with_offsets
 clusters_front text i last new u is = elim (ends_or_not (pieces [] (chars text))) [
-  | inl e ↦ absurd (not_pushed new (i, last) (sym is ∙ ap (λ ps. with_offsets 0 (map encode_utf8_all ps)) e))
+  | inl e ↦ absurd (omega (arith, within, ap (λ ps. length (with_offsets 0 (map encode_utf8_all ps))) e))
   | inr h ↦ from_end h.0 h.1 h.2
 ]
   where

@@ -1,15 +1,15 @@
 -- The places of a character in a text, taken apart from its front and from its back.
-use Rattle.std.proofs.Common.{◌≡◌, ℕ, suc, ◌+◌, ◌-◌, ◌<◌, ◌==◌, Bool, true, false, cond, List, [], ◌∷◌, ◌++◌, length, get_or, map, reverse, take, drop, Option, None, Some, refl, sym, ap, ◌∙◌, subst, arith, filter, All, IfSome, option_map, unwrap_or, IsUtf8, IsCharBoundary, chars, encode_utf8, encode_utf8_all}
+use Rattle.std.proofs.Common.{◌≡◌, ℕ, suc, ◌+◌, ◌-◌, ◌<◌, ◌==◌, ⊎_elim, ap₂, Bool, true, false, cond, List, [], ◌∷◌, ◌++◌, length, get_or, map, reverse, take, drop, Option, None, Some, sym, ap, ◌∙◌, subst, arith, filter, All, IfSome, option_map, unwrap_or, IsUtf8, IsCharBoundary, chars, encode_utf8, encode_utf8_all}
 use Rattle.std.specs.Char.{IsScalar, len_utf8}
 use Rattle.std.specs.List.{last_or}
-use Rattle.std.proofs.Math.Seq.{take-nil}
-use Rattle.std.proofs.lemmas.List.{reverse-append, append_assoc, length-append}
+use Rattle.std.proofs.lemmas.List.{reverse-append, map-append, length-append}
+use Rattle.std.proofs.lemmas.Bool.{cases_Bool}
 use Rattle.std.proofs.lemmas.Str.{IsUtf8-past_char, chars_past_char, IsUtf8-encode, chars-append, encodes-chars, chars-nil, IsCharBoundary-at_seam, IsCharBoundary-past_char, IsCharBoundary-start, drop_past_char, length-encode}
-use Rattle.std.proofs.lemmas.List.Elements.{All-append, All-cons, All-take}
+use Rattle.std.proofs.lemmas.List.Elements.{filter-append, All-cons, All-take}
 use Rattle.unicode_segmentation.proofs.TextLemmas.{IsUtf8-before, chars-encode_utf8}
 use Rattle.line_buffer.specs.Hits.{chars_placed, placed_chars, hits, last_char}
 use Rattle.line_buffer.specs.Clusters.{IsPart, nth_or_last}
-use Rattle.line_buffer.proofs.ChainLemmas.{All-last_or, All-reverse, last_or-append}
+use Rattle.line_buffer.proofs.ChainLemmas.{All-last_or, All-reverse, All-passing, last_or-append}
 
 -- the places among placed characters
 abbrev pub places_of : ℕ → List (ℕ × ℕ) → List ℕ
@@ -24,25 +24,11 @@ abbrev pub place_if : Bool → ℕ → List ℕ
 place_if b i = cond b (i ∷ []) []
 
 pub places_of-cons : (c : ℕ) (x : ℕ × ℕ) (xs : List (ℕ × ℕ)) → places_of c (x ∷ xs) ≡ place_if (x.1 == c) x.0 ++ places_of c xs
-places_of-cons c x xs = by_test (x.1 == c)
-  where
-    by_test : (b : Bool) → map (λ x. x.0) (cond b (x ∷ filter (λ x. x.1 == c) xs) (filter (λ x. x.1 == c) xs)) ≡ place_if b x.0 ++ places_of c xs
-    by_test true = refl
-    by_test false = refl
+places_of-cons c x xs = ⊎_elim (λ (t : (x.1 == c) ≡ true). rw t) (λ (t : (x.1 == c) ≡ false). rw t) (cases_Bool (x.1 == c))
 
 pub places_of-append : (c : ℕ) (xs ys : List (ℕ × ℕ)) → places_of c (xs ++ ys) ≡ places_of c xs ++ places_of c ys
-places_of-append c [] ys = refl
-places_of-append c (x ∷ xs) ys =
-    places_of-cons c x (xs ++ ys) ∙ ap (λ zs. place_if (x.1 == c) x.0 ++ zs) (places_of-append c xs ys)
-    ∙ sym (append_assoc (place_if (x.1 == c) x.0) (places_of c xs) (places_of c ys)) ∙ ap (λ zs. zs ++ places_of c ys) (sym (places_of-cons c x xs))
-
-pub chars_placed-cons : (at c : ℕ) (cs : List ℕ) → chars_placed at (c ∷ cs) ≡ (at, c) ∷ chars_placed (at + length (encode_utf8 c)) cs
-unfolding chars_placed
-chars_placed-cons at c cs = refl
-
-pub chars_placed-nil : (at : ℕ) → chars_placed at [] ≡ []
-unfolding chars_placed
-chars_placed-nil at = refl
+places_of-append c xs ys =
+    ap (map (λ x. x.0)) (filter-append (λ x. x.1 == c) xs ys) ∙ map-append (λ x. x.0) (filter (λ x. x.1 == c) xs) (filter (λ x. x.1 == c) ys)
 
 pub chars_placed-snoc : (at : ℕ) (cs : List ℕ) (c : ℕ) → chars_placed at (cs ++ c ∷ []) ≡ chars_placed at cs ++ (at + length (encode_utf8_all cs), c) ∷ []
 unfolding chars_placed
@@ -50,14 +36,7 @@ chars_placed-snoc at [] c = ap (λ k. (k, c) ∷ []) (let e : at ≡ at + 0 = om
 chars_placed-snoc at (d ∷ cs) c = ap (λ xs. (at, d) ∷ xs) (chars_placed-snoc (at + length (encode_utf8 d)) cs c
     ∙ ap (λ k. chars_placed (at + length (encode_utf8 d)) cs ++ (k, c) ∷ []) (omega (arith, length-append (encode_utf8 d) (encode_utf8_all cs))))
 
--- the first character of a text
-module _ (at : ℕ) (c : ℕ) (old new : List ℕ) (next : ℕ) (u : IsUtf8 old) (came : old ≡ encode_utf8 next ++ new) where
-  pub hits-first : hits_from at c old ≡ place_if (next == c) at ++ hits_from (at + length (encode_utf8 next)) c new
-  hits-first =
-      ap (λ cs. places_of c (chars_placed at cs)) (chars_past_char old new next u came) ∙ ap (places_of c) (chars_placed-cons at next (chars new))
-      ∙ places_of-cons c (at, next) (chars_placed (at + length (encode_utf8 next)) (chars new))
-
--- the last one
+-- the last character of a text
 module _ (at : ℕ) (c : ℕ) (old new : List ℕ) (last : ℕ) (u : IsUtf8 old) (s : IsScalar last) (came : old ≡ new ++ encode_utf8 last) where
   pub utf8-before : IsUtf8 new
   utf8-before = IsUtf8-before old new (encode_utf8 last) u (IsUtf8-encode last s) came
@@ -69,13 +48,10 @@ module _ (at : ℕ) (c : ℕ) (old new : List ℕ) (last : ℕ) (u : IsUtf8 old)
 
   pub hits-last : reverse (hits_from at c old) ≡ place_if (last == c) (at + length new) ++ reverse (hits_from at c new)
   hits-last =
+      let one : reverse (places_of c ((at + length new, last) ∷ [])) ≡ place_if (last == c) (at + length new) =
+      ⊎_elim (λ (t : (last == c) ≡ true). rw t) (λ (t : (last == c) ≡ false). rw t) (cases_Bool (last == c)) in
       ap (λ xs. reverse (places_of c xs)) placed-last ∙ ap reverse (places_of-append c (chars_placed at (chars new)) ((at + length new, last) ∷ []))
-      ∙ reverse-append (hits_from at c new) (places_of c ((at + length new, last) ∷ []))
-      ∙ ap (λ zs. zs ++ reverse (hits_from at c new)) (ap reverse (places_of-cons c (at + length new, last) []) ∙ one (last == c))
-    where
-      one : (b : Bool) → reverse (place_if b (at + length new) ++ []) ≡ place_if b (at + length new)
-      one true = refl
-      one false = refl
+      ∙ reverse-append (hits_from at c new) (places_of c ((at + length new, last) ∷ [])) ∙ ap (λ zs. zs ++ reverse (hits_from at c new)) one
 
 -- a turn of a search for the n-th place
 module _ (v found : Option ℕ) (all rest : List ℕ) (b : Bool) (i : ℕ) (split : all ≡ place_if b i ++ rest) (missing : ℕ) (before : v ≡ last_or found (take missing all)) where
@@ -87,29 +63,23 @@ module _ (v found : Option ℕ) (all rest : List ℕ) (b : Bool) (i : ℕ) (spli
       ∙ ap (λ k. last_or found (take k (i ∷ rest))) (let q : missing ≡ suc (missing - 1) = omega (arith, p) in q)
 
 pub hits-none : (at c : ℕ) (text : List ℕ) → length text ≡ 0 → hits_from at c text ≡ []
-hits-none at c [] e = ap (λ cs. places_of c (chars_placed at cs)) chars-nil ∙ ap (places_of c) (chars_placed-nil at)
+unfolding chars_placed
+hits-none at c [] e = ap (λ cs. places_of c (chars_placed at cs)) chars-nil
 hits-none at c (b ∷ bs) e = absurd (omega (arith, e))
-
--- nothing is left of the text
-pub hits-end : (v found : Option ℕ) (all : List ℕ) (missing : ℕ) → v ≡ last_or found (take missing all) → all ≡ [] → found ≡ v
-hits-end v found all missing before e = sym (before ∙ ap (λ xs. last_or found (take missing xs)) e ∙ ap (last_or found) (take-nil missing))
 
 -- the same as the iterators say it: `i` is the character's place, and `onward` where the rest stands
 pub first-read : (at i onward c : ℕ) (old new : List ℕ) (next : ℕ) → IsUtf8 old → (i ≡ at) × (old ≡ encode_utf8 next ++ new) × (onward ≡ at + length (encode_utf8 next))
     → hits_from at c old ≡ place_if (next == c) i ++ hits_from onward c new
+unfolding chars_placed
 first-read at i onward c old new next u h =
-    hits-first at c old new next u h.1
-    ∙ ap (λ k. place_if (next == c) k ++ hits_from (at + length (encode_utf8 next)) c new) (sym h.0) ∙ ap (λ k. place_if (next == c) i ++ hits_from k c new) (sym h.2)
+    ap (λ cs. places_of c (chars_placed at cs)) (chars_past_char old new next u h.1)
+    ∙ places_of-cons c (at, next) (chars_placed (at + length (encode_utf8 next)) (chars new))
+    ∙ ap₂ (λ k m. place_if (next == c) k ++ hits_from m c new) (sym h.0) (sym h.2)
 
 pub last-read : (at i onward c : ℕ) (old new : List ℕ) (last : ℕ) → IsUtf8 old → IsScalar last → (onward ≡ at) × (old ≡ new ++ encode_utf8 last) × (i ≡ at + length new)
     → reverse (hits_from at c old) ≡ place_if (last == c) i ++ reverse (hits_from onward c new)
 last-read at i onward c old new last u s h =
-    hits-last at c old new last u s h.1
-    ∙ ap (λ k. place_if (last == c) k ++ reverse (hits_from at c new)) (sym h.2) ∙ ap (λ k. place_if (last == c) i ++ reverse (hits_from k c new)) (sym h.0)
-
--- or no more is wanted
-pub hits-stop : (v found : Option ℕ) (all : List ℕ) (missing : ℕ) → v ≡ last_or found (take missing all) → missing ≡ 0 → found ≡ v
-hits-stop v found all missing before e = sym (before ∙ ap (λ k. last_or found (take k all)) e)
+    hits-last at c old new last u s h.1 ∙ ap₂ (λ k m. place_if (last == c) k ++ reverse (hits_from m c new)) (sym h.2) (sym h.0)
 
 -- the last character's place
 pub last_char-read : (text new : List ℕ) (last : ℕ) → IsUtf8 text → IsScalar last → text ≡ new ++ encode_utf8 last → last_char text ≡ length new
@@ -118,7 +88,8 @@ last_char-read text new last u s came =
     ∙ ap (λ o. unwrap_or (option_map (λ x. x.0) o) 0) (last_or-append None (chars_placed 0 (chars new)) ((0 + length new, last) ∷ [])) ∙ (let e : 0 + length new ≡ length new = omega arith in e)
 
 pub last_char-empty : (text : List ℕ) → length text ≡ 0 → last_char text ≡ 0
-last_char-empty [] e = ap (λ cs. unwrap_or (option_map (λ x. x.0) (last_or None (chars_placed 0 cs))) 0) chars-nil ∙ ap (λ xs. unwrap_or (option_map (λ x. x.0) (last_or None xs)) 0) (chars_placed-nil 0)
+unfolding chars_placed
+last_char-empty [] e = ap (λ cs. unwrap_or (option_map (λ x. x.0) (last_or None (chars_placed 0 cs))) 0) chars-nil
 last_char-empty (b ∷ bs) e = absurd (omega (arith, e))
 
 -- the same, where the character's bytes were counted
@@ -131,11 +102,11 @@ last_char-counted text new last n u s came counted =
 -- each character stands between two places at which characters begin
 pub All-placed : (text : List ℕ) (at : ℕ) (cs : List ℕ) → IsUtf8 (drop at text) → drop at text ≡ encode_utf8_all cs → IsCharBoundary text at
     → All (λ x. IsPart text x.0 (length (encode_utf8 x.1))) (chars_placed at cs)
-All-placed text at [] u e b = subst (All (λ x. IsPart text x.0 (length (encode_utf8 x.1)))) (sym (chars_placed-nil at)) (λ k d l. absurd (omega (arith, l)))
+unfolding chars_placed
+All-placed text at [] u e b = λ k d l. absurd (omega (arith, l))
 All-placed text at (c ∷ cs) u e b =
-    subst (All (λ x. IsPart text x.0 (length (encode_utf8 x.1)))) (sym (chars_placed-cons at c cs))
-    (All-cons (λ x. IsPart text x.0 (length (encode_utf8 x.1))) (at, c) (chars_placed (at + length (encode_utf8 c)) cs) (record { start = b; end = end })
-    (All-placed text (at + length (encode_utf8 c)) cs (subst IsUtf8 (sym onward) (IsUtf8-past_char (drop at text) (encode_utf8_all cs) c u e)) onward end))
+    All-cons (λ x. IsPart text x.0 (length (encode_utf8 x.1))) (at, c) (chars_placed (at + length (encode_utf8 c)) cs) (record { start = b; end = end })
+    (All-placed text (at + length (encode_utf8 c)) cs (subst IsUtf8 (sym onward) (IsUtf8-past_char (drop at text) (encode_utf8_all cs) c u e)) onward end)
   where
     width : len_utf8 c ≡ length (encode_utf8 c)
     width = sym (length-encode c)
@@ -146,18 +117,9 @@ All-placed text at (c ∷ cs) u e b =
     onward : drop (at + length (encode_utf8 c)) text ≡ encode_utf8_all cs
     onward = ap (λ k. drop (at + k) text) (sym width) ∙ drop_past_char text (encode_utf8_all cs) at c e
 
-All-places_of : (P : ℕ → Type 0) (c : ℕ) (xs : List (ℕ × ℕ)) → All (λ x. (x.1 == c) ≡ true → P x.0) xs → All P (places_of c xs)
-All-places_of P c [] h = λ k d l. absurd (omega (arith, l))
-All-places_of P c (x ∷ xs) h =
-    subst (All P) (sym (places_of-cons c x xs)) (All-append P (place_if (x.1 == c) x.0) (places_of c xs) (first (x.1 == c) (h 0 x (omega arith))) (All-places_of P c xs (λ k d l. h (suc k) d (omega (arith, l)))))
-  where
-    first : (b : Bool) → (b ≡ true → P x.0) → All P (place_if b x.0)
-    first true p = All-cons P x.0 [] (p refl) (λ k d l. absurd (omega (arith, l)))
-    first false p = λ k d l. absurd (omega (arith, l))
-
 pub All-hits : (c : ℕ) (text : List ℕ) → IsUtf8 text → All (λ i. IsPart text i (length (encode_utf8 c))) (hits c text)
 All-hits c text u =
-    All-places_of (λ i. IsPart text i (length (encode_utf8 c))) c (placed_chars text)
+    All-passing (λ i. IsPart text i (length (encode_utf8 c))) (λ x. x.0) (λ x. x.1 == c) (placed_chars text)
     (λ k d l e. subst (λ x. IsPart text (get_or (placed_chars text) k d).0 (length (encode_utf8 x))) (let q : (get_or (placed_chars text) k d).1 ≡ c = grind (arith, e) in q)
     (All-placed text 0 (chars text) u (sym (encodes-chars text u)) (IsCharBoundary-start text u) k d l))
 

@@ -44,33 +44,10 @@ moved_len : (margin : List ℕ) (dedent : Bool) (row : List ℕ) → row_len mar
 moved_len margin true row = sym (length-drop (length (front_whitespace (length margin) row)) row)
 moved_len margin false row = let long = length-append margin row in omega (arith, long)
 
-row_events_one : (margin : List ℕ) (dedent : Bool) (at : ℕ) (row text : List ℕ) → text_after_events (row_events margin dedent at (row ∷ [])) text ≡ text_after_event (row_event margin dedent at row) text
-unfolding row_events text_after_events
-row_events_one margin dedent at row text = refl
-
-row_events_more : (margin : List ℕ) (dedent : Bool) (at : ℕ) (row text : List ℕ) (rows : List (List ℕ)) → text_after_events (row_events margin dedent at (row ∷ rows)) text
-    ≡ text_after_events (row_events margin dedent (at + row_len margin dedent row + 1) rows) (text_after_event (row_event margin dedent at row) text)
-unfolding row_events text_after_events
-row_events_more margin dedent at row text rows = refl
-
-row_events_none : (margin : List ℕ) (dedent : Bool) (at : ℕ) (text : List ℕ) → text_after_events (row_events margin dedent at []) text ≡ text
-unfolding row_events text_after_events
-row_events_none margin dedent at text = refl
-
-row_text_one : (row : List ℕ) → join_with_byte 10 (row ∷ []) ≡ row
-row_text_one row = refl
-
-row_text_more : (row next : List ℕ) (rows : List (List ℕ)) → join_with_byte 10 (row ∷ (next ∷ rows)) ≡ row ++ 10 ∷ join_with_byte 10 (next ∷ rows)
-row_text_more row next rows = refl
-
 pub rows_get_their_margin : RowsGetTheirMargin
-rows_get_their_margin margin dedent before after [] u =
-    row_events_none margin dedent (length before) (before ++ (join_with_byte 10 [] ++ after))
-rows_get_their_margin margin dedent before after (row ∷ []) u =
-    row_events_one margin dedent (length before) row (before ++ (join_with_byte 10 (row ∷ []) ++ after))
-    ∙ ap (λ xs. text_after_event (row_event margin dedent (length before) row) (before ++ (xs ++ after))) (row_text_one row)
-    ∙ one_row margin dedent before after row (u 0 row (omega arith))
-    ∙ ap (λ xs. before ++ (xs ++ after)) (sym (row_text_one (row_after_indent margin dedent row)))
+unfolding row_events text_after_events
+rows_get_their_margin margin dedent before after [] u = refl
+rows_get_their_margin margin dedent before after (row ∷ []) u = one_row margin dedent before after row (u 0 row (omega arith))
 rows_get_their_margin margin dedent before after (row ∷ (next ∷ rows)) u =
     let moved = row_after_indent margin dedent row in
     let later = join_with_byte 10 (next ∷ rows) in
@@ -80,13 +57,11 @@ rows_get_their_margin margin dedent before after (row ∷ (next ∷ rows)) u =
     λ xs. ap (λ ys. before ++ ys) (sym (append_assoc moved (10 ∷ []) xs)) ∙ sym (append_assoc before (moved ++ 10 ∷ []) xs) in
     let place : length before + row_len margin dedent row + 1 ≡ length onward =
     omega (arith, moved_len margin dedent row, length-append before (moved ++ 10 ∷ []), length-append moved (10 ∷ [])) in
-    row_events_more margin dedent (length before) row (before ++ (join_with_byte 10 (row ∷ (next ∷ rows)) ++ after)) (next ∷ rows)
-    ∙ ap (λ xs. text_after_events (row_events margin dedent (length before + row_len margin dedent row + 1) (next ∷ rows)) (text_after_event (row_event margin dedent (length before) row) (before ++ xs)))
-    (ap (λ xs. xs ++ after) (row_text_more row next rows) ∙ append_assoc row (10 ∷ later) after)
+    ap (λ xs. text_after_events (row_events margin dedent (length before + row_len margin dedent row + 1) (next ∷ rows)) (text_after_event (row_event margin dedent (length before) row) (before ++ xs)))
+    (append_assoc row (10 ∷ later) after)
     ∙ ap (text_after_events (row_events margin dedent (length before + row_len margin dedent row + 1) (next ∷ rows)))
     (one_row margin dedent before (10 ∷ (later ++ after)) row (u 0 row (omega arith)) ∙ behind (later ++ after))
     ∙ ap (λ n. text_after_events (row_events margin dedent n (next ∷ rows)) (onward ++ (later ++ after))) place
     ∙ rows_get_their_margin margin dedent onward after (next ∷ rows) (λ k d l. u (suc k) d (omega (arith, l)))
     ∙ sym (behind (later_moved ++ after))
     ∙ ap (λ xs. before ++ xs) (sym (append_assoc moved (10 ∷ later_moved) after))
-    ∙ ap (λ xs. before ++ (xs ++ after)) (sym (row_text_more moved (row_after_indent margin dedent next) (map (row_after_indent margin dedent) rows)))

@@ -1,34 +1,33 @@
 -- The whitespace at the front of a row.
-use Rattle.std.proofs.Common.{◌≡◌, ℕ, zero, suc, ◌+◌, ◌-◌, ◌<◌, ◌≤◌, Bool, true, false, List, [], ◌∷◌, ◌++◌, length, take, drop, refl, sym, ap, ◌∙◌, arith, append_assoc, cond, not, ◌==◌, IsUtf8, take_while, chars, encode_utf8, encode_utf8_all}
+use Rattle.std.proofs.Common.{◌≡◌, ℕ, zero, suc, ◌+◌, ◌-◌, ◌<◌, ◌≤◌, true, false, List, [], ◌∷◌, ◌++◌, length, take, drop, refl, sym, ap, ◌∙◌, arith, append_assoc, ◌==◌, All, IsUtf8, take_while, chars, encode_utf8, encode_utf8_all}
 use Rattle.std.specs.Char.{is_whitespace}
-use Rattle.std.specs.List.{prefix_len, onto_first}
-use Rattle.std.proofs.lemmas.List.{append-nil, length-drop, drop-drop, length-append}
+use Rattle.std.specs.List.{prefix_len}
+use Rattle.std.proofs.lemmas.Bool.{not-true}
+use Rattle.std.proofs.lemmas.List.{append-nil, length-drop, length-take, get_or-take, drop-drop, length-append}
+use Rattle.std.proofs.lemmas.List.Splits.{slice_split_none, slice_split_at}
+use Rattle.std.proofs.lemmas.List.Sums.{prefix_len_passes, prefix_len_stops}
 use Rattle.std.proofs.lemmas.Str.{chars_past_char, chars-nil, IsUtf8-past_char}
 use Rattle.std.proofs.Math.Seq.{take-nil, take-add, take-append_seam, drop-append_seam}
 use Rattle.line_buffer.specs.Indent.{front_whitespace, rows_of}
 use Rattle.line_buffer.specs.Rows.{is_in_row}
+use Rattle.line_buffer.proofs.RowStartLemmas.{is_newline, split_at_newline}
 
 leading_empty : (n : ℕ) (bs : List ℕ) → bs ≡ [] → front_whitespace n bs ≡ []
 leading_empty n bs e = ap (front_whitespace n) e ∙ ap (λ cs. encode_utf8_all (take n (take_while is_whitespace cs))) chars-nil ∙ ap encode_utf8_all (take-nil n)
 
-take_while_first : (c : ℕ) (cs : List ℕ) (b : Bool) → is_whitespace c ≡ b → take_while is_whitespace (c ∷ cs) ≡ cond b (c ∷ take_while is_whitespace cs) []
-take_while_first c cs true e = ap (λ b. take (cond b (1 + prefix_len is_whitespace cs) 0) (c ∷ cs)) e ∙ ap (λ k. take k (c ∷ cs)) (let k : 1 + prefix_len is_whitespace cs ≡ suc (prefix_len is_whitespace cs) = omega arith in k)
-take_while_first c cs false e = ap (λ b. take (cond b (1 + prefix_len is_whitespace cs) 0) (c ∷ cs)) e
-
-leading_first : (n c : ℕ) (bs rest : List ℕ) → IsUtf8 bs → bs ≡ encode_utf8 c ++ rest
-    → front_whitespace n bs ≡ encode_utf8_all (take n (cond (is_whitespace c) (c ∷ take_while is_whitespace (chars rest)) []))
-leading_first n c bs rest u e = ap (λ cs. encode_utf8_all (take n (take_while is_whitespace cs))) (chars_past_char bs rest c u e)
-    ∙ ap (λ cs. encode_utf8_all (take n cs)) (take_while_first c (chars rest) (is_whitespace c) refl)
+take_while_more : (c : ℕ) (cs : List ℕ) → is_whitespace c ≡ true → take_while is_whitespace (c ∷ cs) ≡ c ∷ take_while is_whitespace cs
+take_while_more c cs e = rw e (ap (λ k. take k (c ∷ cs)) (let k : 1 + prefix_len is_whitespace cs ≡ suc (prefix_len is_whitespace cs) = omega arith in k))
 
 leading_more : (n c : ℕ) (bs rest : List ℕ) → IsUtf8 bs → bs ≡ encode_utf8 c ++ rest → is_whitespace c ≡ true → 0 < n → front_whitespace n bs ≡ encode_utf8 c ++ front_whitespace (n - 1) rest
 leading_more zero c bs rest u e w some = absurd (omega arith)
 leading_more (suc n) c bs rest u e w some =
-    leading_first (suc n) c bs rest u e ∙ ap (λ b. encode_utf8_all (take (suc n) (cond b (c ∷ take_while is_whitespace (chars rest)) []))) w
+    ap (λ cs. encode_utf8_all (take (suc n) (take_while is_whitespace cs))) (chars_past_char bs rest c u e)
+    ∙ ap (λ cs. encode_utf8_all (take (suc n) cs)) (take_while_more c (chars rest) w)
     ∙ ap (λ k. encode_utf8 c ++ front_whitespace k rest) (let k : n ≡ suc n - 1 = omega arith in k)
 
 leading_none : (n c : ℕ) (bs rest : List ℕ) → IsUtf8 bs → bs ≡ encode_utf8 c ++ rest → is_whitespace c ≡ false → front_whitespace n bs ≡ []
 leading_none n c bs rest u e w =
-    leading_first n c bs rest u e ∙ ap (λ b. encode_utf8_all (take n (cond b (c ∷ take_while is_whitespace (chars rest)) []))) w ∙ ap encode_utf8_all (take-nil n)
+    ap (λ cs. encode_utf8_all (take n (take_while is_whitespace cs))) (chars_past_char bs rest c u e) ∙ rw w (ap encode_utf8_all (take-nil n))
 
 -- the walk over a row stands at a place, with the rest of the row and so many characters still to take
 pub record Walks (row : List ℕ) (count at : ℕ) (rest : List ℕ) (missing : ℕ) : Type 0 where
@@ -80,24 +79,13 @@ module _ (row : List ℕ) (count at : ℕ) (rest : List ℕ) (missing : ℕ) (w 
 
 -- the rows of a text, the first one taken off
 pub rows_last : (xs : List ℕ) → prefix_len is_in_row xs ≡ length xs → rows_of xs ≡ xs ∷ []
-rows_last [] e = refl
-rows_last (x ∷ xs) e = by_test (x == 10) refl e (rows_last xs)
-  where
-    by_test : (b : Bool) → (x == 10) ≡ b → cond (not b) (1 + prefix_len is_in_row xs) 0 ≡ length (x ∷ xs) → (prefix_len is_in_row xs ≡ length xs → rows_of xs ≡ xs ∷ []) → rows_of (x ∷ xs) ≡ (x ∷ xs) ∷ []
-    by_test true t e rest = absurd (omega (arith, e))
-    by_test false t e rest = ap (λ b. cond b ([] ∷ rows_of xs) (onto_first x (rows_of xs))) t ∙ ap (onto_first x) (rest (omega (arith, e)))
+rows_last xs e = slice_split_none (λ byte. byte == 10) xs (λ k d l. not-true _ (prefix_len_passes is_in_row xs k d (omega (arith, l, e))))
 
 pub rows_more : (xs : List ℕ) → prefix_len is_in_row xs < length xs → rows_of xs ≡ take (prefix_len is_in_row xs) xs ∷ rows_of (drop (prefix_len is_in_row xs + 1) xs)
-rows_more [] h = absurd (omega (arith, h))
-rows_more (x ∷ xs) h = by_test (x == 10) refl h (rows_more xs)
-  where
-    n : ℕ
-    n = prefix_len is_in_row xs
-
-    by_test : (b : Bool) → (x == 10) ≡ b → cond (not b) (1 + n) 0 < length (x ∷ xs) → (n < length xs → rows_of xs ≡ take n xs ∷ rows_of (drop (n + 1) xs))
-        → rows_of (x ∷ xs) ≡ take (cond (not (x == 10)) (1 + n) 0) (x ∷ xs) ∷ rows_of (drop (cond (not (x == 10)) (1 + n) 0 + 1) (x ∷ xs))
-    by_test true t h rest = ap (λ b. cond b ([] ∷ rows_of xs) (onto_first x (rows_of xs))) t ∙ ap (λ b. take (cond (not b) (1 + n) 0) (x ∷ xs) ∷ rows_of (drop (cond (not b) (1 + n) 0 + 1) (x ∷ xs))) (sym t)
-    by_test false t h rest =
-        ap (λ b. cond b ([] ∷ rows_of xs) (onto_first x (rows_of xs))) t ∙ ap (onto_first x) (rest (omega (arith, h)))
-        ∙ ap (λ k. take (suc n) (x ∷ xs) ∷ rows_of (drop k (x ∷ xs))) (let k : suc (n + 1) ≡ (1 + n) + 1 = omega arith in k)
-        ∙ ap (λ k. take k (x ∷ xs) ∷ rows_of (drop ((1 + n) + 1) (x ∷ xs))) (let k : suc n ≡ 1 + n = omega arith in k) ∙ ap (λ b. take (cond (not b) (1 + n) 0) (x ∷ xs) ∷ rows_of (drop (cond (not b) (1 + n) 0 + 1) (x ∷ xs))) (sym t)
+rows_more xs h =
+    let n : ℕ = prefix_len is_in_row xs in
+    let in_row : All (λ byte. (byte == 10) ≡ false) (take n xs) =
+    λ k d l. let low : k < n = omega (arith, l, length-take n xs) in
+    ap (λ byte. byte == 10) (get_or-take n xs k d low) ∙ not-true _ (prefix_len_passes is_in_row xs k d low) in
+    ap rows_of (split_at_newline xs n h (is_newline _ (prefix_len_stops is_in_row xs 0 h)))
+    ∙ slice_split_at (λ byte. byte == 10) (take n xs) 10 (drop (n + 1) xs) in_row refl

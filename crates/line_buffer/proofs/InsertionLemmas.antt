@@ -14,7 +14,7 @@ use Rattle.std.specs.Prelude.{slice_index}
 inside : (text : List ℕ) (n : ℕ) → n ≤ length text → (IsCharBoundary text n → ⊥) → is_char_start (slice_index text n) ≡ false
 inside text n le never = grind (arith, nat_tests)
 
-not_inside : (text : List ℕ) (n : ℕ) → IsCharBoundary text n → is_char_start (slice_index text n) ≡ true
+pub not_inside : (text : List ℕ) (n : ℕ) → IsCharBoundary text n → is_char_start (slice_index text n) ≡ true
 not_inside text n b = grind (arith, nat_tests, get_or_past text n 0)
 
 last_cut_here : (text : List ℕ) (n : ℕ) → IsCharBoundary text n → floor_char_boundary text n ≡ n

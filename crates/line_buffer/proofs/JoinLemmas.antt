@@ -1,5 +1,5 @@
 -- The clusters of a text of printable ASCII, and of a text that begins or ends in letters.
-use Rattle.std.proofs.Common.{◌≡◌, ℕ, ◌+◌, ◌<◌, ◌≤◌, ◌==◌, Bool, true, false, cond, ◌||◌, List, [], ◌∷◌, ◌++◌, length, map, take, None, Some, refl, sym, ap, ap₂, ◌∙◌, arith, eqb-true, IsUtf8, chars, encode_utf8, encode_utf8_all, nat_lt}
+use Rattle.std.proofs.Common.{◌≡◌, ℕ, ◌+◌, ◌<◌, ◌≤◌, ◌==◌, Bool, true, false, cond, ◌||◌, List, [], ◌∷◌, ◌++◌, length, map, take, None, Some, refl, sym, ap, ap₂, ◌∙◌, arith, eqb-true, IsUtf8, chars, encode_utf8, encode_utf8_all, nat_le, not}
 use Rattle.std.specs.List.{last_or, concat}
 use Rattle.std.proofs.lemmas.Bool.Decides.{nat_tests}
 use Rattle.std.proofs.lemmas.List.{append-nil, length-append, map-append}
@@ -15,6 +15,8 @@ use Rattle.unicode_segmentation.proofs.GraphemeLemmas.{is_grapheme_break-others}
 use Rattle.unicode_segmentation.proofs.SegmentsLemmas.{concat-segments}
 use Rattle.line_buffer.specs.Clusters.{clusters}
 use Rattle.line_buffer.specs.Printable.{is_printable}
+use Rattle.std.proofs.lemmas.Bool.{le-leb}
+use Rattle.line_buffer.proofs.ListedRanges.{implied}
 
 -- the rules read of what follows only the next character
 pub next_alone : (before : List ℕ) (next : ℕ) (after more : List ℕ) → is_grapheme_break true before (next ∷ after) ≡ is_grapheme_break true before (next ∷ more)
@@ -60,12 +62,9 @@ printable_class : (c : ℕ) → is_printable c ≡ true → grapheme_cluster_bre
 unfolding unicode_segmentation
 printable_class c h =
     let bounds = printable_bounds c h in
-    grapheme_cluster_break_number_injective _ _ (eqb-true _ _ (from_test (nat_lt c 32) refl bounds.0
-    (Stepped-below grapheme_cluster_break grapheme_cluster_break_stepped (λ x v. nat_lt x 32 || (grapheme_cluster_break_number v == 12)) 127 refl c bounds.1)))
-  where
-    from_test : (b : Bool) → nat_lt c 32 ≡ b → 32 ≤ c → (b || (grapheme_cluster_break_number (grapheme_cluster_break c) == 12)) ≡ true → (grapheme_cluster_break_number (grapheme_cluster_break c) == 12) ≡ true
-    from_test true e low h = absurd (grind (arith, e, low))
-    from_test false e low h = h
+    grapheme_cluster_break_number_injective _ _ (eqb-true _ _ (implied (nat_le 32 c) _ (le-leb 32 c bounds.0)
+    (Stepped-below grapheme_cluster_break grapheme_cluster_break_stepped (λ x v. not (nat_le 32 x) || (grapheme_cluster_break_number v == 12))
+    127 refl c bounds.1)))
 
 printable-breaks : (c : ℕ) (before : List ℕ) (d : ℕ) (after : List ℕ) → is_printable c ≡ true → is_printable d ≡ true → is_grapheme_break true (c ∷ before) (d ∷ after) ≡ true
 printable-breaks c before d after p q =

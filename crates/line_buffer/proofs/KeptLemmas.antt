@@ -8,7 +8,6 @@ use Rattle.line_buffer.specs.Insertions.{insert, yank}
 use Rattle.line_buffer.specs.Line.{Line}
 use Rattle.line_buffer.specs.Range.{range_of, goes_by_clusters, deletion_events, kill_events, kill_closing}
 use Rattle.line_buffer.proofs.InsertionLemmas.{insert_cases, yank_cases}
-use Rattle.line_buffer.proofs.LeftLemmas.{carried_all-none, carried_all-one}
 
 -- of one event at most none was made
 pub none_done : {events : List ChangeEvent} (done never : List ChangeEvent) (refused : ChangeEvent) → length events ≤ 1 → events ≡ done ++ refused ∷ never → done ≡ []
@@ -18,7 +17,8 @@ none_done (e ∷ done) never refused few split = absurd (omega (arith, few, ap l
 -- an edit of one event at most leaves the line as it was if it fails
 pub kept_alone : {S : Type 0} {takes stops : S → ChangeEvent → S → Type 0} {closing events : List ChangeEvent} {s t : S} {l m : Line} → length events ≤ 1
     → StopsAt takes stops closing events s t l m → m ≡ l
-kept_alone {l = l} few x = x.line ∙ ap (λ es. line_after_events es l) (none_done x.stops.done x.stops.never x.stops.refused few x.stops.split) ∙ carried_all-none l
+unfolding line_after_events
+kept_alone {l = l} few x = x.line ∙ ap (λ es. line_after_events es l) (none_done x.stops.done x.stops.never x.stops.refused few x.stops.split)
 
 pub insert_few : (c n : ℕ) (l : Line) → length (insert c n l).events ≤ 1
 insert_few c n l = insert_cases (λ x. length x.events ≤ 1) c n l (omega arith) (λ one. omega arith) (omega arith)
@@ -37,23 +37,17 @@ pub record KillCut (plain : Bool) (range : Option TextSpan) (l : Line) (done : L
 
 pub kill_cut : (plain : Bool) (range : Option TextSpan) (l : Line) (done never : List ChangeEvent) (refused : ChangeEvent)
     → (if plain then deletion_events range l else StartKilling ∷ (deletion_events range l ++ (StopKilling ∷ []))) ≡ done ++ refused ∷ never → TellsOfChange refused → KillCut plain range l done refused
-kill_cut true None l [] never refused is tells = absurd (cc)
-kill_cut true None l (x ∷ done) never refused is tells = absurd (cc)
 kill_cut true (Some span) l [] never refused is tells = record { span = span; some = refl; change = cc; marks = refl }
-kill_cut true (Some span) l (x ∷ []) never refused is tells = absurd (cc)
-kill_cut true (Some span) l (x ∷ y ∷ done) never refused is tells = absurd (cc)
-kill_cut false range l [] never refused is tells = let mark : refused ≡ StartKilling = cc in absurd (subst TellsOfChange mark tells)
-kill_cut false None l (x ∷ []) never refused is tells = let mark : refused ≡ StopKilling = cc in absurd (subst TellsOfChange mark tells)
-kill_cut false None l (x ∷ y ∷ []) never refused is tells = absurd (cc)
-kill_cut false None l (x ∷ y ∷ z ∷ done) never refused is tells = absurd (cc)
 kill_cut false (Some span) l (x ∷ []) never refused is tells = record { span = span; some = refl; change = cc; marks = cc }
 kill_cut false (Some span) l (x ∷ y ∷ []) never refused is tells = let mark : refused ≡ StopKilling = cc in absurd (subst TellsOfChange mark tells)
-kill_cut false (Some span) l (x ∷ y ∷ z ∷ []) never refused is tells = absurd (cc)
-kill_cut false (Some span) l (x ∷ y ∷ z ∷ w ∷ done) never refused is tells = absurd (cc)
+kill_cut false None l (x ∷ []) never refused is tells = let mark : refused ≡ StopKilling = cc in absurd (subst TellsOfChange mark tells)
+kill_cut false range l [] never refused is tells = let mark : refused ≡ StartKilling = cc in absurd (subst TellsOfChange mark tells)
+kill_cut _ _ l done never refused is tells = absurd (omega (arith, ap length is, length-append done (refused ∷ never)))
 
 mark_kept : (plain : Bool) (l : Line) → line_after_events (if plain then [] else StartKilling ∷ []) l ≡ l
-mark_kept true l = carried_all-none l
-mark_kept false l = carried_all-one StartKilling l
+unfolding line_after_events
+mark_kept true l = refl
+mark_kept false l = refl
 
 -- no change is made before that of a kill
 pub kill_kept : {S : Type 0} {takes stops : S → ChangeEvent → S → Type 0} (movement : Movement) {s t : S} {l m : Line}

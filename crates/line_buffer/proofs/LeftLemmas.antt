@@ -13,18 +13,6 @@ use Rattle.line_buffer.specs.Line.{Line, with_replacement, without_range}
 use Rattle.line_buffer.proofs.ReplayedLemmas.{replayed_deletion, replayed_replacement}
 use Rattle.line_buffer.proofs.ReplayLemmas.{reports_nothing, reports_one, reports_then, stops_wanting}
 
-pub carried_all-none : (l : Line) → line_after_events [] l ≡ l
-unfolding line_after_events
-carried_all-none l = refl
-
-pub carried_all-one : (e : ChangeEvent) (l : Line) → line_after_events (e ∷ []) l ≡ line_after_event e l
-unfolding line_after_events
-carried_all-one e l = refl
-
-pub carried_all-first : (e : ChangeEvent) (es : List ChangeEvent) (l : Line) → line_after_events (e ∷ es) l ≡ line_after_events es (line_after_event e l)
-unfolding line_after_events
-carried_all-first e es l = refl
-
 pub carried_all-append : (es fs : List ChangeEvent) (l : Line) → line_after_events (es ++ fs) l ≡ line_after_events fs (line_after_events es l)
 unfolding line_after_events
 carried_all-append [] fs l = refl
@@ -33,6 +21,7 @@ carried_all-append (e ∷ es) fs l = carried_all-append es fs (line_after_event 
 -- the first event was stopped
 pub stopped_first : {S : Type 0} (takes stops : S → ChangeEvent → S → Type 0) (events never : List ChangeEvent) (e : ChangeEvent) (s t : S) (l m : Line)
     → events ≡ e ∷ never → TellsOfChange e → stops s e t → m ≡ l → StopsAt takes stops [] events s t l m
+unfolding line_after_events
 stopped_first takes stops events never e s t l m split change h same = record {
   stops = record {
     done = [];
@@ -46,7 +35,7 @@ stopped_first takes stops events never e s t l m split change h same = record {
     stopped = h;
     closed = reports_nothing takes t m.text;
   };
-  line = same ∙ sym (carried_all-none l);
+  line = same;
 }
 
 -- no memory was found before anything was told
@@ -75,8 +64,9 @@ stopped_later {S} {takes} {stops} {closing} {es} {fs} {s} {t} {u} {l} {k} {m} to
 
 pub stopped_after_one : {S : Type 0} {takes stops : S → ChangeEvent → S → Type 0} {closing fs : List ChangeEvent} (e : ChangeEvent) {s t u : S} {l k m : Line} → takes s e t → Replays e l.text k.text → k ≡ line_after_event e l
     → StopsAt takes stops closing fs t u k m → StopsAt takes stops closing (e ∷ fs) s u l m
+unfolding line_after_events
 stopped_after_one {S} {takes} {stops} {closing} {fs} e {s} {t} {u} {l} {k} {m} told replays line x =
-    stopped_later (reports_one takes e s t l.text k.text told replays) (line ∙ sym (carried_all-one e l)) x
+    stopped_later (reports_one takes e s t l.text k.text told replays) line x
 
 -- a call that takes memory too
 pub stopped_wanting : {S : Type 0} {takes refuses : S → ChangeEvent → S → Type 0} {closing es : List ChangeEvent} {s t : S} {l m : Line} → StopsAt takes refuses closing es s t l m
@@ -93,6 +83,7 @@ stopped_as {S} {takes} {stops} {closing} {es} {fs} {s} {t} {l} {k} {m} e g h =
 -- a failed kill is closed as one that was made
 killing_stopped : {S : Type 0} {takes stops : S → ChangeEvent → S → Type 0} {es : List ChangeEvent} {s begun left t : S} {l m : Line} → takes s StartKilling begun → takes left StopKilling t
     → StopsAt takes stops [] es begun left l m → StopsAt takes stops (StopKilling ∷ []) (StartKilling ∷ (es ++ (StopKilling ∷ []))) s t l m
+unfolding line_after_events
 killing_stopped {S} {takes} {stops} {es} {s} {begun} {left} {t} {l} {m} start stop x = record {
   stops = record {
     done = StartKilling ∷ x.stops.done;
@@ -107,22 +98,19 @@ killing_stopped {S} {takes} {stops} {es} {s} {begun} {left} {t} {l} {m} start st
     stopped = x.stops.stopped;
     closed = reports_then x.stops.closed (reports_one takes StopKilling left t m.text m.text stop refl);
   };
-  line = x.line ∙ sym (carried_all-first StartKilling x.stops.done l);
+  line = x.line;
 }
 
 pub stopped_killing : {S T E : Type 0} (r : Result T E) (takes stops : S → ChangeEvent → S → Type 0) (es : List ChangeEvent) (plain : Bool) (s begun left t : S) (l m : Line) → plain ≡ false
     → takes s StartKilling begun → OnErr r (StopsAt takes stops [] es begun left l m) → takes left StopKilling t
     → OnErr r (StopsAt takes stops (if plain then [] else StopKilling ∷ []) (if plain then es else StartKilling ∷ (es ++ (StopKilling ∷ []))) s t l m)
-stopped_killing {S} {T} {E} r takes stops es plain s begun left t l m e start stopped stop =
-    subst (λ v. OnErr r (StopsAt takes stops (if v then [] else StopKilling ∷ []) (if v then es else StartKilling ∷ (es ++ (StopKilling ∷ []))) s t l m)) (sym e)
-    (on_err_weaker r (killing_stopped start stop) stopped)
+stopped_killing r takes stops es plain s begun left t l m e start stopped stop = rw e (on_err_weaker r (killing_stopped start stop) stopped)
 
 -- a deletion by clusters stands between no marks
 pub stopped_unmarked : {S T E : Type 0} (r : Result T E) (takes stops : S → ChangeEvent → S → Type 0) (es : List ChangeEvent) (plain : Bool) (s t : S) (l m : Line) → plain ≡ true
     → OnErr r (StopsAt takes stops [] es s t l m)
     → OnErr r (StopsAt takes stops (if plain then [] else StopKilling ∷ []) (if plain then es else StartKilling ∷ (es ++ (StopKilling ∷ []))) s t l m)
-stopped_unmarked r takes stops es plain s t l m e stopped =
-    subst (λ v. OnErr r (StopsAt takes stops (if v then [] else StopKilling ∷ []) (if v then es else StartKilling ∷ (es ++ (StopKilling ∷ []))) s t l m)) (sym e) stopped
+stopped_unmarked r takes stops es plain s t l m e stopped = rw e stopped
 
 carried_settings : (es : List ChangeEvent) (l : Line) → SameSettings l (line_after_events es l)
 unfolding line_after_events

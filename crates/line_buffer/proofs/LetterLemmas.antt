@@ -15,13 +15,6 @@ use Rattle.line_buffer.proofs.PartingLemmas.{chars_last}
 pub printable_scalar : (c : ℕ) → is_printable c ≡ true → IsScalar c
 printable_scalar c h = let bounds = printable_bounds c h in grind (arith, nat_tests, bounds.1)
 
--- it begins one byte before the text's end
-last_place : (text most : List ℕ) (last : ℕ) → text ≡ most ++ last ∷ [] → length most ≡ length text - 1
-last_place text most last is = omega (arith, ap length is, length-append most (last ∷ []))
-
-last_bytes : (text most : List ℕ) (last : ℕ) → text ≡ most ++ last ∷ [] → drop (length text - 1) text ≡ last ∷ []
-last_bytes text most last is = ap₂ drop (sym (last_place text most last is)) is ∙ drop-append_seam most (last ∷ [])
-
 pub last_letter : (text most front : List ℕ) (last previous : ℕ) → IsUtf8 text → text ≡ most ++ encode_utf8 last → most ≡ front ++ encode_utf8 previous
     → is_printable previous ≡ true → is_printable last ≡ true → last_or None (take 1 (reverse (clusters text))) ≡ Some (length text - 1, drop (length text - 1) text)
 last_letter text most front last previous u came earlier p q =
@@ -29,9 +22,10 @@ last_letter text most front last previous u came earlier p q =
     let second = chars_last most front previous first.0 (printable_scalar previous p) earlier in
     let all : chars text ≡ chars front ++ previous ∷ last ∷ [] = first.1 ∙ ap (λ cs. cs ++ last ∷ []) second.1 ∙ append_assoc (chars front) (previous ∷ []) (last ∷ []) in
     let is : text ≡ most ++ last ∷ [] = came ∙ ap (λ bs. most ++ bs) (encode_ascii last (printable_ascii last q)) in
+    let place : length most ≡ length text - 1 = omega (arith, ap length is, length-append most (last ∷ [])) in
     ap (λ xs. last_or None (take 1 (reverse xs))) (clusters-letters text most front last previous first.0 all second.1 p q)
     ∙ ap (λ xs. last_or None (take 1 xs)) (reverse-append (clusters most) ((length most, last ∷ []) ∷ []))
-    ∙ ap₂ (λ k bs. Some (k, bs)) (last_place text most last is) (sym (last_bytes text most last is))
+    ∙ ap₂ (λ k bs. Some (k, bs)) place (sym (ap₂ drop (sym place) is ∙ drop-append_seam most (last ∷ [])))
 
 -- the first cluster of a text that begins with two of them
 pub first_letter : (text rest more : List ℕ) (first second : ℕ) → IsUtf8 text → text ≡ encode_utf8 first ++ rest → rest ≡ encode_utf8 second ++ more → is_printable first ≡ true → is_printable second ≡ true

@@ -1,9 +1,9 @@
 -- Characters by the ranges that hold them.
-use Rattle.std.proofs.Common.{◌≡◌, ℕ, ◌==◌, nat_lt, ⊎_elim, Bool, true, false, not, ◌||◌, List, [], ◌∷◌, refl, sym, ap, ◌∙◌, arith, eqb-true}
+use Rattle.std.proofs.Common.{◌≡◌, ℕ, ◌==◌, nat_lt, ⊎_elim, Bool, true, false, not, ◌||◌, List, [], ◌∷◌, sym, ap, ◌∙◌, arith, eqb-true}
 use Rattle.std.specs.Int.{is_in_range}
 use Rattle.std.specs.List.{list_all}
 use Rattle.std.proofs.Math.Bool.{or-false}
-use Rattle.std.proofs.lemmas.Bool.{and_parts, or_cases}
+use Rattle.std.proofs.lemmas.Bool.{and_parts, or_cases, false_from_ne_true, true≢false}
 use Rattle.std.proofs.lemmas.Bool.Decides.{nat_tests}
 use Rattle.ucd_table.specs.Rows.{Range, in_ranges}
 
@@ -36,8 +36,4 @@ beside a b c (r ∷ rs) h k =
 
 -- a character that passes a test is none that fails it
 pub apart : (p : ℕ → Bool) (c d : ℕ) → p c ≡ true → p d ≡ false → (c == d) ≡ false
-apart p c d h k = by (c == d) refl
-  where
-    by : (b : Bool) → (c == d) ≡ b → b ≡ false
-    by true e = sym h ∙ ap p (eqb-true c d e) ∙ k
-    by false e = refl
+apart p c d h k = false_from_ne_true (c == d) (λ e. true≢false (sym h ∙ ap p (eqb-true c d e) ∙ k))

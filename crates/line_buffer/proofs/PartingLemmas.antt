@@ -9,35 +9,32 @@ use Rattle.std.proofs.lemmas.Str.{IsUtf8-encode, chars-append}
 use Rattle.unicode_segmentation.proofs.TextLemmas.{IsUtf8-before, chars-encode_utf8}
 use Rattle.std.specs.List.{onto_first, list_all, slice_split}
 use Rattle.std.proofs.lemmas.List.Sums.{sum_by-cons, sum_by-append}
-use Rattle.std.proofs.Math.Bool.{or-false}
-use Rattle.std.proofs.lemmas.Bool.{and_from, and_right, and_parts, or_left, or_right, or_cases, or_parts, not-true, cases_lt}
+use Rattle.std.proofs.lemmas.Bool.{and_from, and_right, and_parts, or_left, or_right, or_parts, not-true, cases_lt, cases_Bool, cond_both}
 use Rattle.std.proofs.lemmas.Bool.Decides.{nat_tests}
 use Rattle.ucd_table.specs.Rows.{Range, in_ranges}
 use Rattle.ucd_table.proofs.StepsLemmas.{rises_from}
-use Rattle.ucd_table.proofs.Stepped.{Stepped, of_ranges, zip_stepped}
+use Rattle.ucd_table.proofs.Stepped.{of_ranges, zip_stepped}
 use Rattle.ucd_table.proofs.Facts.{Stepped-everywhere}
 use Rattle.ucd_table.proofs.Computing.{tables}
 use Rattle.ucd_emoji.specs.Binary.{is_emoji_modifier_base, is_emoji_variation_base}
 use Rattle.ucd_emoji.proofs.BinaryLemmas.{is_emoji_modifier_base_stepped, is_emoji_variation_base_stepped}
 use Rattle.ucd_bidi.specs.JoiningGroup.{joining_group, joining_group_eq}
 use Rattle.ucd_bidi.specs.declared.JoiningGroup.TheVariants.{Lam}
-use Rattle.ucd_bidi.specs.JoiningType.{joining_type, joining_type_eq}
-use Rattle.ucd_bidi.specs.declared.JoiningType.TheVariants.{Transparent}
 use Rattle.ucd_bidi.proofs.JoiningGroupLemmas.{joining_group_stepped}
 use Rattle.unicode_width.specs.declared.state.After.{After}
 use Rattle.unicode_width.specs.declared.state.After.TheVariants as after
-use Rattle.unicode_width.specs.declared.state.Change.{Change, TheVariants.Same, TheVariants.Less, TheVariants.One, TheVariants.Three}
+use Rattle.unicode_width.specs.declared.state.Change.{Change, TheVariants.Same, TheVariants.Less}
 use Rattle.unicode_width.specs.declared.state.State.{State}
 use Rattle.unicode_width.specs.declared.kind.Kind.{Kind}
 use Rattle.unicode_width.specs.declared.kind.Kind.TheVariants as kinds
 use Rattle.unicode_width.specs.Kind.{kind, is_ligature_transparent, is_text_presentation_base}
-use Rattle.unicode_width.specs.Width.{before, plain, single, of_kind, alone, char_width, joins, before_alef, is_lam, is_tifinagh, skips_marks, is_joined_emoji, if_kept, is_plain, is_line_feed, is_quote, is_emoji, Reading, first_of, added, joined_or, past_selectors, in_context, past_emoji, step, read_before, str_width}
+use Rattle.unicode_width.specs.Width.{before, plain, single, of_kind, alone, char_width, joins, before_alef, is_lam, is_tifinagh, is_joined_emoji, if_kept, is_plain, is_line_feed, is_quote, is_emoji, Reading, first_of, added, joined_or, past_selectors, in_context, past_emoji, step, read_before, str_width}
 use Rattle.unicode_width.proofs.Computing.{unicode_width}
 use Rattle.unicode_width.proofs.KindLemmas.{kind_stepped, is_ligature_transparent_stepped}
 use Rattle.unicode_width.proofs.Rules.{is_simple, str_width-append_simple}
 use Rattle.line_buffer.specs.declared.layout.GraphemeClusterMode.{GraphemeClusterMode, TheVariants.Unicode, TheVariants.WcWidth, TheVariants.NoZwj}
 use Rattle.line_buffer.specs.Width.{looks_ahead, is_solid, takes_marks, is_bare, parts, is_flag_letter, char_columns_of, columns_of}
-use Rattle.line_buffer.proofs.ListedRanges.{apart, implied}
+use Rattle.line_buffer.proofs.ListedRanges.{apart, implied, in_ranges-some}
 
 -- ---- facts of the tables
 
@@ -88,21 +85,18 @@ fits _ empty close turn tone = not empty && (not close && (not turn && not tone)
 holds : ℕ → Bool
 holds c = fits (kind c) (is_zero c) (closes c) (turns c) (in_ranges tones c)
 
-unfoldable holds_stepped : Stepped holds
-unfolding holds rises_from
-holds_stepped =
-    zip_stepped (λ (f : Bool → Bool) b. f b) (λ c. fits (kind c) (is_zero c) (closes c) (turns c)) (in_ranges tones)
+all_hold : (c : ℕ) → holds c ≡ true
+unfolding unicode_width tables holds rises_from
+all_hold =
+    Stepped-everywhere holds
+    (zip_stepped (λ (f : Bool → Bool) b. f b) (λ c. fits (kind c) (is_zero c) (closes c) (turns c)) (in_ranges tones)
     (zip_stepped (λ (f : Bool → Bool → Bool) b. f b) (λ c. fits (kind c) (is_zero c) (closes c)) turns
     (zip_stepped (λ (f : Bool → Bool → Bool → Bool) b. f b) (λ c. fits (kind c) (is_zero c)) closes
     (zip_stepped fits kind is_zero kind_stepped (zip_stepped (λ a b. a || b) is_ligature_transparent (in_ranges zeros) is_ligature_transparent_stepped (of_ranges zeros refl)))
     (zip_stepped (λ g b. joining_group_eq g Lam || b) joining_group (in_ranges closers) joining_group_stepped (of_ranges closers refl)))
     (zip_stepped (λ a b. a || b) (in_ranges flag) (λ c. is_emoji_modifier_base c && not (is_emoji_variation_base c)) (of_ranges flag refl)
     (zip_stepped (λ a b. a && not b) is_emoji_modifier_base is_emoji_variation_base is_emoji_modifier_base_stepped is_emoji_variation_base_stepped)))
-    (of_ranges tones refl)
-
-all_hold : (c : ℕ) → holds c ≡ true
-unfolding unicode_width tables holds_stepped rises_from
-all_hold = Stepped-everywhere holds holds_stepped refl
+    (of_ranges tones refl)) refl
 
 -- ---- what the rules see of such a character
 
@@ -116,209 +110,77 @@ is_shaky_after _ = false
 abbrev is_shaky : State → Bool
 is_shaky s = s.emoji || (s.text || is_shaky_after s.after)
 
--- of a character with this width and state, which is an emoji or not
-record Facts (c : ℕ) (own : ℕ × State) (emoji : Bool) : Type 0 where
+-- of a character with this width and state, by what it is
+record Facts (own : ℕ × State) (emoji empty close turn tone : Bool) : Type 0 where
   wide : (own.0 == 0) ≡ false
-  empty : is_zero c ≡ false
-  closing : closes c ≡ true → own.1 ≡ plain
-  turning : turns c ≡ true → own.1 ≡ before after.Emoji
-  joined : emoji ≡ true → own.1 ≡ before after.Emoji
-  toned : is_tone c ≡ true → own.1 ≡ before after.EmojiModifier
-  steady : is_tone c ≡ false → is_shaky own.1 ≡ false
-
-never : {P : Type 0} (b : Bool) → b ≡ false → b ≡ true → P
-never b h e = absurd (true≢false (sym e ∙ h))
-
-unless : {P : Type 0} (b : Bool) → b ≡ true → b ≡ false → P
-unless b h e = absurd (true≢false (sym h ∙ e))
-
-same_tone : (c : ℕ) → in_ranges tones c ≡ is_tone c
-unfolding in_ranges
-same_tone c = or-false (is_tone c)
-
-record Clear (empty close turn tone : Bool) : Type 0 where
   empty_is : empty ≡ false
-  close_is : close ≡ false
-  turn_is : turn ≡ false
-  tone_is : tone ≡ false
-
-clear : (empty close turn tone : Bool) → (not empty && (not close && (not turn && not tone))) ≡ true → Clear empty close turn tone
-clear false false false false h = record { empty_is = refl; close_is = refl; turn_is = refl; tone_is = refl }
-clear _ _ _ _ h = cc
-
--- it joins nothing
-clear_facts : (c : ℕ) (own : ℕ × State) (emoji : Bool) → (own.0 == 0) ≡ false → emoji ≡ false → is_shaky own.1 ≡ false → Clear (is_zero c) (closes c) (turns c) (is_tone c) → Facts c own emoji
-clear_facts c own emoji w no_emoji calm k =
-    record {
-      wide = w;
-      empty = k.empty_is;
-      closing = never (closes c) k.close_is;
-      turning = never (turns c) k.turn_is;
-      joined = never emoji no_emoji;
-      toned = never (is_tone c) k.tone_is;
-      steady = λ _. calm;
-    }
-
-plain_facts : (c n : ℕ) → (n == 0) ≡ false → (not (is_zero c) && (not (turns c) && not (is_tone c))) ≡ true → Facts c (n, plain) false
-plain_facts c n w h =
-    let a = and_parts (not (is_zero c)) _ h in
-    let b = and_parts (not (turns c)) _ a.1 in
-    record {
-      wide = w;
-      empty = not-true _ a.0;
-      closing = λ _. refl;
-      turning = never (turns c) (not-true _ b.0);
-      joined = λ e. cc;
-      toned = never (is_tone c) (not-true _ b.1);
-      steady = λ _. refl;
-    }
-
-emoji_facts : (c : ℕ) → (not (is_zero c) && (not (closes c) && not (is_tone c))) ≡ true → Facts c (2, before after.Emoji) true
-emoji_facts c h =
-    let a = and_parts (not (is_zero c)) _ h in
-    let b = and_parts (not (closes c)) _ a.1 in
-    record {
-      wide = refl;
-      empty = not-true _ a.0;
-      closing = never (closes c) (not-true _ b.0);
-      turning = λ _. refl;
-      joined = λ _. refl;
-      toned = never (is_tone c) (not-true _ b.1);
-      steady = λ _. refl;
-    }
-
-tone_facts : (c : ℕ) → (not (is_zero c) && (not (closes c) && (not (turns c) && is_tone c))) ≡ true → Facts c (2, before after.EmojiModifier) false
-tone_facts c h =
-    let a = and_parts (not (is_zero c)) _ h in
-    let b = and_parts (not (closes c)) _ a.1 in
-    let d = and_parts (not (turns c)) _ b.1 in
-    record {
-      wide = refl;
-      empty = not-true _ a.0;
-      closing = never (closes c) (not-true _ b.0);
-      turning = never (turns c) (not-true _ d.0);
-      joined = λ e. cc;
-      toned = λ _. refl;
-      steady = unless (is_tone c) d.1;
-    }
+  closing : close ≡ true → plain ≡ own.1
+  turning : turn ≡ true → before after.Emoji ≡ own.1
+  joined : emoji ≡ true → before after.Emoji ≡ own.1
+  toned : tone ≡ true → before after.EmojiModifier ≡ own.1
+  steady : tone ≡ false → is_shaky own.1 ≡ false
 
 abbrev is_single : Kind → Bool
 is_single kinds.Single = true
 is_single _ = false
 
-by_kind : (c : ℕ) (k : Kind) → is_single k ≡ false → fits k (is_zero c) (closes c) (turns c) (is_tone c) ≡ true → ((of_kind false c k).0 == 0) ≡ false → Facts c (of_kind false c k) (is_emoji k)
-by_kind c kinds.Zero s h w = cc
-by_kind c kinds.Single s h w = cc
-by_kind c kinds.Narrow s h w = plain_facts c 1 refl h
-by_kind c kinds.Wide s h w = plain_facts c 2 refl h
-by_kind c kinds.Ambiguous s h w = plain_facts c 1 refl h
-by_kind c kinds.Emoji s h w = emoji_facts c h
-by_kind c kinds.EmojiModifier s h w = tone_facts c h
-by_kind c _ s h w = clear_facts c _ _ refl refl refl (clear _ _ _ _ h)
+never : {A : Type 0} {x y : A} → false ≡ true → x ≡ y
+never e = absurd (true≢false (sym e))
 
--- characters with rules of their own
-sound : ℕ → Bool
-sound c =
-    (not ((alone false c).0 == 0) && (not (is_emoji (kind c)) && not (is_shaky (alone false c).1)))
-    && (not (is_zero c) && (not (closes c) && (not (turns c) && not (is_tone c))))
+by_kind : (c : ℕ) (k : Kind) (empty close turn tone : Bool) → is_single k ≡ false → fits k empty close turn tone ≡ true → ((of_kind false c k).0 == 0) ≡ false
+    → Facts (of_kind false c k) (is_emoji k) empty close turn tone
+by_kind c kinds.Zero _ _ _ _ s h w = cc
+by_kind c kinds.Single _ _ _ _ s h w = cc
+by_kind c kinds.Narrow false close false false s h w = search never
+by_kind c kinds.Wide false close false false s h w = search never
+by_kind c kinds.Ambiguous false close false false s h w = search never
+by_kind c kinds.Emoji false false turn false s h w = search never
+by_kind c kinds.EmojiModifier false false false true s h w = search never
+by_kind c _ false false false false s h w = search never
+by_kind c _ _ _ _ _ s h w = cc
 
-abbrev singles : List ℕ
-singles = 0x05DC ∷ 0xFB3C ∷ 0x17D8 ∷ 0x1A10 ∷ 0x10C03 ∷ []
+-- a character with rules of its own joins nothing
+sound : ℕ × State → Bool → Bool → Bool → Bool → Bool → Bool
+sound own emoji empty close turn tone = (not (own.0 == 0) && not (is_shaky own.1)) && (not emoji && (not empty && (not close && (not turn && not tone))))
 
-all_sound : list_all sound singles ≡ true
-unfolding unicode_width sound
-all_sound = refl
-
-abbrev is_listed : ℕ → List ℕ → Bool
-is_listed c [] = false
-is_listed c (d ∷ ds) = (c == d) || is_listed c ds
-
-sound_listed : (c : ℕ) (ds : List ℕ) → list_all sound ds ≡ true → is_listed c ds ≡ true → sound c ≡ true
-sound_listed c [] h e = cc
-sound_listed c (d ∷ ds) h e =
-    let parts = and_parts (sound d) (list_all sound ds) h in
-    ⊎_elim (λ (is : (c == d) ≡ true). ap sound (eqb-true c d is) ∙ parts.0) (sound_listed c ds parts.1) (or_cases (c == d) (is_listed c ds) e)
-
-sound_facts : (c : ℕ) → sound c ≡ true → Facts c (alone false c) (is_emoji (kind c))
+sound_facts : (own : ℕ × State) (emoji empty close turn tone : Bool) → sound own emoji empty close turn tone ≡ true → Facts own emoji empty close turn tone
 unfolding sound
-sound_facts c h =
-    let a = and_parts (not ((alone false c).0 == 0) && (not (is_emoji (kind c)) && not (is_shaky (alone false c).1))) _ h in
-    let b = and_parts (not ((alone false c).0 == 0)) _ a.0 in
-    let d = and_parts (not (is_emoji (kind c))) _ b.1 in
-    clear_facts c (alone false c) (is_emoji (kind c)) (not-true _ b.0) (not-true _ d.0) (not-true _ d.1) (clear _ _ _ _ a.1)
+sound_facts own false false false false false h =
+    let parts = and_parts (not (own.0 == 0) && not (is_shaky own.1)) true h in
+    let own_parts = and_parts (not (own.0 == 0)) (not (is_shaky own.1)) parts.0 in
+    search (never, not-true _ own_parts.0, not-true _ own_parts.1)
+sound_facts own _ _ _ _ _ h = absurd (true≢false (sym h ∙ and_right _ _ refl))
+
+is_sound : ℕ → Bool
+is_sound c = sound (alone false c) (is_emoji (kind c)) (is_zero c) (closes c) (turns c) (in_ranges tones c)
+
+all_sound : (is_sound 0x05DC ≡ true) × (is_sound 0xFB3C ≡ true) × (is_sound 0x17D8 ≡ true) × (is_sound 0x1A10 ≡ true) × (is_sound 0x10C03 ≡ true)
+unfolding unicode_width is_sound sound
+all_sound = (refl, refl, refl, refl, refl)
 
 -- above U+00A0, where the character has columns
 module _ (c : ℕ) (wide : ((alone false c).0 == 0) ≡ false) (apart : looks_ahead c ≡ false) where
-  single_sound : kind c ≡ kinds.Single → sound c ≡ true
+  single_sound : kind c ≡ kinds.Single → is_sound c ≡ true
   unfolding alone
-  single_sound is = by (is_listed c singles) refl
-    where
-      own : ((single false c).0 == 0) ≡ false
-      own = ap (λ k. (of_kind false c k).0 == 0) (sym is) ∙ wide
+  single_sound is =
+      let own : ((single false c).0 == 0) ≡ false = ap (λ k. (of_kind false c k).0 == 0) (sym is) ∙ wide in
+      grind (arith, nat_tests, own, apart, all_sound.0, all_sound.1, all_sound.2, all_sound.3, all_sound.4)
 
-      by : (b : Bool) → is_listed c singles ≡ b → sound c ≡ true
-      by true e = sound_listed c singles all_sound e
-      by false e = grind (arith, nat_tests, own, apart, e)
-
-  facts : Facts c (alone false c) (is_emoji (kind c))
-  unfolding holds alone
-  facts = by (is_single (kind c)) refl
+  facts : Facts (alone false c) (is_emoji (kind c)) (is_zero c) (closes c) (turns c) (in_ranges tones c)
+  unfolding holds alone is_sound
+  facts =
+      ⊎_elim (λ (e : is_single (kind c) ≡ true). sound_facts _ _ _ _ _ _ (single_sound (single_is (kind c) e)))
+      (λ (e : is_single (kind c) ≡ false). by_kind c (kind c) _ _ _ _ e (all_hold c) wide) (cases_Bool (is_single (kind c)))
     where
       single_is : (k : Kind) → is_single k ≡ true → k ≡ kinds.Single
       single_is kinds.Single e = refl
       single_is _ e = cc
-
-      by : (b : Bool) → is_single (kind c) ≡ b → Facts c (alone false c) (is_emoji (kind c))
-      by true e = sound_facts c (single_sound (single_is (kind c) e))
-      by false e = by_kind c (kind c) e (ap (fits (kind c) (is_zero c) (closes c) (turns c)) (sym (same_tone c)) ∙ all_hold c) wide
 
 -- ---- what stands before such a character sees the character alone, except some characters before a shaky state
 
 -- the character's own state; or, before a shaky state, one that is not shaky
 abbrev Left : ℕ → State → Bool → State → Type 0
 Left c own shaky s = (s ≡ own) ⊎ ((shaky && takes_marks c) ≡ true) × ((s ≡ plain) ⊎ (s ≡ before after.Emoji))
-
-abbrev Own : ℕ → ℕ → Option (Change × After) → Type 0
-Own n c j = (joined_or n j (alone false c)).1 ≡ (alone false c).1
-
-own_if : (n c : ℕ) (b : Bool) (change : Change) (a : After) (rest : Option (Change × After)) → (b ≡ true → (alone false c).1 ≡ before a) → Own n c rest → Own n c (cond b (Some (change, a)) rest)
-own_if n c true change a rest h k = sym (h refl)
-own_if n c false change a rest h k = k
-
-own_unless : (n c : ℕ) (b : Bool) (j : Change × After) (rest : Option (Change × After)) → b ≡ false → Own n c rest → Own n c (cond b (Some j) rest)
-own_unless n c true j rest h k = cc
-own_unless n c false j rest h k = k
-
-own_never : (n c : ℕ) (b : Bool) (j : Change × After) → b ≡ false → Own n c (first_of (cond b (Some j) None) (first_of None None))
-own_never n c true j h = cc
-own_never n c false j h = refl
-
-own_neither : (n c : ℕ) (b d : Bool) (j k : Change × After) → b ≡ false → d ≡ false → Own n c (first_of (cond b (Some j) (cond d (Some k) None)) None)
-own_neither n c true d j k h e = cc
-own_neither n c false true j k h e = cc
-own_neither n c false false j k h e = refl
-
-own_one : (n c : ℕ) (b : Bool) (change : Change) → (b ≡ true → (alone false c).1 ≡ plain) → Own n c (first_of (cond b (Some (change, after.Nothing)) None) (first_of None None))
-own_one n c true change h = sym (h refl)
-own_one n c false change h = refl
-
-abbrev Outside : List Range → ℕ → Type 0
-Outside [] c = Unit {0}
-Outside (r ∷ rs) c = (is_in_range r.0 r.1 c ≡ false) × Outside rs c
-
-outside : (rs : List Range) (c : ℕ) → in_ranges rs c ≡ false → Outside rs c
-unfolding in_ranges
-outside [] c h = tt
-outside (r ∷ rs) c h = let parts = or_parts (is_in_range r.0 r.1 c) (in_ranges rs c) h in (parts.0, outside rs c parts.1)
-
-none_of : (rs : List Range) (c d : ℕ) → in_ranges rs c ≡ false → in_ranges rs d ≡ true → (c == d) ≡ false
-none_of rs c d h k = apart (λ x. not (in_ranges rs x)) c d (ap not h) (ap not k)
-
--- ---- cases of a reading
-
-left_unless : (c : ℕ) (b : Bool) (x y : Reading) (own : State) (shaky : Bool) → b ≡ false → Left c own shaky y.1 → Left c own shaky (cond b x y).1
-left_unless c true x y own shaky e h = cc
-left_unless c false x y own shaky e h = h
 
 left_if : (c : ℕ) (b : Bool) (x y : Reading) (own : State) (shaky : Bool) → (b ≡ true → Left c own shaky x.1) → Left c own shaky y.1 → Left c own shaky (cond b x y).1
 left_if c true x y own shaky h k = h refl
@@ -329,124 +191,109 @@ weaker : (c : ℕ) (own x : State) (some more : Bool) → (some ≡ true → mor
 weaker c own x some more h (inl e) = inl e
 weaker c own x some more h (inr e) = let parts = and_parts some (takes_marks c) e.0 in inr (and_from more (takes_marks c) (h parts.0) parts.1, e.1)
 
-module _ (c : ℕ) (f : Facts c (alone false c) (is_emoji (kind c))) (apart : looks_ahead c ≡ false) where
-  zeros_apart : in_ranges zeros c ≡ false
-  zeros_apart = (or_parts (is_ligature_transparent c) (in_ranges zeros c) f.empty).1
+module _ (c : ℕ) (f : Facts (alone false c) (is_emoji (kind c)) (is_zero c) (closes c) (turns c) (in_ranges tones c)) (ahead : looks_ahead c ≡ false) where
+  zero_parts : (is_ligature_transparent c ≡ false) × (in_ranges zeros c ≡ false)
+  zero_parts = or_parts (is_ligature_transparent c) (in_ranges zeros c) f.empty_is
 
-  opaque : is_ligature_transparent c ≡ false
-  opaque = (or_parts (is_ligature_transparent c) (in_ranges zeros c) f.empty).0
+  none_of : (p : ℕ → Bool) (d : ℕ) → p c ≡ false → p d ≡ true → (c == d) ≡ false
+  none_of p d h k = apart (λ x. not (p x)) c d (ap not h) (ap not k)
 
-  no_joiner : (c == 0x200D) ≡ false
-  unfolding in_ranges
-  no_joiner = none_of zeros c 0x200D zeros_apart refl
+  -- a mark, a tag or a joiner; a newline, the joiner of Tifinagh, a vowel sign
+  other : (d : ℕ) → in_ranges zeros d ≡ true → (c == d) ≡ false
+  other d = none_of (in_ranges zeros) d zero_parts.1
+
+  beside : (d : ℕ) → looks_ahead d ≡ true → (c == d) ≡ false
+  beside d = none_of looks_ahead d ahead
 
   no_digit : is_in_range 0xE0030 0xE0039 c ≡ false
-  no_digit = (outside zeros c zeros_apart).1.1.1.1.1.0
+  unfolding in_ranges
+  no_digit = let none = zero_parts.1 in grind (arith, nat_tests, none)
 
   no_letter : is_in_range 0xE0061 0xE007A c ≡ false
-  no_letter = (outside zeros c zeros_apart).1.1.1.1.1.1.0
+  unfolding in_ranges
+  no_letter = let none = zero_parts.1 in grind (arith, nat_tests, none)
 
   no_indicator : is_in_range 0x1F1E6 0x1F1FF c ≡ false
-  no_indicator = grind (arith, nat_tests, apart)
+  no_indicator = grind (arith, nat_tests, ahead)
 
-  no_tifinagh_joiner : (c == 0x2D7F) ≡ false
-  no_tifinagh_joiner = grind (arith, nat_tests, apart)
-
-  no_kirat_e : (c == 0x16D67) ≡ false
-  no_kirat_e = grind (arith, nat_tests, apart)
-
-  no_kirat_ai : (c == 0x16D68) ≡ false
-  no_kirat_ai = grind (arith, nat_tests, apart)
-
-  closing_at : (d : ℕ) → in_ranges closers d ≡ true → (c == d) ≡ true → (alone false c).1 ≡ plain
+  closing_at : (d : ℕ) → in_ranges closers d ≡ true → (c == d) ≡ true → plain ≡ (alone false c).1
   closing_at d k e = f.closing (or_right (is_lam c) (in_ranges closers c) (ap (in_ranges closers) (eqb-true c d e) ∙ k))
 
-  closing_lisu : is_in_range 0xA4F8 0xA4FB c ≡ true → (alone false c).1 ≡ plain
+  closing_lisu : is_in_range 0xA4F8 0xA4FB c ≡ true → plain ≡ (alone false c).1
   unfolding in_ranges
-  closing_lisu e = f.closing (or_right (is_lam c) _ (or_right (is_in_range 0x5D0 0x5D0 c) _ (or_right (is_in_range 0x1A15 0x1A15 c) _ (or_right (is_in_range 0x2018 0x2019 c) _ (or_right (is_in_range 0x201C 0x201D c) _ (or_left _ _ e))))))
+  closing_lisu e = f.closing (grind (arith, nat_tests, e))
 
-  closing_quote : is_quote c ≡ true → (alone false c).1 ≡ plain
+  closing_quote : is_quote c ≡ true → plain ≡ (alone false c).1
   unfolding in_ranges
-  closing_quote e = f.closing (or_right (is_lam c) _ (or_right (is_in_range 0x5D0 0x5D0 c) _ (or_right (is_in_range 0x1A15 0x1A15 c) _ (by (is_in_range 0x2018 0x2019 c) (is_in_range 0x201C 0x201D c) _ e))))
-    where
-      by : (a b d : Bool) → (a || b) ≡ true → (a || (b || d)) ≡ true
-      by true b d h = refl
-      by false true d h = refl
-      by false false d h = cc
+  closing_quote e = f.closing (grind (arith, nat_tests, e))
 
-  turning_flag : (c == 0x1F3F4) ≡ true → (alone false c).1 ≡ before after.Emoji
+  turning_flag : (c == 0x1F3F4) ≡ true → before after.Emoji ≡ (alone false c).1
   unfolding in_ranges
   turning_flag e = f.turning (or_left (in_ranges flag c) _ (ap (in_ranges flag) (eqb-true c 0x1F3F4 e)))
 
-  modified : (n : ℕ) (b : Bool) → is_emoji_modifier_base c ≡ b → Left c (alone false c).1 true (joined_or n (cond b (Some (Same, after.Emoji)) (cond (c == 0x200D) (Some (Same, after.ZwjEmoji)) None)) (alone false c)).1
-  modified n false e = inl (own_unless n c _ _ None no_joiner refl)
-  modified n true e = by (is_emoji_variation_base c) refl
-    where
-      by : (b : Bool) → is_emoji_variation_base c ≡ b → Left c (alone false c).1 true (before after.Emoji)
-      by true base = inr (or_left _ _ base, inr refl)
-      by false base = inl (sym (f.turning (or_right (in_ranges flag c) _ (and_from (is_emoji_modifier_base c) _ e (ap not base)))))
+  -- a rule whose test the character passes leaves its own state
+  abbrev Own : ℕ → Option (Change × After) → Type 0
+  Own n j = (joined_or n j (alone false c)).1 ≡ (alone false c).1
 
-  joined : (n : ℕ) (a b : Bool) → a ≡ false → is_tifinagh c ≡ b → Left c (alone false c).1 true (joined_or n (first_of {A = Change × After} (cond a (Some (One, after.JoinerTifinagh)) (cond b (Some (Same, after.Nothing)) None)) (first_of None None)) (alone false c)).1
-  joined n true b e h = cc
-  joined n false true e h = inr (or_right (is_emoji_variation_base c) _ h, inl refl)
-  joined n false false e h = inl refl
+  own_if : (n : ℕ) (b : Bool) (j : Change × After) (rest : Option (Change × After)) → (b ≡ true → before j.1 ≡ (alone false c).1) → Own n rest
+      → Own n (cond b (Some j) rest)
+  own_if n true j rest h k = h refl
+  own_if n false j rest h k = k
 
-  less : (n : ℕ) (b : Bool) → is_tifinagh c ≡ b → Left c (alone false c).1 true (joined_or n (first_of {A = Change × After} (cond b (Some (Less, after.Nothing)) None) (first_of None None)) (alone false c)).1
-  less n true h = inr (or_right (is_emoji_variation_base c) _ h, inl refl)
-  less n false h = inl refl
+  own_first : (n : ℕ) (b : Bool) (j : Change × After) (rest : Option (Change × After)) → (b ≡ true → before j.1 ≡ (alone false c).1)
+      → Own n (first_of rest None) → Own n (first_of (cond b (Some j) rest) None)
+  own_first n true j rest h k = h refl
+  own_first n false j rest h k = k
 
-  kirat : (n : ℕ) (a b : Bool) → (a ≡ true → (alone false c).1 ≡ plain) → (b ≡ true → (alone false c).1 ≡ plain)
-      → Own n c (first_of (cond a (Some (Same, after.Nothing)) (cond (c == 0x16D67) (Some (Same, after.KiratAi)) (cond (c == 0x16D68) (Some (One, after.KiratE)) (cond b (Some (Same, after.Nothing)) None)))) (first_of None None))
-  kirat n true b h k = sym (h refl)
-  kirat n false b h k = rw (no_kirat_e, no_kirat_ai) (own_one n c b Same k)
+  refuted : (b : Bool) (s t : State) → b ≡ true → b ≡ false → s ≡ t
+  refuted b s t h k = absurd (true≢false (sym h ∙ k))
+
+  modified : is_emoji_modifier_base c ≡ true → Left c (alone false c).1 true (before after.Emoji)
+  modified e =
+      ⊎_elim (λ (base : is_emoji_variation_base c ≡ true). inr (or_left _ _ base, inr refl))
+      (λ (base : is_emoji_variation_base c ≡ false). inl (f.turning (or_right (in_ranges flag c) _ (and_from (is_emoji_modifier_base c) _ e (ap not base)))))
+      (cases_Bool (is_emoji_variation_base c))
+
+  marked : is_tifinagh c ≡ true → Left c (alone false c).1 true plain
+  marked h = inr (or_right (is_emoji_variation_base c) _ h, inl refl)
+
+  ruleset refuting = (own_if, own_first, refuted, other, beside, no_letter, no_digit, no_indicator)
 
   joins_left : (n : ℕ) (a : After) → Left c (alone false c).1 (is_shaky_after a) (joined_or n (joins false a c) (alone false c)).1
   unfolding joins before_alef in_ranges
-  joins_left n after.EmojiModifier = modified n (is_emoji_modifier_base c) refl
+  joins_left n after.EmojiModifier =
+      cond_both (is_emoji_modifier_base c) (Some (Same, after.Emoji)) (cond (c == 0x200D) (Some (Same, after.ZwjEmoji)) None)
+      (λ j. Left c (alone false c).1 true (joined_or n j (alone false c)).1)
+      modified (λ _. inl (simp other))
+  joins_left n after.ZwjTifinagh =
+      simp beside (cond_both (is_tifinagh c) (Some (Same, after.Nothing)) None
+      (λ j. Left c (alone false c).1 true (joined_or n (first_of j None) (alone false c)).1)
+      marked (λ _. inl refl))
+  joins_left n after.JoinerTifinagh =
+      cond_both (is_tifinagh c) (Some (Less, after.Nothing)) None (λ j. Left c (alone false c).1 true (joined_or n (first_of j None) (alone false c)).1)
+      marked (λ _. inl refl)
   joins_left n after.ZwjEmoji =
-      inl
-      (own_unless n c (c == 0x20E3) _ _ (none_of zeros c 0x20E3 zeros_apart refl)
-      (own_unless n c (is_in_range 0x1F1E6 0x1F1FF c) _ _ no_indicator
-      (own_if n c (is_in_range 0x1F3FB 0x1F3FF c) Same after.EmojiModifier _ f.toned
-      (own_unless n c (c == 0xE007F) _ _ (none_of zeros c 0xE007F zeros_apart refl) (own_if n c (is_emoji (kind c)) Same after.Emoji None f.joined refl)))))
-  joins_left n after.TagDigit3 = inl (own_if n c _ Same after.Emoji None turning_flag refl)
-  joins_left n after.TagLetter3 = inl (own_unless n c _ _ _ no_letter (own_unless n c _ _ _ no_digit (own_if n c _ Same after.Emoji None turning_flag refl)))
-  joins_left n after.TagLetter4 = inl (own_unless n c _ _ _ no_letter (own_unless n c _ _ _ no_digit (own_if n c _ Same after.Emoji None turning_flag refl)))
-  joins_left n after.TagLetter5 = inl (own_unless n c _ _ _ no_letter (own_if n c _ Same after.Emoji None turning_flag refl))
-  joins_left n after.TagLetter6 = inl (own_if n c _ Same after.Emoji None turning_flag refl)
-  joins_left n after.KiratE = inl (kirat n (c == 0x16D63) (c == 0x16D69) (closing_at 0x16D63 refl) (closing_at 0x16D69 refl))
-  joins_left n after.KiratAi = inl (own_one n c (c == 0x16D63) Same (closing_at 0x16D63 refl))
-  joins_left n after.Alef =
-      inl
-      (own_if n c (is_lam c) Same after.Nothing _ (λ e. f.closing (or_left (is_lam c) _ e))
-      (own_unless n c (((alone false c).0 == 0) && joining_type_eq (joining_type c) Transparent) _ None (ap (λ b. b && joining_type_eq (joining_type c) Transparent) f.wide) refl))
-  joins_left n after.ZwjLamed = inl (own_one n c (c == 0x05D0) Same (closing_at 0x05D0 refl))
-  joins_left n after.VowelZwjYa = inl (own_one n c (c == 0x1A15) Same (closing_at 0x1A15 refl))
-  joins_left n after.ZwjTifinagh = joined n (c == 0x2D7F) (is_tifinagh c) no_tifinagh_joiner refl
-  joins_left n after.JoinerTifinagh = less n (is_tifinagh c) refl
-  joins_left n after.LisuTone = inl (own_one n c (is_in_range 0xA4F8 0xA4FB c) Same closing_lisu)
-  joins_left n after.ZwjOrkhonI = inl (own_one n c (c == 0x10C32) Same (closing_at 0x10C32 refl))
-  joins_left n after.RegionalIndicator = inl (own_never n c (is_in_range 0x1F1E6 0x1F1FF c) (One, after.RegionalIndicators) no_indicator)
-  joins_left n after.RegionalIndicators = inl (own_neither n c (is_in_range 0x1F1E6 0x1F1FF c) (c == 0x200D) (One, after.RegionalIndicators) (Same, after.ZwjEmoji) no_indicator no_joiner)
-  joins_left n after.Emoji = inl (own_never n c (c == 0x200D) (Same, after.ZwjEmoji) no_joiner)
-  joins_left n after.IndicatorZwj = inl (own_never n c (is_in_range 0x1F1E6 0x1F1FF c) (Less, after.EvenIndicatorsZwj) no_indicator)
-  joins_left n after.EvenIndicatorsZwj = inl (own_neither n c (c == 0x200D) (is_in_range 0x1F1E6 0x1F1FF c) (Same, after.ZwjEmoji) (Three, after.OddIndicatorsZwj) no_joiner no_indicator)
-  joins_left n after.OddIndicatorsZwj = inl (own_neither n c (c == 0x200D) (is_in_range 0x1F1E6 0x1F1FF c) (Same, after.ZwjEmoji) (Less, after.EvenIndicatorsZwj) no_joiner no_indicator)
-  joins_left n after.TagEnd = inl (own_unless n c _ _ _ no_letter (own_unless n c _ _ None no_digit refl))
-  joins_left n after.TagLetter1 = inl (own_unless n c _ _ _ no_letter (own_unless n c _ _ None no_digit refl))
-  joins_left n after.TagLetter2 = inl (own_unless n c _ _ _ no_letter (own_unless n c _ _ None no_digit refl))
-  joins_left n after.TagDigit1 = inl (own_unless n c _ _ None no_digit refl)
-  joins_left n after.TagDigit2 = inl (own_unless n c _ _ None no_digit refl)
-  joins_left n after.ZwjYa = inl (own_never n c (c == 0x1A17) (Same, after.VowelZwjYa) (none_of zeros c 0x1A17 zeros_apart refl))
-  joins_left n after.KhmerLetter = inl (own_never n c (c == 0x17D2) (Less, after.Nothing) (none_of zeros c 0x17D2 zeros_apart refl))
-  joins_left n after.Tifinagh = inl (own_never n c (c == 0x2D7F) (One, after.JoinerTifinagh) no_tifinagh_joiner)
-  joins_left n _ = inl refl
+      inl (simp (other, no_indicator) (own_if n _ (Same, after.EmojiModifier) _ (λ e. f.toned (or_left (is_in_range 0x1F3FB 0x1F3FF c) _ e))
+      (own_if n _ (Same, after.Emoji) None f.joined refl)))
+  joins_left n after.TagDigit3 = inl (own_if n _ (Same, after.Emoji) None turning_flag refl)
+  joins_left n after.TagLetter3 = inl (simp (no_letter, no_digit) (own_if n _ (Same, after.Emoji) None turning_flag refl))
+  joins_left n after.TagLetter4 = inl (simp (no_letter, no_digit) (own_if n _ (Same, after.Emoji) None turning_flag refl))
+  joins_left n after.TagLetter5 = inl (simp no_letter (own_if n _ (Same, after.Emoji) None turning_flag refl))
+  joins_left n after.TagLetter6 = inl (own_if n _ (Same, after.Emoji) None turning_flag refl)
+  joins_left n after.KiratE =
+      inl (simp beside (own_first n _ (Same, after.Nothing) _ (closing_at 0x16D63 refl)
+      (own_first n _ (Same, after.Nothing) None (closing_at 0x16D69 refl) refl)))
+  joins_left n after.KiratAi = inl (own_first n _ (Same, after.Nothing) None (closing_at 0x16D63 refl) refl)
+  joins_left n after.Alef = inl (simp f.wide (own_if n _ (Same, after.Nothing) _ (λ e. f.closing (or_left (is_lam c) _ e)) refl))
+  joins_left n after.ZwjLamed = inl (own_first n _ (Same, after.Nothing) None (closing_at 0x05D0 refl) refl)
+  joins_left n after.VowelZwjYa = inl (own_first n _ (Same, after.Nothing) None (closing_at 0x1A15 refl) refl)
+  joins_left n after.LisuTone = inl (own_first n _ (Same, after.Nothing) None closing_lisu refl)
+  joins_left n after.ZwjOrkhonI = inl (own_first n _ (Same, after.Nothing) None (closing_at 0x10C32 refl) refl)
+  joins_left n _ = inl (search refuting)
 
   past_selectors_left : (n : ℕ) (a : After) → Left c (alone false c).1 (is_shaky_after a) (past_selectors false c n a).1
-  unfolding past_selectors
-  past_selectors_left n a =
-      left_unless c (skips_marks a && (c == 0x200D)) _ _ _ _ (and_right (skips_marks a) _ no_joiner)
-      (left_unless c (skips_marks a && is_ligature_transparent c) _ _ _ _ (and_right (skips_marks a) _ opaque) (joins_left n a))
+  unfolding past_selectors in_ranges
+  past_selectors_left n a = simp (and_right, other, zero_parts.0) (joins_left n a)
 
   presented : (b : Bool) → (b && is_text_presentation_base c) ≡ true → (b ≡ true) × (takes_marks c ≡ true)
   unfolding is_text_presentation_base
@@ -457,12 +304,10 @@ module _ (c : ℕ) (f : Facts c (alone false c) (is_emoji (kind c))) (apart : lo
   in_context_left : (n : ℕ) (s : State) → Left c (alone false c).1 (is_shaky s) (in_context false c n s).1
   unfolding in_context in_ranges
   in_context_left n s =
-      left_unless c (c == 0xFE0F) _ _ _ _ (none_of zeros c 0xFE0F zeros_apart refl)
-      (left_unless c (c == 0xFE01) _ _ _ _ (none_of zeros c 0xFE01 zeros_apart refl)
-      (left_unless c (c == 0xFE0E) _ _ _ _ (none_of zeros c 0xFE0E zeros_apart refl)
+      simp other
       (left_if c (s.text && is_text_presentation_base c) _ _ _ _ (λ e. let k = presented s.text e in inr (and_from (is_shaky s) (takes_marks c) (or_right s.emoji _ (or_left s.text _ k.0)) k.1, inl refl))
-      (left_if c (s.quote && is_quote c) _ _ _ _ (λ e. inl (sym (closing_quote (and_parts s.quote (is_quote c) e).1)))
-      (weaker c _ _ (is_shaky_after s.after) (is_shaky s) (λ e. or_right s.emoji _ (or_right s.text _ e)) (past_selectors_left n s.after))))))
+      (left_if c (s.quote && is_quote c) _ _ _ _ (λ e. inl (closing_quote (and_parts s.quote (is_quote c) e).1))
+      (weaker c _ _ (is_shaky_after s.after) (is_shaky s) (λ e. or_right s.emoji _ (or_right s.text _ e)) (past_selectors_left n s.after))))
 
 -- what stands before it sees
 unfoldable pub own : ℕ → State
@@ -472,7 +317,7 @@ module _ (c : ℕ) (solid : is_solid c ≡ true) where
   no_look : looks_ahead c ≡ false
   no_look = not-true _ (and_parts (not (looks_ahead c)) _ solid).0
 
-  facts_above : nat_le c 0xA0 ≡ false → Facts c (alone false c) (is_emoji (kind c))
+  facts_above : nat_le c 0xA0 ≡ false → Facts (alone false c) (is_emoji (kind c)) (is_zero c) (closes c) (turns c) (in_ranges tones c)
   unfolding char_width
   facts_above high =
       let columns : (nat_le c 0xA0 || nat_lt 0 (char_columns_of c)) ≡ true = (and_parts (not (looks_ahead c)) (nat_le c 0xA0 || nat_lt 0 (char_columns_of c)) solid).1 in
@@ -480,19 +325,17 @@ module _ (c : ℕ) (solid : is_solid c ≡ true) where
 
   past_emoji_left : (n : ℕ) (s : State) → Left c (own c) (is_shaky s) (past_emoji false c n s).1
   unfolding past_emoji own
-  past_emoji_left n s = by (nat_le c 0xA0) refl
+  past_emoji_left n s = rw newline (by (nat_le c 0xA0) refl)
     where
       newline : (c == 0x0A) ≡ false
       newline = grind (arith, nat_tests, no_look)
 
       by : (b : Bool) → nat_le c 0xA0 ≡ b
-          → Left c (cond b plain (alone false c).1) (is_shaky s) (cond (c == 0x0A) (n + 1, before after.LineFeed) (cond ((c == 0x0D) && is_line_feed s.after) (n, plain) (cond b (n + 1, plain) (cond (is_plain s) (added n (alone false c)) (in_context false c n s))))).1
-      by true e = left_unless c (c == 0x0A) _ _ _ _ newline (left_if c ((c == 0x0D) && is_line_feed s.after) _ _ _ _ (λ _. inl refl) (inl refl))
+          → Left c (cond b plain (alone false c).1) (is_shaky s) (cond ((c == 0x0D) && is_line_feed s.after) (n, plain) (cond b (n + 1, plain) (cond (is_plain s) (added n (alone false c)) (in_context false c n s)))).1
+      by true e = left_if c ((c == 0x0D) && is_line_feed s.after) _ _ _ _ (λ _. inl refl) (inl refl)
       by false e =
           let no_return : (c == 0x0D) ≡ false = grind (arith, nat_tests, e) in
-          left_unless c (c == 0x0A) _ _ _ _ newline
-          (left_unless c ((c == 0x0D) && is_line_feed s.after) _ _ _ _ (ap (λ b. b && is_line_feed s.after) no_return)
-          (left_if c (is_plain s) _ _ _ _ (λ _. inl refl) (in_context_left c (facts_above e) no_look n s)))
+          rw no_return (left_if c (is_plain s) _ _ _ _ (λ _. inl refl) (in_context_left c (facts_above e) no_look n s))
 
   step_left : (r : Reading) → Left c (own c) (is_shaky r.1) (step false c r).1
   unfolding step
@@ -512,11 +355,9 @@ module _ (c : ℕ) (solid : is_solid c ≡ true) where
 
 steady_own : (c : ℕ) → is_solid c ≡ true → is_tone c ≡ false → is_shaky (own c) ≡ false
 unfolding own
-steady_own c solid bare = by (nat_le c 0xA0) refl
-  where
-    by : (b : Bool) → nat_le c 0xA0 ≡ b → is_shaky (cond b plain (alone false c).1) ≡ false
-    by true e = refl
-    by false e = (facts_above c solid e).steady bare
+steady_own c solid bare =
+    cond_both (nat_le c 0xA0) plain (alone false c).1 (λ s. is_shaky s ≡ false) (λ _. refl)
+    (λ high. (facts_above c solid high).steady (sym (in_ranges-some (0x1F3FB, 0x1F3FF) [] c) ∙ bare))
 
 -- texts that leave a state, after however many columns
 abbrev pub Leaves : State → List ℕ → Type 0
@@ -603,10 +444,6 @@ data Both (c : ℕ) (cs : List ℕ) (ts us : List (List ℕ)) : List (List ℕ) 
   open_part : (p q : List ℕ) (ps qs : List (List ℕ)) → ts ≡ (c ∷ p) ∷ ps → us ≡ (c ∷ q) ∷ qs → Both c cs ts us ((cs ++ c ∷ p) ∷ ps) ((cs ++ c ∷ q) ∷ qs)
   later : (first : List ℕ) (xs ys : List (List ℕ)) → Sums xs ys ts us → Both c cs ts us (first ∷ xs) (first ∷ ys)
 
-both_first : (c x : ℕ) (cs : List ℕ) (ts us xs ys : List (List ℕ)) → Both c cs ts us xs ys → Both c (x ∷ cs) ts us (onto_first x xs) (onto_first x ys)
-both_first c x cs ts us xs ys (open_part p q ps qs d e) = open_part p q ps qs d e
-both_first c x cs ts us xs ys (later first more less e) = later (x ∷ first) more less e
-
 -- what is so of the parts that begin with the letter
 abbrev PartsBalanced : ℕ → List ℕ → List ℕ → Type 0
 PartsBalanced c ds es =
@@ -647,7 +484,8 @@ module _ (c : ℕ) (ds es : List ℕ) (no_joiner : (c == 0x200D) ≡ false) (par
       by : (b : Bool) (xs ys : List (List ℕ)) → Both c cs (parts_between_joiners (c ∷ ds)) (parts_between_joiners (c ∷ es)) xs ys
           → Both c (x ∷ cs) (parts_between_joiners (c ∷ ds)) (parts_between_joiners (c ∷ es)) (cond b ([] ∷ xs) (onto_first x xs)) (cond b ([] ∷ ys) (onto_first x ys))
       by true xs ys k = later [] xs ys (both_sum cs xs ys k)
-      by false xs ys k = both_first c x cs (parts_between_joiners (c ∷ ds)) (parts_between_joiners (c ∷ es)) xs ys k
+      by false _ _ (open_part p q ps qs d e) = open_part p q ps qs d e
+      by false _ _ (later first more less e) = later (x ∷ first) more less e
 
   -- in each mode
   pub columns_balanced : (mode : GraphemeClusterMode) (cs : List ℕ) → Balanced (str_width false) cs (c ∷ ds) (c ∷ es) → Balanced (columns_of mode) cs (c ∷ ds) (c ∷ es)
@@ -681,13 +519,10 @@ begun_part c ds p ps joiner e = by ds (sym (ap (λ b. cond b ([] ∷ parts_betwe
     tail_is : {x y : List ℕ} {xs ys : List (List ℕ)} → (c ∷ x) ∷ xs ≡ (c ∷ y) ∷ ys → x ≡ y
     tail_is e = cc
 
-    onto : (d : ℕ) (ds : List ℕ) (us : List (List ℕ)) → (d == 0x200D) ≡ false → onto_first c (onto_first d us) ≡ (c ∷ p) ∷ ps → Begins (d ∷ ds) p
-    onto d ds [] h e = subst (Begins (d ∷ ds)) (tail_is e) (same d [] refl h)
-    onto d ds (u ∷ us) h e = subst (Begins (d ∷ ds)) (tail_is e) (same d u refl h)
-
     at : (b : Bool) (d : ℕ) (ds : List ℕ) (us : List (List ℕ)) → (d == 0x200D) ≡ b → onto_first c (cond b ([] ∷ us) (onto_first d us)) ≡ (c ∷ p) ∷ ps → Begins (d ∷ ds) p
     at true d ds us h e = subst (Begins (d ∷ ds)) (tail_is e) (none h)
-    at false d ds us h e = onto d ds us h e
+    at false d ds [] h e = subst (Begins (d ∷ ds)) (tail_is e) (same d [] refl h)
+    at false d ds (u ∷ us) h e = subst (Begins (d ∷ ds)) (tail_is e) (same d u refl h)
 
     by : (ds : List ℕ) → onto_first c (parts_between_joiners ds) ≡ (c ∷ p) ∷ ps → Begins ds p
     by [] e = subst (Begins []) (tail_is e) (none refl)
@@ -721,11 +556,7 @@ columns_parted c ds es h k = columns_alike (own c) c ds es (parts_joiner c (firs
 
 selector_past : (n : ℕ) (s : State) → (past_emoji false 0xFE0F n s).1.emoji ≡ true
 unfolding unicode_width
-selector_past n s = by (is_plain s)
-  where
-    by : (b : Bool) → (cond b (added n (alone false 0xFE0F)) (n, record (cond (is_joined_emoji s.after) s (if_kept s)) { emoji = true })).1.emoji ≡ true
-    by true = refl
-    by false = refl
+selector_past n s = ⊎_elim (λ (e : is_plain s ≡ true). rw e) (λ (e : is_plain s ≡ false). rw e) (cases_Bool (is_plain s))
 
 selector_emoji : (r : Reading) → (step false 0xFE0F r).1.emoji ≡ true
 unfolding unicode_width
@@ -769,27 +600,22 @@ columns_selected c ds es h d e = columns_alike (before after.Emoji) c ds es (bas
 
 -- ---- before two letters of a flag, if only such letters follow
 
-flag_letters : List Range
+abbrev flag_letters : List Range
 flag_letters = (0x1F1E6, 0x1F1FF) ∷ []
 
 abbrev is_indicator_kind : Kind → Bool
 is_indicator_kind kinds.RegionalIndicator = true
 is_indicator_kind _ = false
 
-flags_hold : ℕ → Bool
-flags_hold c = not (in_ranges flag_letters c) || is_indicator_kind (kind c)
-
-unfoldable flags_stepped : Stepped flags_hold
-unfolding flags_hold flag_letters rises_from
-flags_stepped = zip_stepped (λ inside k. not inside || is_indicator_kind k) (in_ranges flag_letters) kind (of_ranges flag_letters refl) kind_stepped
-
-all_flags_hold : (c : ℕ) → flags_hold c ≡ true
-unfolding unicode_width tables flags_stepped flag_letters rises_from
-all_flags_hold = Stepped-everywhere flags_hold flags_stepped refl
+all_flags_hold : (c : ℕ) → (not (in_ranges flag_letters c) || is_indicator_kind (kind c)) ≡ true
+unfolding unicode_width tables rises_from
+all_flags_hold =
+    Stepped-everywhere _ (zip_stepped (λ inside k. not inside || is_indicator_kind k) (in_ranges flag_letters) kind
+    (of_ranges flag_letters refl) kind_stepped) refl
 
 flag_alone : (c : ℕ) → is_flag_letter c ≡ true → alone false c ≡ (1, before after.RegionalIndicator)
-unfolding alone flags_hold in_ranges flag_letters
-flag_alone c h = by (kind c) (implied (in_ranges flag_letters c) (is_indicator_kind (kind c)) (grind (arith, nat_tests, h)) (all_flags_hold c))
+unfolding alone
+flag_alone c h = by (kind c) (implied _ _ (sym (in_ranges-some (0x1F1E6, 0x1F1FF) [] c) ∙ h) (all_flags_hold c))
   where
     by : (k : Kind) → is_indicator_kind k ≡ true → of_kind false c k ≡ (1, before after.RegionalIndicator)
     by kinds.RegionalIndicator e = refl
@@ -799,40 +625,30 @@ first_flag : (c n : ℕ) → is_flag_letter c ≡ true → step false c (n, plai
 unfolding step past_emoji
 first_flag c n h = grind (arith, nat_tests, h, flag_alone c h)
 
-next_flag : (c n : ℕ) → is_flag_letter c ≡ true → step false c (n, before after.RegionalIndicator) ≡ (n + 1, before after.RegionalIndicators)
-unfolding step past_emoji in_context past_selectors joins
-next_flag c n h = grind (arith, nat_tests, h)
-
-later_flag : (c n : ℕ) → is_flag_letter c ≡ true → step false c (n, before after.RegionalIndicators) ≡ (n + 1, before after.RegionalIndicators)
-unfolding step past_emoji in_context past_selectors joins
-later_flag c n h = grind (arith, nat_tests, h)
-
 abbrev after_flags : List ℕ → State
 after_flags [] = plain
 after_flags (c ∷ []) = before after.RegionalIndicator
 after_flags (c ∷ d ∷ cs) = before after.RegionalIndicators
 
+next_flag : (c d n : ℕ) (cs : List ℕ) → is_flag_letter c ≡ true → step false c (n, after_flags (d ∷ cs)) ≡ (n + 1, before after.RegionalIndicators)
+unfolding step past_emoji in_context past_selectors joins
+next_flag c d n [] h = grind (arith, nat_tests, h)
+next_flag c d n (e ∷ cs) h = grind (arith, nat_tests, h)
+
 read_flags : (n : ℕ) (cs : List ℕ) → list_all is_flag_letter cs ≡ true → read_before false cs (n, plain) ≡ (n + length cs, after_flags cs)
 read_flags n [] h = let e : n ≡ n + 0 = omega arith in ap (λ m. (m, plain)) e
 read_flags n (c ∷ []) h = first_flag c n (and_parts (is_flag_letter c) true h).0
-read_flags n (c ∷ d ∷ []) h =
-    let parts = and_parts (is_flag_letter c) (is_flag_letter d && true) h in
-    let e : n + 1 + 1 ≡ n + 2 = omega arith in
-    ap (step false c) (read_flags n (d ∷ []) parts.1) ∙ next_flag c (n + 1) parts.0 ∙ ap (λ m. (m, before after.RegionalIndicators)) e
-read_flags n (c ∷ d ∷ f ∷ cs) h =
-    let parts = and_parts (is_flag_letter c) (list_all is_flag_letter (d ∷ f ∷ cs)) h in
-    let e : n + length (d ∷ f ∷ cs) + 1 ≡ n + length (c ∷ d ∷ f ∷ cs) = omega arith in
-    ap (step false c) (read_flags n (d ∷ f ∷ cs) parts.1) ∙ later_flag c (n + length (d ∷ f ∷ cs)) parts.0 ∙ ap (λ m. (m, before after.RegionalIndicators)) e
+read_flags n (c ∷ d ∷ cs) h =
+    let parts = and_parts (is_flag_letter c) (list_all is_flag_letter (d ∷ cs)) h in
+    let e : n + length (d ∷ cs) + 1 ≡ n + length (c ∷ d ∷ cs) = omega arith in
+    ap (step false c) (read_flags n (d ∷ cs) parts.1) ∙ next_flag c d (n + length (d ∷ cs)) cs parts.0 ∙ ap (λ m. (m, before after.RegionalIndicators)) e
 
 flags_unjoined : (cs : List ℕ) → list_all is_flag_letter cs ≡ true → parts_between_joiners cs ≡ cs ∷ []
 flags_unjoined [] h = refl
 flags_unjoined (c ∷ cs) h =
     let parts = and_parts (is_flag_letter c) (list_all is_flag_letter cs) h in
-    let other : (c == 0x200D) ≡ false = no_joiner c parts.0 in
-    ap (λ b. cond b ([] ∷ parts_between_joiners cs) (onto_first c (parts_between_joiners cs))) other ∙ ap (onto_first c) (flags_unjoined cs parts.1)
-  where
-    no_joiner : (c : ℕ) → is_flag_letter c ≡ true → (c == 0x200D) ≡ false
-    no_joiner c h = apart is_flag_letter c 0x200D h refl
+    ap (λ b. cond b ([] ∷ parts_between_joiners cs) (onto_first c (parts_between_joiners cs))) (apart is_flag_letter c 0x200D parts.0 refl)
+    ∙ ap (onto_first c) (flags_unjoined cs parts.1)
 
 flags_leave : (a b : ℕ) (ds : List ℕ) → list_all is_flag_letter (a ∷ b ∷ ds) ≡ true → Leaves (before after.RegionalIndicators) (a ∷ b ∷ ds)
 flags_leave a b ds h n = ap (λ r. r.1) (read_flags n (a ∷ b ∷ ds) h)

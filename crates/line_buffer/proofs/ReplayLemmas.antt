@@ -1,5 +1,5 @@
 -- Calls of several events: what they make of a listener and of a text.
-use Rattle.std.proofs.Common.{◌≡◌, Bool, true, ℕ, ◌+◌, ◌-◌, arith, take, drop, List, [], ◌∷◌, ◌++◌, inr, refl, subst, ap, ◌∙◌, if◌then◌else◌, IsUtf8, IsCharBoundary}
+use Rattle.std.proofs.Common.{◌≡◌, ℕ, ◌+◌, ◌-◌, arith, take, drop, List, [], ◌∷◌, ◌++◌, inr, refl, subst, ap, ◌∙◌, IsUtf8, IsCharBoundary}
 use Rattle.std.specs.List.{replace_range, insert_slice}
 use Rattle.line_buffer.specs.Event.{ChangeEvent, Swaps, Replays, TakesAll, Reports, StopsAmong, wants_or}
 
@@ -26,10 +26,6 @@ reports_then {S} {takes} {es} {fs} {s} {t} {u} {a} {b} {c} x y = record {
 -- the failed event, as another equation has it
 pub refused_as : {S : Type 0} (refuses : S → ChangeEvent → S → Type 0) {e f : ChangeEvent} {s t : S} → e ≡ f → wants_or refuses s e t → wants_or refuses s f t
 refused_as refuses {e} {f} {s} {t} same h = subst (λ x. wants_or refuses s x t) same h
-
--- events under a test that holds
-pub if_true : {A : Type 0} (b : Bool) (x y : A) → b ≡ true → (if b then x else y) ≡ x
-if_true b x y e = ap (λ v. if v then x else y) e
 
 -- a call that takes memory too
 unfoldable pub stops_wanting : {S : Type 0} {takes refuses : S → ChangeEvent → S → Type 0} {closing es : List ChangeEvent} {s t : S} {a b : List ℕ} → StopsAmong takes refuses closing es s t a b

@@ -1,9 +1,10 @@
 -- The text behind a text's first cluster is cut into the clusters that come after it: no rule reads past a break.
 use Rattle.std.proofs.Common.{◌≡◌, ℕ, Bool, true, false, not, cond, ◌&&◌, ◌||◌, List, [], ◌∷◌, ◌++◌, length, map, drop, unwrap_or, refl, sym, ap, ap₂, ◌∙◌, append_assoc, subst, IsUtf8, IsCharBoundary, chars, encode_utf8_all, arith}
-use Rattle.std.proofs.lemmas.Bool.{and_parts, not-true}
+use Rattle.std.proofs.lemmas.Bool.{and_parts, or_parts, not-true}
+use Rattle.std.proofs.lemmas.Bool.Decides.{nat_tests}
 use Rattle.std.proofs.lemmas.Str.{encodes-append, encodes-chars, IsUtf8-past_char}
 use Rattle.std.proofs.Math.Seq.{drop-append_seam}
-use Rattle.ucd_table.proofs.Stepped.{Stepped, zip_stepped}
+use Rattle.ucd_table.proofs.Stepped.{zip_stepped}
 use Rattle.ucd_table.proofs.Facts.{Stepped-everywhere}
 use Rattle.ucd_table.proofs.Computing.{tables}
 use Rattle.ucd_breaks.specs.GraphemeClusterBreak.{grapheme_cluster_break}
@@ -44,29 +45,21 @@ links InCb.Extend = true
 links InCb.Linker = true
 links _ = false
 
-extending : ℕ → Bool
-extending c = not (extends (indic_conjunct_break c)) || joins_before (grapheme_cluster_break c)
+all_extending : (c : ℕ) → (not (extends (indic_conjunct_break c)) || joins_before (grapheme_cluster_break c)) ≡ true
+unfolding tables indic_conjunct_break_stepped grapheme_cluster_break_stepped
+all_extending =
+    Stepped-everywhere _
+    (zip_stepped (λ i g. not (extends i) || joins_before g) indic_conjunct_break grapheme_cluster_break
+    indic_conjunct_break_stepped grapheme_cluster_break_stepped) refl
 
-unfoldable extending_stepped : Stepped extending
-unfolding extending
-extending_stepped = zip_stepped (λ i g. not (extends i) || joins_before g) indic_conjunct_break grapheme_cluster_break indic_conjunct_break_stepped grapheme_cluster_break_stepped
-
-all_extending : (c : ℕ) → extending c ≡ true
-unfolding tables extending_stepped indic_conjunct_break_stepped grapheme_cluster_break_stepped
-all_extending = Stepped-everywhere extending extending_stepped refl
-
-dull : ℕ → Bool
-dull c = not (is_control (grapheme_cluster_break c)) || (not (links (indic_conjunct_break c)) && not (is_extended_pictographic c))
-
-unfoldable dull_stepped : Stepped dull
-unfolding dull
-dull_stepped =
-    zip_stepped (λ g b. not (is_control g) || b) grapheme_cluster_break (λ c. not (links (indic_conjunct_break c)) && not (is_extended_pictographic c)) grapheme_cluster_break_stepped
-    (zip_stepped (λ i p. not (links i) && not p) indic_conjunct_break is_extended_pictographic indic_conjunct_break_stepped is_extended_pictographic_stepped)
-
-all_dull : (c : ℕ) → dull c ≡ true
-unfolding tables dull_stepped indic_conjunct_break_stepped grapheme_cluster_break_stepped is_extended_pictographic_stepped
-all_dull = Stepped-everywhere dull dull_stepped refl
+all_dull : (c : ℕ) → (not (is_control (grapheme_cluster_break c)) || (not (links (indic_conjunct_break c)) && not (is_extended_pictographic c))) ≡ true
+unfolding tables indic_conjunct_break_stepped grapheme_cluster_break_stepped is_extended_pictographic_stepped
+all_dull =
+    Stepped-everywhere _
+    (zip_stepped (λ g b. not (is_control g) || b) grapheme_cluster_break (λ c. not (links (indic_conjunct_break c)) && not (is_extended_pictographic c))
+    grapheme_cluster_break_stepped
+    (zip_stepped (λ i p. not (links i) && not p) indic_conjunct_break is_extended_pictographic
+    indic_conjunct_break_stepped is_extended_pictographic_stepped)) refl
 
 -- such a character is joined to what stands before it, unless that is a control character
 after_control : (v w : GraphemeClusterBreak) (b : Bool) → joins_before w ≡ true → unwrap_or (break_by_pair true v w) b ≡ true → is_control v ≡ true
@@ -77,12 +70,12 @@ after_control _ Gcb.Extend b j h = h
 after_control _ Gcb.Zwj b j h = h
 after_control v _ b j h = absurd (let e : false ≡ true = j in cc)
 
--- ---- the rules see the same with a text before the break and without it
-record NothingSeen (x : ℕ) (before : List ℕ) : Type 0 where
-  linker : ends_in_linker (indic_conjunct_break x ∷ map indic_conjunct_break before) ≡ ends_in_linker (indic_conjunct_break x ∷ [])
-  pictograph : ends_in_pictograph (x ∷ before) ≡ ends_in_pictograph (x ∷ [])
-  joiner : (n : ℕ) → joins_emoji (x ∷ before) n ≡ joins_emoji (x ∷ []) n
-  flag : ends_in_half_flag (x ∷ before) ≡ ends_in_half_flag (x ∷ [])
+-- ---- the rules see the same in two texts
+record SameSeen (xs ys : List ℕ) : Type 0 where
+  linker : ends_in_linker (map indic_conjunct_break xs) ≡ ends_in_linker (map indic_conjunct_break ys)
+  pictograph : ends_in_pictograph xs ≡ ends_in_pictograph ys
+  joiner : (n : ℕ) → joins_emoji xs n ≡ joins_emoji ys n
+  flag : ends_in_half_flag xs ≡ ends_in_half_flag ys
 
 no_linker : (i : IndicConjunctBreak) (is : List IndicConjunctBreak) → links i ≡ false → ends_in_linker (i ∷ is) ≡ false
 unfolding ends_in_linker
@@ -94,16 +87,12 @@ control_extends : (v : GraphemeClusterBreak) → is_control v ≡ true → is_ex
 control_extends Gcb.Extend h = absurd cc
 control_extends _ h = refl
 
-last_false : (a b : Bool) → not (a || b) ≡ true → b ≡ false
-last_false true b h = absurd cc
-last_false false b h = not-true b h
-
 first_false : (a b : Bool) → b ≡ true → (a && b) ≡ false → a ≡ false
-first_false true b e h = sym e ∙ h
-first_false false b e h = refl
+first_false a b e h = grind (arith, nat_tests)
 
-nothing_seen : (c x : ℕ) (before rest : List ℕ) → is_grapheme_break true (c ∷ before) (x ∷ rest) ≡ true → NothingSeen x (c ∷ before)
-unfolding is_grapheme_break ends_in_linker ends_in_pictograph ends_in_half_flag dull extending
+-- a text before a break, and none
+nothing_seen : (c x : ℕ) (before rest : List ℕ) → is_grapheme_break true (c ∷ before) (x ∷ rest) ≡ true → SameSeen (x ∷ c ∷ before) (x ∷ [])
+unfolding is_grapheme_break ends_in_linker ends_in_pictograph ends_in_half_flag
 nothing_seen c x before rest h = record {
   linker = linkers (indic_conjunct_break x) refl;
   pictograph = ap (λ b. is_extended_pictographic x || b) (extended (grapheme_cluster_break x) refl);
@@ -142,56 +131,42 @@ nothing_seen c x before rest h = record {
         → (is_regional v && not (ends_in_half_flag before)) ≡ false
     half Gcb.RegionalIndicator e k r =
         ap (λ v. is_regional v && not (ends_in_half_flag before)) (sym e)
-        ∙ first_false (ends_in_half_flag (c ∷ before)) (is_regional (grapheme_cluster_break x)) (ap is_regional r) (last_false _ (joins_flag (c ∷ before) x) k)
+        ∙ first_false (ends_in_half_flag (c ∷ before)) (is_regional (grapheme_cluster_break x)) (ap is_regional r)
+        (or_parts _ (joins_flag (c ∷ before) x) (not-true _ k)).1
     half _ e k r = refl
 
     flagged : (w : GraphemeClusterBreak) → grapheme_cluster_break x ≡ w → (is_regional w && not (ends_in_half_flag (c ∷ before))) ≡ (is_regional w && not (ends_in_half_flag []))
     flagged Gcb.RegionalIndicator e = ap not (half (grapheme_cluster_break c) refl (ap (λ w. unwrap_or (break_by_pair true (grapheme_cluster_break c) w) none) (sym e) ∙ h) e)
     flagged _ e = refl
 
-module _ (x : ℕ) (before : List ℕ) (seen : NothingSeen x before) where
-  linker_seen : (zs : List ℕ) → ends_in_linker (map indic_conjunct_break (zs ++ x ∷ before)) ≡ ends_in_linker (map indic_conjunct_break (zs ++ x ∷ []))
-  unfolding ends_in_linker
-  linker_seen [] = seen.linker
-  linker_seen (z ∷ zs) = by (linker_seen zs) (indic_conjunct_break z)
-    where
-      by : ends_in_linker (map indic_conjunct_break (zs ++ x ∷ before)) ≡ ends_in_linker (map indic_conjunct_break (zs ++ x ∷ [])) → (i : IndicConjunctBreak)
-          → ends_in_linker (i ∷ map indic_conjunct_break (zs ++ x ∷ before)) ≡ ends_in_linker (i ∷ map indic_conjunct_break (zs ++ x ∷ []))
-      by shorter InCb.Extend = shorter
-      by shorter InCb.Linker = refl
-      by shorter _ = refl
+-- and a character more
+seen_more : (z : ℕ) (xs ys : List ℕ) → SameSeen xs ys → SameSeen (z ∷ xs) (z ∷ ys)
+unfolding ends_in_linker ends_in_pictograph ends_in_half_flag
+seen_more z xs ys seen = record {
+  linker = by (indic_conjunct_break z);
+  pictograph = ap (λ p. is_extended_pictographic z || (is_extend (grapheme_cluster_break z) && p)) seen.pictograph;
+  joiner = λ n. ap (λ p. is_zwj (grapheme_cluster_break z) && p && is_extended_pictographic n) seen.pictograph;
+  flag = ap (λ b. is_regional (grapheme_cluster_break z) && not b) seen.flag;
+}
+  where
+    by : (i : IndicConjunctBreak) → ends_in_linker (i ∷ map indic_conjunct_break xs) ≡ ends_in_linker (i ∷ map indic_conjunct_break ys)
+    by InCb.Extend = seen.linker
+    by _ = refl
 
-  pictograph_seen : (zs : List ℕ) → ends_in_pictograph (zs ++ x ∷ before) ≡ ends_in_pictograph (zs ++ x ∷ [])
-  unfolding ends_in_pictograph
-  pictograph_seen [] = seen.pictograph
-  pictograph_seen (z ∷ zs) = ap (λ p. is_extended_pictographic z || (is_extend (grapheme_cluster_break z) && p)) (pictograph_seen zs)
+same_breaks : (y : ℕ) (xs ys after : List ℕ) → SameSeen (y ∷ xs) (y ∷ ys) → is_grapheme_break true (y ∷ xs) after ≡ is_grapheme_break true (y ∷ ys) after
+unfolding is_grapheme_break
+same_breaks y xs ys [] seen = refl
+same_breaks y xs ys (n ∷ after) seen =
+    ap₂ (λ e f. unwrap_or (break_by_pair true (grapheme_cluster_break y) (grapheme_cluster_break n)) (not ((true && joins_conjunct (y ∷ xs) n) || e || f)))
+    (seen.joiner n) (ap (λ f. f && is_regional (grapheme_cluster_break n)) seen.flag)
+    ∙ ap (λ l. unwrap_or (break_by_pair true (grapheme_cluster_break y) (grapheme_cluster_break n)) (not ((true && (l && is_consonant (indic_conjunct_break n))) || joins_emoji (y ∷ ys) n || joins_flag (y ∷ ys) n))) seen.linker
 
-  flag_seen : (zs : List ℕ) → ends_in_half_flag (zs ++ x ∷ before) ≡ ends_in_half_flag (zs ++ x ∷ [])
-  unfolding ends_in_half_flag
-  flag_seen [] = seen.flag
-  flag_seen (z ∷ zs) = ap (λ b. is_regional (grapheme_cluster_break z) && not b) (flag_seen zs)
-
-  joiner_seen : (zs : List ℕ) (n : ℕ) → joins_emoji (zs ++ x ∷ before) n ≡ joins_emoji (zs ++ x ∷ []) n
-  joiner_seen [] n = seen.joiner n
-  joiner_seen (z ∷ zs) n = ap (λ p. is_zwj (grapheme_cluster_break z) && p && is_extended_pictographic n) (pictograph_seen zs)
-
-  same_breaks : (zs after : List ℕ) → is_grapheme_break true (zs ++ x ∷ before) after ≡ is_grapheme_break true (zs ++ x ∷ []) after
-  unfolding is_grapheme_break
-  same_breaks [] [] = refl
-  same_breaks (z ∷ zs) [] = refl
-  same_breaks [] (n ∷ after) =
-      ap₂ (λ e f. unwrap_or (break_by_pair true (grapheme_cluster_break x) (grapheme_cluster_break n)) (not ((true && joins_conjunct (x ∷ before) n) || e || f)))
-      (seen.joiner n) (ap (λ f. f && is_regional (grapheme_cluster_break n)) seen.flag)
-      ∙ ap (λ l. unwrap_or (break_by_pair true (grapheme_cluster_break x) (grapheme_cluster_break n)) (not ((true && (l && is_consonant (indic_conjunct_break n))) || joins_emoji (x ∷ []) n || joins_flag (x ∷ []) n))) seen.linker
-  same_breaks (z ∷ zs) (n ∷ after) =
-      ap₂ (λ e f. unwrap_or (break_by_pair true (grapheme_cluster_break z) (grapheme_cluster_break n)) (not ((true && joins_conjunct (z ∷ (zs ++ x ∷ before)) n) || e || f)))
-      (joiner_seen (z ∷ zs) n) (ap (λ f. f && is_regional (grapheme_cluster_break n)) (flag_seen (z ∷ zs)))
-      ∙ ap (λ l. unwrap_or (break_by_pair true (grapheme_cluster_break z) (grapheme_cluster_break n)) (not ((true && (l && is_consonant (indic_conjunct_break n))) || joins_emoji (z ∷ (zs ++ x ∷ [])) n || joins_flag (z ∷ (zs ++ x ∷ [])) n))) (linker_seen (z ∷ zs))
-
-  same_pieces : (cs zs : List ℕ) → pieces (zs ++ x ∷ before) cs ≡ pieces (zs ++ x ∷ []) cs
-  unfolding cut
-  same_pieces [] zs = refl
-  same_pieces (c ∷ cs) zs = ap₂ (λ b ps. cond b ((c ∷ []) ∷ ps) (prepend (c ∷ []) ps)) (same_breaks (c ∷ zs) (cs ++ [])) (same_pieces cs (c ∷ zs))
+same_pieces : (cs : List ℕ) (y : ℕ) (xs ys : List ℕ) → SameSeen (y ∷ xs) (y ∷ ys) → pieces (y ∷ xs) cs ≡ pieces (y ∷ ys) cs
+unfolding cut
+same_pieces [] y xs ys seen = refl
+same_pieces (c ∷ cs) y xs ys seen =
+    let more = seen_more c (y ∷ xs) (y ∷ ys) seen in
+    ap₂ (λ b ps. cond b ((c ∷ []) ∷ ps) (prepend (c ∷ []) ps)) (same_breaks c (y ∷ xs) (y ∷ ys) (cs ++ []) more) (same_pieces cs c (y ∷ xs) (y ∷ ys) more)
 
 -- what stands before a break isn't seen behind it
 pub pieces_behind : (c : ℕ) (before ds : List ℕ) → is_grapheme_break true (c ∷ before) (ds ++ []) ≡ true → pieces [] ds ≡ pieces (c ∷ before) ds
@@ -199,7 +174,7 @@ unfolding cut
 pieces_behind c before [] e = refl
 pieces_behind c before (d ∷ ds) e =
     let seen = nothing_seen c d before (ds ++ []) e in
-    sym (ap₂ (λ b ps. cond b ((d ∷ []) ∷ ps) (prepend (d ∷ []) ps)) (same_breaks d (c ∷ before) seen [] (ds ++ [])) (same_pieces d (c ∷ before) seen ds []))
+    sym (ap₂ (λ b ps. cond b ((d ∷ []) ∷ ps) (prepend (d ∷ []) ps)) (same_breaks d (c ∷ before) [] (ds ++ []) seen) (same_pieces ds d (c ∷ before) [] seen))
 
 -- ---- behind the first piece
 abbrev Behind : List ℕ → List ℕ → List (List ℕ) → Type 0

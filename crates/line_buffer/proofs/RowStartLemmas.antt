@@ -1,20 +1,11 @@
 -- Where the rows of a text start and end.
-use Rattle.std.proofs.Common.{inl, inr, subst, zero-add, ◌≡◌, ◌≢◌, ℕ, zero, suc, ◌+◌, ◌-◌, ◌<◌, ◌≤◌, ◌==◌, Bool, true, false, not, cond, List, [], ◌∷◌, ◌++◌, length, map, reverse, filter, take, drop, get_or, refl, sym, ap, ◌∙◌, arith, le_refl, length-take, length-drop, take_all, take-take, take-append-drop, get_or-take, get_or-drop, IsUtf8, IsCharBoundary, ne_eqb, eq-eqb}
-use Rattle.std.specs.List.{list_all, prefix_len, suffix_len, enumerate_from}
-use Rattle.std.proofs.lemmas.Bool.{cases_lt}
-use Rattle.std.proofs.lemmas.List.Folds.{list_all_at}
+use Rattle.std.proofs.Common.{inl, inr, ⊎_elim, subst, zero-add, add-zero, ◌≡◌, ◌≢◌, ℕ, zero, suc, ◌+◌, ◌-◌, ◌<◌, ◌≤◌, ◌==◌, true, false, not, List, [], ◌∷◌, ◌++◌, length, map, reverse, take, drop, get_or, refl, sym, ap, ◌∙◌, arith, le_refl, length-take, length-drop, take_all, take-take, take-append-drop, get_or-take, get_or-drop, IsUtf8, IsCharBoundary, ne_eqb, eq-eqb}
+use Rattle.std.specs.List.{list_all, prefix_len, suffix_len}
+use Rattle.std.proofs.lemmas.Bool.{cases_lt, cases_Bool}
 use Rattle.std.proofs.lemmas.Str.{IsCharBoundary-after_ascii, IsCharBoundary-before_ascii, IsCharBoundary-start, IsCharBoundary-end}
 use Rattle.std.proofs.lemmas.List.{reverse-append, length-reverse, get_or-reverse, drop_more, length-take-le}
-use Rattle.std.proofs.lemmas.List.Sums.{prefix_len_is, prefix_len_passes, prefix_len_stops, prefix_len-le-length, suffix_len_is}
+use Rattle.std.proofs.lemmas.List.Sums.{prefix_len_is, prefix_len_passes, prefix_len_stops, prefix_len-le-length, suffix_len_is, AllPass-from_list_all}
 use Rattle.line_buffer.specs.Rows.{FindsPlace, is_in_row, row_start, row_end, behind_newlines, row_starts, row_close}
-
--- ---- the first newline, and the last
-
-pub row_len_some : (bs : List ℕ) (k : ℕ) → (k < length bs) × (get_or bs k 0 ≡ 10) × ((i : ℕ) → i < k → get_or bs i 0 ≢ 10) → prefix_len is_in_row bs ≡ k
-row_len_some bs k h = prefix_len_is is_in_row bs k 0 (omega (arith, h.0)) (λ i l. ap not (ne_eqb _ 10 (h.2 i l))) (λ l. ap not (eq-eqb _ 10 h.1))
-
-pub row_len_none : (bs : List ℕ) → ((i : ℕ) → i < length bs → get_or bs i 0 ≢ 10) → prefix_len is_in_row bs ≡ length bs
-row_len_none bs h = prefix_len_is is_in_row bs (length bs) 0 (le_refl _) (λ i l. ap not (ne_eqb _ 10 (h i l))) (λ l. absurd (omega arith))
 
 -- the last row of a text
 pub record OpensLastRow (text : List ℕ) (start : ℕ) : Type 0 where
@@ -32,14 +23,6 @@ not_newline b h e = grind (arith)
 
 pub is_newline : (b : ℕ) → is_in_row b ≡ false → b ≡ 10
 is_newline b h = grind (arith)
-
--- a row by the bytes that are none of a newline
-in_row_at : (bs : List ℕ) (i : ℕ) → list_all is_in_row bs ≡ true → i < length bs → is_in_row (get_or bs i 0) ≡ true
-in_row_at bs i h l = by (is_in_row (get_or bs i 0)) refl
-  where
-    by : (b : Bool) → is_in_row (get_or bs i 0) ≡ b → b ≡ true
-    by true e = refl
-    by false e = sym (list_all_at is_in_row bs i 0 l e) ∙ h
 
 -- after a newline a text may be cut
 pub behind_newline : (text : List ℕ) (start : ℕ) → IsUtf8 text → (0 < start → (start - 1 < length text) × (get_or text (start - 1) 0 ≡ 10)) → IsCharBoundary text start
@@ -64,7 +47,7 @@ finds_row_start text bytes start same u fits newline in_row =
     none i l m =
         let place : start + (i - start) ≡ i = omega (arith, l) in
         not_newline (get_or bytes i 0) (ap (λ k. is_in_row (get_or bytes k 0)) (sym place) ∙ ap is_in_row (sym (get_or-drop start bytes (i - start) 0))
-        ∙ in_row_at (drop start bytes) (i - start) in_row (omega (arith, l, m, length-drop start bytes)))
+        ∙ AllPass-from_list_all is_in_row (drop start bytes) in_row (i - start) 0 (omega (arith, l, m, length-drop start bytes)))
 
 pub finds_row_end : (text bytes : List ℕ) (end : ℕ) → bytes ≡ text → end ≤ length bytes → (end < length bytes → get_or bytes end 0 ≡ 10) → list_all is_in_row (take end bytes) ≡ true → FindsPlace (row_end text 0) text end
 finds_row_end text bytes end same fits newline in_row =
@@ -77,15 +60,20 @@ finds_row_end text bytes end same fits newline in_row =
     })
   where
     inside : (k : ℕ) → k < end → is_in_row (get_or bytes k 0) ≡ true
-    inside k l = ap is_in_row (sym (get_or-take end bytes k 0 l)) ∙ in_row_at (take end bytes) k in_row (omega (arith, l, length-take-le end bytes fits))
+    inside k l =
+        ap is_in_row (sym (get_or-take end bytes k 0 l))
+        ∙ AllPass-from_list_all is_in_row (take end bytes) in_row k 0 (omega (arith, l, length-take-le end bytes fits))
 
 pub row_close_some : (bs : List ℕ) (k : ℕ) → (k < length bs) × (get_or bs k 0 ≡ 10) × ((i : ℕ) → i < k → get_or bs i 0 ≢ 10) → row_close bs 0 ≡ k + 1
-row_close_some bs k h = omega (arith, row_len_some bs k h, h.0)
+row_close_some bs k h =
+    let len = prefix_len_is is_in_row bs k 0 (omega (arith, h.0)) (λ i l. ap not (ne_eqb _ 10 (h.2 i l))) (λ l. ap not (eq-eqb _ 10 h.1)) in
+    omega (arith, len, h.0)
 
 pub row_close_none : (bs : List ℕ) → ((i : ℕ) → i < length bs → get_or bs i 0 ≢ 10) → row_close bs 0 ≡ length bs
-row_close_none bs h = omega (arith, row_len_none bs h)
+row_close_none bs h =
+    let len = prefix_len_is is_in_row bs (length bs) 0 (le_refl _) (λ i l. ap not (ne_eqb _ 10 (h i l))) (λ l. absurd (omega arith)) in omega (arith, len)
 
-opens_from : (text : List ℕ) (start : ℕ) → start ≡ length text - prefix_len is_in_row (reverse text) → OpensLastRow text start
+pub opens_from : (text : List ℕ) (start : ℕ) → start ≡ length text - prefix_len is_in_row (reverse text) → OpensLastRow text start
 opens_from text start e = record {
   fits = omega arith;
   newline = λ l.
@@ -108,57 +96,38 @@ opens_last_row text start e = opens_from text start (e ∙ ap (λ t. length text
 
 -- ---- the places after newlines
 
-behind-cons : (from b : ℕ) (bs : List ℕ) → behind_newlines from (b ∷ bs) ≡ cond (b == 10) ((from + 1) ∷ behind_newlines (from + 1) bs) (behind_newlines (from + 1) bs)
-unfolding behind_newlines
-behind-cons from b bs = by (b == 10)
-  where
-    by : (t : Bool) → map (λ x. x.0 + 1) (cond t ((from, b) ∷ filter (λ x. x.1 == 10) (enumerate_from (from + 1) bs)) (filter (λ x. x.1 == 10) (enumerate_from (from + 1) bs)))
-        ≡ cond t ((from + 1) ∷ behind_newlines (from + 1) bs) (behind_newlines (from + 1) bs)
-    by true = refl
-    by false = refl
-
 pub behind-nil : (from : ℕ) → behind_newlines from [] ≡ []
 unfolding behind_newlines
 behind-nil from = refl
 
 behind-newline : (from b : ℕ) (bs : List ℕ) → b ≡ 10 → behind_newlines from (b ∷ bs) ≡ (from + 1) ∷ behind_newlines (from + 1) bs
-behind-newline from b bs e = behind-cons from b bs ∙ ap (λ t. cond t ((from + 1) ∷ behind_newlines (from + 1) bs) (behind_newlines (from + 1) bs)) (eq-eqb b 10 e)
+unfolding behind_newlines
+behind-newline from b bs e = rw (eq-eqb b 10 e)
 
 behind-other : (from b : ℕ) (bs : List ℕ) → b ≢ 10 → behind_newlines from (b ∷ bs) ≡ behind_newlines (from + 1) bs
-behind-other from b bs e = behind-cons from b bs ∙ ap (λ t. cond t ((from + 1) ∷ behind_newlines (from + 1) bs) (behind_newlines (from + 1) bs)) (ne_eqb b 10 e)
+unfolding behind_newlines
+behind-other from b bs e = rw (ne_eqb b 10 e)
 
 pub behind_none : (from : ℕ) (bs : List ℕ) → ((i : ℕ) → i < length bs → get_or bs i 0 ≢ 10) → behind_newlines from bs ≡ []
 behind_none from [] h = behind-nil from
 behind_none from (b ∷ bs) h = behind-other from b bs (h 0 (omega arith)) ∙ behind_none (from + 1) bs (λ i l. h (suc i) (omega (arith, l)))
 
 pub behind-append : (from : ℕ) (xs ys : List ℕ) → behind_newlines from (xs ++ ys) ≡ behind_newlines from xs ++ behind_newlines (from + length xs) ys
-behind-append from [] ys = let e : from ≡ from + 0 = omega arith in ap (λ n. behind_newlines n ys) e ∙ ap (λ l. l ++ behind_newlines (from + 0) ys) (sym (behind-nil from))
+unfolding behind_newlines
+behind-append from [] ys = simp add-zero
 behind-append from (x ∷ xs) ys =
     let e : (from + 1) + length xs ≡ from + suc (length xs) = omega arith in
-    let rest : behind_newlines (from + 1) (xs ++ ys) ≡ behind_newlines (from + 1) xs ++ behind_newlines (from + suc (length xs)) ys
-    = behind-append (from + 1) xs ys ∙ ap (λ n. behind_newlines (from + 1) xs ++ behind_newlines n ys) e in
-    behind-cons from x (xs ++ ys) ∙ ap (λ l. cond (x == 10) ((from + 1) ∷ l) l) rest
-    ∙ by (x == 10) (behind_newlines (from + 1) xs) (behind_newlines (from + suc (length xs)) ys)
-    ∙ ap (λ l. l ++ behind_newlines (from + suc (length xs)) ys) (sym (behind-cons from x xs))
-  where
-    by : (t : Bool) (us vs : List ℕ) → cond t ((from + 1) ∷ (us ++ vs)) (us ++ vs) ≡ cond t ((from + 1) ∷ us) us ++ vs
-    by true us vs = refl
-    by false us vs = refl
+    let rest = rw e at (behind-append (from + 1) xs ys) in
+    ⊎_elim (λ (t : (x == 10) ≡ true). rw t (ap (λ l. (from + 1) ∷ l) rest)) (λ (t : (x == 10) ≡ false). rw t rest) (cases_Bool (x == 10))
 
 -- a text that begins further on
 pub behind-shift : (at from : ℕ) (bs : List ℕ) → behind_newlines (at + from) bs ≡ map (λ i. at + i) (behind_newlines from bs)
-behind-shift at from [] = behind-nil (at + from) ∙ ap (map (λ i. at + i)) (sym (behind-nil from))
+unfolding behind_newlines
+behind-shift at from [] = refl
 behind-shift at from (b ∷ bs) =
     let e : (at + from) + 1 ≡ at + (from + 1) = omega arith in
-    behind-cons (at + from) b bs
-    ∙ ap (λ n. cond (b == 10) (n ∷ behind_newlines n bs) (behind_newlines n bs)) e
-    ∙ ap (λ l. cond (b == 10) ((at + (from + 1)) ∷ l) l) (behind-shift at (from + 1) bs)
-    ∙ by (b == 10) (behind_newlines (from + 1) bs)
-    ∙ ap (map (λ i. at + i)) (sym (behind-cons from b bs))
-  where
-    by : (t : Bool) (xs : List ℕ) → cond t ((at + (from + 1)) ∷ map (λ i. at + i) xs) (map (λ i. at + i) xs) ≡ map (λ i. at + i) (cond t ((from + 1) ∷ xs) xs)
-    by true xs = refl
-    by false xs = refl
+    let rest = behind-shift at (from + 1) bs in
+    ⊎_elim (λ (t : (b == 10) ≡ true). rw (t, e) (ap (λ l. (at + (from + 1)) ∷ l) rest)) (λ (t : (b == 10) ≡ false). rw (t, e) rest) (cases_Bool (b == 10))
 
 -- at a newline the text falls into what stands before it and what stands after it
 pub split_at_newline : (bs : List ℕ) (k : ℕ) → k < length bs → get_or bs k 0 ≡ 10 → bs ≡ take k bs ++ (10 ∷ drop (k + 1) bs)

@@ -11,34 +11,21 @@ use Rattle.line_buffer.specs.Indent.{rows_covered, spaces, indent, rows_of, row_
 use Rattle.line_buffer.specs.Line.{Line}
 use Rattle.line_buffer.specs.Rows.{is_in_row, row_start, row_end}
 use Rattle.line_buffer.proofs.IndentLemmas.{rows_last, rows_more}
-use Rattle.line_buffer.proofs.LeftLemmas.{carried_all-one, carried_all-append, stopped_as, stopped_first, stopped_later}
+use Rattle.line_buffer.proofs.LeftLemmas.{carried_all-append, stopped_as, stopped_first, stopped_later}
 use Rattle.line_buffer.proofs.ReplayLemmas.{reports_one, reports_then, reports_nothing}
 use Rattle.line_buffer.proofs.RowLemmas.{prefix_len-stops}
-
-row_events-first : (margin : List ℕ) (dedent : Bool) (at : ℕ) (row : List ℕ) (rows : List (List ℕ))
-    → row_events margin dedent at (row ∷ rows) ≡ row_event margin dedent at row ∷ row_events margin dedent (at + row_len margin dedent row + 1) rows
-unfolding row_events
-row_events-first margin dedent at row rows = refl
-
-row_events-none : (margin : List ℕ) (dedent : Bool) (at : ℕ) → row_events margin dedent at [] ≡ []
-unfolding row_events
-row_events-none margin dedent at = refl
 
 -- there is a first row in any text
 pub row_events-some : (margin : List ℕ) (dedent : Bool) (at : ℕ) (text : List ℕ)
     → (never : List ChangeEvent) × (row_events margin dedent at (rows_of text) ≡ row_event margin dedent at (take (prefix_len is_in_row text) text) ∷ never)
+unfolding row_events
 row_events-some margin dedent at text = elim (prefix_len-stops text) [
   | inl e ↦ (
     [],
-    ap (row_events margin dedent at) (rows_last text e) ∙ row_events-first margin dedent at text []
-        ∙ ap (λ es. row_event margin dedent at text ∷ es) (row_events-none margin dedent (at + row_len margin dedent text + 1))
+    ap (row_events margin dedent at) (rows_last text e)
         ∙ ap (λ x. row_event margin dedent at x ∷ []) (sym (take_all (prefix_len is_in_row text) text (omega (arith, e)))),
   )
-  | inr h ↦ (
-    _,
-    ap (row_events margin dedent at) (rows_more text h.0)
-        ∙ row_events-first margin dedent at (take (prefix_len is_in_row text) text) (rows_of (drop (prefix_len is_in_row text + 1) text)),
-  )
+  | inr h ↦ (_, ap (row_events margin dedent at) (rows_more text h.0))
 ]
 
 pub row_event_tells : (margin : List ℕ) (dedent : Bool) (at : ℕ) (row : List ℕ) → TellsOfChange (row_event margin dedent at row)
@@ -126,15 +113,16 @@ module _ {S : Type 0} (takes refuses : S → ChangeEvent → S → Type 0) (marg
     reports_more = reports_then w.reported (reports_one takes (row_event margin dedent at row) t u m.text n.text told replays)
 
     line_more : n ≡ line_after_events more l
+    unfolding line_after_events
     line_more =
-        line ∙ ap (line_after_event (row_event margin dedent at row)) w.line ∙ sym (carried_all-one (row_event margin dedent at row) (line_after_events w.done l))
-        ∙ sym (carried_all-append w.done (row_event margin dedent at row ∷ []) l)
+        line ∙ ap (line_after_event (row_event margin dedent at row)) w.line ∙ sym (carried_all-append w.done (row_event margin dedent at row ∷ []) l)
 
     pub settings_more : SameSettings l n
     settings_more = record { growth = ap (λ x. x.growth) line ∙ w.settings.growth; limit = ap (λ x. x.limit) line ∙ w.settings.limit }
 
     -- it was the last one
     pub rows_told_all : end ≡ last → Reports takes all s u l.text n.text × (n ≡ line_after_events all l)
+    unfolding row_events
     rows_told_all e = (subst (λ es. Reports takes es s u l.text n.text) (sym whole) reports_more, line_more ∙ ap (λ es. line_after_events es l) (sym whole))
       where
         none_after : width ≡ length rows
@@ -143,12 +131,12 @@ module _ {S : Type 0} (takes refuses : S → ChangeEvent → S → Type 0) (marg
         whole : all ≡ more
         whole =
             w.split ∙ ap (λ rs. w.done ++ row_events margin dedent at rs) (rows_last rows none_after)
-            ∙ ap (λ es. w.done ++ es) (row_events-first margin dedent at rows [] ∙ ap (λ es. row_event margin dedent at rows ∷ es) (row_events-none margin dedent (at + row_len margin dedent rows + 1)))
             ∙ ap (λ r. w.done ++ (row_event margin dedent at r ∷ [])) (sym (take_all width rows (omega (arith, none_after))) ∙ row_is)
 
     -- more rows follow
     pub rows_told_more : end < last → IsUtf8 m.text → changed ≤ length n.text → drop changed n.text ≡ drop end m.text
         → RowsTold takes margin dedent all s u l n (changed + 1) ((last - end) + changed)
+    unfolding row_events
     rows_told_more less utf8 inside rest = record {
       done = more;
       split = split;
@@ -189,7 +177,6 @@ module _ {S : Type 0} (takes refuses : S → ChangeEvent → S → Type 0) (marg
         split : all ≡ more ++ row_events margin dedent (changed + 1) (rows_of (slice_range n.text (changed + 1) ((last - end) + changed)))
         split =
             w.split ∙ ap (λ rs. w.done ++ row_events margin dedent at rs) (rows_more rows (omega (arith, ends, size, less)))
-            ∙ ap (λ es. w.done ++ es) (row_events-first margin dedent at (take width rows) (rows_of (drop (width + 1) rows)))
             ∙ ap (λ r. w.done ++ (row_event margin dedent at r ∷ row_events margin dedent (at + row_len margin dedent r + 1) (rows_of (drop (width + 1) rows)))) row_is
             ∙ ap (λ k. w.done ++ (row_event margin dedent at row ∷ row_events margin dedent (k + 1) (rows_of (drop (width + 1) rows)))) (sym answer)
             ∙ ap (λ xs. w.done ++ (row_event margin dedent at row ∷ row_events margin dedent (changed + 1) (rows_of xs))) remaining

@@ -1,5 +1,5 @@
 -- The walks from row to row: a turn finds the start of one row more.
-use Rattle.std.proofs.Common.{◌≡◌, ◌≢◌, ℕ, zero, suc, ◌+◌, ◌-◌, ◌<◌, List, [], ◌∷◌, length, take, drop, slice_range, get_or, Option, None, Some, refl, sym, ap, ◌∙◌, arith, length-take, length-drop, get_or-take, get_or-drop, option_map, IfSome, IsUtf8, IsCharBoundary}
+use Rattle.std.proofs.Common.{◌≡◌, ◌≢◌, ℕ, zero, suc, ◌+◌, ◌-◌, ◌<◌, List, ◌∷◌, length, take, drop, slice_range, get_or, Option, None, Some, refl, sym, ap, ap₂, ◌∙◌, arith, length-take, length-drop, get_or-take, get_or-drop, option_map, IfSome, IsUtf8, IsCharBoundary}
 use Rattle.std.specs.List.{last_or}
 use Rattle.std.proofs.lemmas.List.{drop-drop}
 use Rattle.std.proofs.lemmas.Str.{IsCharBoundary-start}
@@ -7,19 +7,7 @@ use Rattle.line_buffer.specs.Line.{Line, text_after}
 use Rattle.line_buffer.specs.Clusters.{nth_or_last}
 use Rattle.line_buffer.specs.Rows.{row_start, behind_newlines, starts_below}
 use Rattle.line_buffer.proofs.ChainLemmas.{nth_or_last-map}
-use Rattle.line_buffer.proofs.RowStartLemmas.{behind-shift, opens_last_row, rows_back, rows_over, rows_over-take, rows_back_is, behind_first, behind_none, behind_newline}
-
--- one place of a list is taken
-took_one : (found : Option ℕ) (left less : ℕ) (xs ys : List ℕ) (r : ℕ) → left ≡ less + 1 → xs ≡ r ∷ ys → last_or found (take left xs) ≡ last_or (Some r) (take less ys)
-took_one found left less xs ys r l e = let same : left ≡ suc less = omega arith in ap (λ k. last_or found (take k xs)) same ∙ ap (λ zs. last_or found (take (suc less) zs)) e
-
--- none is left to take, or none stands
-took_all : (found : Option ℕ) (left : ℕ) (xs : List ℕ) → left ≡ 0 → last_or found (take left xs) ≡ found
-took_all found left xs e = ap (λ k. last_or found (take k xs)) e
-
-took_rest : (found : Option ℕ) (left : ℕ) (xs : List ℕ) → xs ≡ [] → last_or found (take left xs) ≡ found
-took_rest found zero xs e = refl
-took_rest found (suc left) xs e = ap (λ zs. last_or found (take (suc left) zs)) e
+use Rattle.line_buffer.proofs.RowStartLemmas.{behind-shift, opens_last_row, rows_back, rows_over, rows_over-take, rows_back_is, behind_first, behind_newline}
 
 -- ---- up
 
@@ -51,6 +39,7 @@ walks_up_turn text n found left less start part r w u some above is e =
     let none : start - 1 - 0 ≡ start - 1 = omega arith in
     let cut : part ≡ take (start - 1) text = is ∙ ap (λ k. take k text) none in
     let last = opens_last_row part r e in
+    let next : left ≡ suc less = omega (arith, some) in
     let short : length part ≡ length (take (start - 1) text) = ap length cut in
     let line : 0 < r → (r - 1 < length text) × (get_or text (r - 1) 0 ≡ 10) =
     λ l. (
@@ -58,16 +47,10 @@ walks_up_turn text n found left less start part r w u some above is e =
       sym (get_or-take (start - 1) text (r - 1) 0 (omega (arith, last.fits, short, length-take (start - 1) text))) ∙ ap (λ t. get_or t (r - 1) 0) (sym cut) ∙ last.newline l,
     ) in
     record {
-      answer = w.answer ∙ took_one found left less _ _ r some (rows_over_step text start r above (e ∙ ap (λ t. row_start t (length t)) cut));
+      answer = w.answer ∙ ap₂ (λ k xs. last_or found (take k xs)) next (rows_over_step text start r above (e ∙ ap (λ t. row_start t (length t)) cut));
       newline = line;
       boundary = behind_newline text r u line;
     }
-
-pub walks_up_spent : (text : List ℕ) (n : ℕ) (found : Option ℕ) (left start : ℕ) → WalksUp text n found left start → left ≡ 0 → found ≡ nth_or_last n (drop 1 (rows_back text))
-walks_up_spent text n found left start w e = sym (w.answer ∙ took_all found left _ e)
-
-pub walks_up_top : (text : List ℕ) (n : ℕ) (found : Option ℕ) (left start : ℕ) → WalksUp text n found left start → start ≡ 0 → found ≡ nth_or_last n (drop 1 (rows_back text))
-walks_up_top text n found left start w e = sym (w.answer ∙ took_rest found left _ (ap (rows_over text) e))
 
 -- ---- down
 
@@ -89,21 +72,15 @@ walks_down_turn text n found left less start part k w u some is h =
       ap (λ j. get_or text j 0) same ∙ sym (get_or-drop start text k 0) ∙ ap (λ t. get_or t k 0) (sym is) ∙ h.1,
     ) in
     let cut = behind_newline text (start + (k + 1)) u line in
+    let wanted : left ≡ suc less = omega (arith, some) in
     record {
-      answer = w.answer ∙ took_one found left less _ _ (start + (k + 1)) some
+      answer = w.answer ∙ ap₂ (λ m xs. last_or found (take m xs)) wanted
           (ap (behind_newlines start) (sym is) ∙ behind_first start part k h
           ∙ ap (λ m. m ∷ behind_newlines m (drop (k + 1) part)) next
           ∙ ap (λ t. (start + (k + 1)) ∷ behind_newlines (start + (k + 1)) t) (ap (drop (k + 1)) is ∙ drop-drop (k + 1) start text));
       boundary = cut;
       here = cut;
     }
-
-pub walks_down_spent : (text : List ℕ) (n : ℕ) (found : Option ℕ) (left start : ℕ) → WalksDown text n found left start → left ≡ 0 → found ≡ nth_or_last n (behind_newlines 0 text)
-walks_down_spent text n found left start w e = sym (w.answer ∙ took_all found left _ e)
-
-pub walks_down_last : (text : List ℕ) (n : ℕ) (found : Option ℕ) (left start : ℕ) (part : List ℕ) → WalksDown text n found left start → part ≡ drop start text
-    → ((i : ℕ) → i < length part → get_or part i 0 ≢ 10) → found ≡ nth_or_last n (behind_newlines 0 text)
-walks_down_last text n found left start part w is none = sym (w.answer ∙ took_rest found left _ (ap (behind_newlines start) (sym is) ∙ behind_none start part none))
 
 -- the rows below, seen from the cursor's place and from the whole text
 pub below_from_rest : (l m : Line) → l ≡ m → (rest : List ℕ) (n : ℕ) (o : Option ℕ) → rest ≡ text_after l → o ≡ nth_or_last n (behind_newlines 0 rest)

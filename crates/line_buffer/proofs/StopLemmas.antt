@@ -1,8 +1,9 @@
 -- The places at which motions by words stop: the n-th of them, and that each lies between characters.
-use Rattle.std.proofs.Common.{◌≡◌, ℕ, zero, suc, ◌-◌, ◌<◌, ◌==◌, Bool, true, false, cond, ◌⊎◌, inl, inr, List, [], ◌∷◌, ◌++◌, length, reverse, take, drop, Option, None, Some, refl, sym, ap, ◌∙◌, subst, arith, MatchOption, slice_get, option_to_list, option_map, IfSome, All, IsUtf8, IsCharBoundary, eq-eqb, ne_eqb}
+use Rattle.std.proofs.Common.{◌≡◌, ℕ, zero, suc, ◌-◌, ◌<◌, ◌==◌, ⊎_elim, Bool, true, false, cond, ◌⊎◌, inl, inr, List, [], ◌∷◌, ◌++◌, length, reverse, take, drop, Option, None, Some, refl, sym, ap, ◌∙◌, subst, arith, MatchOption, slice_get, option_to_list, option_map, IfSome, All, IsUtf8, IsCharBoundary, eq-eqb, ne_eqb}
 use Rattle.std.specs.List.{last_or}
 use Rattle.std.specs.Option.{option_or}
 use Rattle.std.proofs.Math.Seq.{take-nil}
+use Rattle.std.proofs.lemmas.Bool.{cases_Bool}
 use Rattle.std.proofs.lemmas.List.{reverse-append}
 use Rattle.std.proofs.lemmas.List.Elements.{All-nil, All-cons, All-tail, All-append, All-take, All-drop, All-map}
 use Rattle.std.proofs.lemmas.Str.{IsCharBoundary-start, IsCharBoundary-end}
@@ -27,12 +28,9 @@ IsTailOf rest xs = ((rest ≡ []) × (xs ≡ [])) ⊎ ((t : ℕ) × (rest ≡ t 
 
 pub nth_or_last-then : (n : ℕ) (xs rest : List ℕ) → 0 < n → IsTailOf rest xs → nth_or_last n (xs ++ rest) ≡ option_or (slice_get xs (n - 1)) (last_or None rest)
 nth_or_last-then zero xs rest p h = absurd (omega (arith, p))
-nth_or_last-then (suc k) xs rest p (inl (e, f)) =
-    subst (λ ys. nth_or_last (suc k) (ys ++ rest) ≡ option_or (slice_get ys (suc k - 1)) (last_or None rest)) (sym f)
-    (subst (λ r. last_or None (take (suc k) r) ≡ last_or None r) (sym e) refl)
+nth_or_last-then (suc k) xs rest p (inl (e, f)) = rw (e, f)
 nth_or_last-then (suc k) xs rest p (inr (t, e)) =
-    subst (λ r. nth_or_last (suc k) (xs ++ r) ≡ option_or (slice_get xs (suc k - 1)) (last_or None r)) (sym e)
-    (nth-then xs t None k ∙ ap (λ j. option_or (slice_get xs j) (Some t)) (let q : k ≡ suc k - 1 = omega arith in q))
+    rw e (nth-then xs t None k ∙ ap (λ j. option_or (slice_get xs j) (Some t)) (let q : k ≡ suc k - 1 = omega arith in q))
 
 clusters-nil : clusters [] ≡ []
 unfolding unicode_segmentation
@@ -43,11 +41,9 @@ clusters-empty [] e = clusters-nil
 clusters-empty (b ∷ text) e = absurd (omega (arith, e))
 
 text_end-cases : (text : List ℕ) → ((text_end text ≡ []) × (clusters text ≡ [])) ⊎ ((t : ℕ) × (text_end text ≡ t ∷ []))
-text_end-cases text = by_test (length text == 0) refl
-  where
-    by_test : (b : Bool) → (length text == 0) ≡ b → ((cond b [] (length text ∷ []) ≡ []) × (clusters text ≡ [])) ⊎ ((t : ℕ) × (cond b [] (length text ∷ []) ≡ t ∷ []))
-    by_test true e = inl (refl, clusters-empty text (grind (arith, e)))
-    by_test false e = inr (length text, refl)
+text_end-cases text =
+    ⊎_elim (λ (e : (length text == 0) ≡ true). inl (rw e refl, clusters-empty text (grind (arith, e))))
+    (λ (e : (length text == 0) ≡ false). inr (length text, rw e refl)) (cases_Bool (length text == 0))
 
 last-some : {A : Type 0} (x : A) (xs : List A) → (z : A) × (last_or (Some x) xs ≡ Some z)
 last-some x [] = (x, refl)

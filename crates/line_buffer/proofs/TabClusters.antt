@@ -1,7 +1,7 @@
 -- The clusters of a text with a tab in it: those before the tab, the tab, and those after it.
-use Rattle.std.proofs.Common.{◌≡◌, ℕ, zero, suc, ◌+◌, ◌<◌, Bool, true, not, cond, ◌&&◌, ◌||◌, List, [], ◌∷◌, ◌++◌, length, map, unwrap_or, refl, sym, ap, ap₂, ◌∙◌, arith, slice_index, IsUtf8, chars, encode_utf8, encode_utf8_all}
+use Rattle.std.proofs.Common.{◌≡◌, ℕ, ◌+◌, Bool, true, not, cond, ◌&&◌, ◌||◌, List, [], ◌∷◌, ◌++◌, length, map, unwrap_or, refl, sym, subst, ap, ap₂, ◌∙◌, arith, IsUtf8, chars, encode_utf8, encode_utf8_all}
 use Rattle.std.proofs.lemmas.List.{append-nil, map-append}
-use Rattle.std.proofs.lemmas.Str.{IsUtf8-append, IsUtf8-from_ascii, chars-append, chars_past_char, encode_ascii}
+use Rattle.std.proofs.lemmas.Str.{IsUtf8-append, IsUtf8-encode, chars-append, chars_past_char, encode_ascii}
 use Rattle.ucd_breaks.specs.GraphemeClusterBreak.{grapheme_cluster_break}
 use Rattle.ucd_breaks.specs.declared.GraphemeClusterBreak.{GraphemeClusterBreak, TheVariants.Control, TheVariants.Cr}
 use Rattle.unicode_segmentation.specs.Grapheme.{break_by_pair, joins_conjunct, joins_emoji, joins_flag, is_grapheme_break, graphemes}
@@ -48,11 +48,7 @@ cut-tab (c ∷ (d ∷ cs)) ds before =
     ∙ cut-join (is_grapheme_break true (c ∷ before) (d ∷ (cs ++ []))) c (cut (is_grapheme_break true) (c ∷ before) (d ∷ cs) []) ((9 ∷ []) ∷ cut (is_grapheme_break true) [] ds []) (cut-some (c ∷ before) d cs)
 
 tab_text : (ys : List ℕ) → IsUtf8 ys → IsUtf8 (9 ∷ ys)
-tab_text ys u = IsUtf8-append (9 ∷ []) ys (IsUtf8-from_ascii (9 ∷ []) below) u
-  where
-    below : (i : ℕ) → slice_index (9 ∷ []) i < 128
-    below zero = omega arith
-    below (suc i) = omega arith
+tab_text ys u = IsUtf8-append (9 ∷ []) ys (subst IsUtf8 (encode_ascii 9 (omega arith)) (IsUtf8-encode 9 refl)) u
 
 chars-tab : (ys : List ℕ) → IsUtf8 ys → chars (9 ∷ ys) ≡ 9 ∷ chars ys
 chars-tab ys u = chars_past_char (9 ∷ ys) ys 9 (tab_text ys u) (ap (λ z. z ++ ys) (sym (encode_ascii 9 (omega arith))))

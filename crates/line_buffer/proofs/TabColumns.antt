@@ -1,7 +1,7 @@
 -- Columns and boundaries of a row with a tab in it: those before the tab, and those after it.
-use Rattle.std.proofs.Common.{◌≡◌, ◌≢◌, ℕ, suc, ◌+◌, ◌-◌, ◌*◌, ◌<◌, ◌≤◌, ◌==◌, nat_le, Bool, true, false, cond, List, [], ◌∷◌, ◌++◌, length, map, filter, take, drop, get_or, Option, None, Some, refl, sym, ap, ap₂, ◌∙◌, subst, arith, length-append, length-drop, length-take, drop-cons, take-append-drop, get_or-take, get_or-drop, option_map, unwrap_or, IsUtf8, IsCharBoundary, All, slice_range, ne_eqb}
+use Rattle.std.proofs.Common.{◌≡◌, ◌≢◌, ℕ, suc, ◌+◌, ◌-◌, ◌*◌, ◌<◌, ◌≤◌, ◌==◌, nat_le, ⊎_elim, Bool, true, false, cond, List, [], ◌∷◌, ◌++◌, length, map, filter, take, drop, get_or, Option, None, Some, refl, sym, ap, ap₂, ◌∙◌, subst, arith, length-append, length-drop, length-take, drop-cons, take-append-drop, get_or-take, get_or-drop, option_map, unwrap_or, IsUtf8, IsCharBoundary, All, slice_range, ne_eqb}
 use Rattle.std.specs.List.{last_or, concat, slice_split}
-use Rattle.std.proofs.lemmas.Bool.{le-leb, lt-leb}
+use Rattle.std.proofs.lemmas.Bool.{le-leb, lt-leb, cases_Bool}
 use Rattle.std.proofs.lemmas.List.{append-nil, map-append, drop-drop, take-append-le}
 use Rattle.std.proofs.lemmas.List.Elements.{filter-append, All-from_get_or}
 use Rattle.std.proofs.lemmas.List.Splits.{slice_split_none, slice_split_at, length-slice_split}
@@ -216,12 +216,9 @@ module _ (mode : GraphemeClusterMode) (stops : TabStops) where
 
   filter_shift : (column n : ℕ) (xs : List (ℕ × ℕ)) → filter (fits column) (map (shift n) xs) ≡ map (shift n) (filter (fits column) xs)
   filter_shift column n [] = refl
-  filter_shift column n (x ∷ xs) = by_test (fits column x) (filter_shift column n xs)
-    where
-      by_test : (b : Bool) → filter (fits column) (map (shift n) xs) ≡ map (shift n) (filter (fits column) xs)
-          → cond b (shift n x ∷ filter (fits column) (map (shift n) xs)) (filter (fits column) (map (shift n) xs)) ≡ map (shift n) (cond b (x ∷ filter (fits column) xs) (filter (fits column) xs))
-      by_test true e = ap (λ ys. shift n x ∷ ys) e
-      by_test false e = e
+  filter_shift column n (x ∷ xs) =
+      let rest = filter_shift column n xs in
+      ⊎_elim (λ (t : fits column x ≡ true). rw t (ap (λ ys. shift n x ∷ ys) rest)) (λ (t : fits column x ≡ false). rw t rest) (cases_Bool (fits column x))
 
   place_shift : (n : ℕ) (z : ℕ × ℕ) (zs : List (ℕ × ℕ)) → place_of (option_map (shift n) (last_or (Some z) zs)) ≡ n + place_of (last_or (Some z) zs)
   place_shift n z [] = refl
@@ -231,9 +228,8 @@ module _ (mode : GraphemeClusterMode) (stops : TabStops) where
   none_fit : (first column : ℕ) (row : List ℕ) → column < first → (is : List ℕ) → filter (fits column) (map (measure (Some stops) first row) is) ≡ []
   none_fit first column row past [] = refl
   none_fit first column row past (i ∷ is) =
-      ap (λ b. cond b (measure (Some stops) first row i ∷ filter (fits column) (map (measure (Some stops) first row) is)) (filter (fits column) (map (measure (Some stops) first row) is)))
-      (lt-leb (column_after mode (Some stops) first (take i row)) column (omega (arith, past, parts_grow first (slice_split is_tab (take i row)))))
-      ∙ none_fit first column row past is
+      rw (lt-leb (column_after mode (Some stops) first (take i row)) column (omega (arith, past, parts_grow first (slice_split is_tab (take i row)))))
+      (none_fit first column row past is)
 
   module _ (first column : ℕ) (xs ys : List ℕ) (u : IsUtf8 xs) (v : IsUtf8 ys) (none : NoTabs xs) where
     abbrev next : ℕ

@@ -9,7 +9,7 @@ use Rattle.line_buffer.specs.Event.{replacement}
 use Rattle.line_buffer.specs.Line.{Line}
 use Rattle.line_buffer.specs.Transpositions.{clusters_around, between_clusters, clusters_at, later_first, transposes_chars, transpose_chars}
 use Rattle.line_buffer.proofs.CutLemmas.{at_seam}
-use Rattle.line_buffer.proofs.ReplayLemmas.{if_true}
+use Rattle.std.proofs.lemmas.Bool.{cond-true}
 
 -- after the first cluster, with another at hand
 pub transposes : (l : Line) (pos : ℕ) → pos ≡ l.place → (pos ≡ 0 → ⊥) → true ≡ nat_lt 1 (clusters_around l) → transposes_chars l ≡ true
@@ -20,7 +20,7 @@ pub exchange_event : (l m : Line) (parts : ℕ × ℕ × ℕ) (swapped : List �
     → (transpose_chars l).events ≡ replacement parts.0 parts.2 swapped m.text ∷ []
 exchange_event l m parts swapped holds is same made =
     let at = clusters_at (between_clusters l) in
-    if_true (transposes_chars l) (replacement at.0 at.2 (later_first at l.text) l.text ∷ []) [] holds
+    cond-true (transposes_chars l) (replacement at.0 at.2 (later_first at l.text) l.text ∷ []) [] holds
     ∙ ap (λ (p : ℕ × ℕ × ℕ). replacement p.0 p.2 (later_first p l.text) l.text ∷ []) (sym is)
     ∙ ap (λ (x : Line). replacement parts.0 parts.2 (later_first parts x.text) x.text ∷ []) (sym same)
     ∙ ap (λ x. replacement parts.0 parts.2 x m.text ∷ []) (sym made)

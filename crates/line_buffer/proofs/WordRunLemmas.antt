@@ -1,5 +1,5 @@
 -- The last clusters of a text that are of one kind: a run of bytes of ASCII in a word, or the last cluster alone.
-use Rattle.std.proofs.Common.{◌≡◌, ℕ, zero, suc, ◌+◌, ◌-◌, ◌==◌, ◌<◌, ◌≤◌, ◌⊎◌, inl, inr, Bool, true, false, not, ◌&&◌, ◌||◌, if◌then◌else◌, List, [], ◌∷◌, ◌++◌, length, map, take, drop, reverse, get_or, Option, None, Some, refl, sym, ap, ap₂, ◌∙◌, subst, arith, append_assoc, IsUtf8, chars, option_to_list, bytes_eq}
+use Rattle.std.proofs.Common.{◌≡◌, ℕ, ◌+◌, ◌-◌, ◌==◌, ◌<◌, ◌≤◌, ◌⊎◌, inl, inr, Bool, true, false, not, ◌&&◌, ◌||◌, if◌then◌else◌, List, [], ◌∷◌, ◌++◌, length, map, take, drop, reverse, get_or, Option, None, Some, refl, sym, ap, ap₂, ◌∙◌, subst, arith, append_assoc, IsUtf8, chars, option_to_list, bytes_eq}
 use Rattle.std.specs.Char.{is_ascii_alphanumeric, is_whitespace}
 use Rattle.std.specs.List.{last_or, list_all, concat}
 use Rattle.std.proofs.Math.Seq.{get_or-append_seam}
@@ -7,7 +7,8 @@ use Rattle.std.proofs.lemmas.Bool.{and_from, and_parts, cases_lt}
 use Rattle.std.proofs.lemmas.Bool.Decides.{nat_tests}
 use Rattle.std.proofs.lemmas.List.{reverse-append, reverse-reverse, length-append, length-take-le, length-drop, drop_more, map-append, append-nil, take_at, take_all, take-take, length-take, take-append-drop}
 use Rattle.std.proofs.lemmas.List.Folds.{list_all-append}
-use Rattle.std.proofs.lemmas.Str.{chars-IsAscii, encode_ascii, IsCharBoundary-after_ascii}
+use Rattle.std.proofs.lemmas.Str.{IsUtf8-encode, encode_ascii, IsCharBoundary-after_ascii}
+use Rattle.unicode_segmentation.proofs.TextLemmas.{chars-encode_utf8}
 use Rattle.unicode_segmentation.specs.Grapheme.{is_grapheme_break, graphemes}
 use Rattle.unicode_segmentation.specs.Segments.{is_alphanumeric}
 use Rattle.unicode_segmentation.proofs.AsciiLemmas.{is_alphanumeric_ascii}
@@ -43,11 +44,7 @@ word_ascii : (word : Word) (c : ℕ) → is_word_byte word c ≡ true → c < 12
 word_ascii word c h = let bounds = word_bounds word c h in omega (arith, bounds.1)
 
 one_char : (c : ℕ) → c < 128 → chars (c ∷ []) ≡ c ∷ []
-one_char c l = chars-IsAscii (c ∷ []) ascii
-  where
-    ascii : (i : ℕ) → get_or (c ∷ []) i 0 < 128
-    ascii zero = l
-    ascii (suc i) = omega arith
+one_char c l = ap chars (sym (encode_ascii c l)) ∙ chars-encode_utf8 c (IsUtf8-encode c (grind (arith, nat_tests, l)))
 
 is_letter : (c : ℕ) → c < 128 → list_all is_alphanumeric (chars (c ∷ [])) ≡ (is_ascii_alphanumeric c && true)
 is_letter c l = ap (list_all is_alphanumeric) (one_char c l) ∙ ap (λ b. b && true) (sym (is_alphanumeric_ascii c l))
@@ -214,10 +211,11 @@ run_split word text end at kind right run =
 
 -- nothing starts at the text's end
 pub blank_end : (word : Word) (text : List ℕ) → edges_of Start (kinds word (clusters text)) ≡ edges_of Start (kinds word (clusters (take (length text) text)) ++ (length text, Blank) ∷ [])
-blank_end word text = sym (ap (λ bs. edges_of Start (kinds word (clusters bs) ++ (length text, Blank) ∷ [])) (take_all (length text) text (omega arith)) ∙ behind (ends_or_not (kinds word (clusters text))))
+blank_end word text =
+    sym (ap (λ bs. edges_of Start (kinds word (clusters bs) ++ (length text, Blank) ∷ [])) (take_all (length text) text (omega arith))
+    ∙ behind (kinds word (clusters text)))
   where
-    behind : {xs : List (ℕ × ClusterKind)} → (xs ≡ []) ⊎ ((ys : List (ℕ × ClusterKind)) × (y : ℕ × ClusterKind) × (xs ≡ ys ++ y ∷ [])) → edges_of Start (xs ++ (length text, Blank) ∷ []) ≡ edges_of Start xs
-    behind (inl e) = ap (λ zs. edges_of Start (zs ++ (length text, Blank) ∷ [])) e ∙ ap (edges_of Start) (sym e)
-    behind (inr h) =
-        ap (λ zs. edges_of Start (zs ++ (length text, Blank) ∷ [])) h.2 ∙ ap (edges_of Start) (append_assoc h.0 (h.1 ∷ []) ((length text, Blank) ∷ []))
-        ∙ edges_of-snoc Start h.0 h.1 (length text, Blank) ∙ append-nil (edges_of Start (h.0 ++ h.1 ∷ [])) ∙ ap (edges_of Start) (sym h.2)
+    behind : (xs : List (ℕ × ClusterKind)) → edges_of Start (xs ++ (length text, Blank) ∷ []) ≡ edges_of Start xs
+    behind [] = refl
+    behind (x ∷ []) = refl
+    behind (x ∷ (y ∷ xs)) = ap (λ zs. option_to_list (edge_between Start x y) ++ zs) (behind (y ∷ xs))

@@ -1,7 +1,9 @@
-use Rattle.std.proofs.Common.{◌≡◌, ◌-◌, ◌+◌, ◌<◌, arith}
+use Rattle.std.proofs.Common.{◌≡◌, ◌-◌, ◌+◌, ◌<◌, ap, arith}
 use Rattle.std.proofs.lemmas.Str.{IsCharBoundary-before_ascii}
-use Rattle.line_buffer.proofs.RowWalkLemmas.{walks_up_init, walks_up_turn, walks_up_spent, walks_up_top}
+use Rattle.line_buffer.proofs.RowWalkLemmas.{walks_up_init, walks_up_turn}
 use Rattle.line_buffer.proofs.rows.nth_start_above.Goals as goal
+use Rattle.line_buffer.proofs.ChainLemmas.{search_ended, search_spent}
+use Rattle.line_buffer.proofs.RowStartLemmas.{rows_over}
 
 pub loop-init : goal.loop-init
 loop-init c = let all : c.args.n - 0 ≡ c.args.n = omega arith in walks_up_init c.args.text.now c.args.n _ _ all c.last_row_start-start.ensures.value
@@ -20,13 +22,7 @@ loop-preserved c =
 pub returns-after-loop-clause-value : goal.returns-after-loop-clause-value
 returns-after-loop-clause-value c =
     let spent : c.args.n - c.loop.counter ≡ 0 = omega arith in
-    walks_up_spent _ _ _ _ _ c.loop.invariant spent
-
-pub returns-after-loop-clause-boundary : goal.returns-after-loop-clause-boundary
-returns-after-loop-clause-boundary c = c.loop.invariant.boundary
+    search_spent _ _ _ _ c.loop.invariant.answer spent
 
 pub returns-then-start-eq0-clause-value : goal.returns-then-start-eq0-clause-value
-returns-then-start-eq0-clause-value c = walks_up_top _ _ _ _ _ c.loop.invariant c.if-start-eq0.true
-
-pub returns-then-start-eq0-clause-boundary : goal.returns-then-start-eq0-clause-boundary
-returns-then-start-eq0-clause-boundary c = c.loop.invariant.boundary
+returns-then-start-eq0-clause-value c = search_ended _ _ _ _ c.loop.invariant.answer (ap (rows_over c.args.text.now) c.if-start-eq0.true)

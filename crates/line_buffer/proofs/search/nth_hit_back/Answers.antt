@@ -1,8 +1,9 @@
 use Rattle.std.proofs.Common.{sym, ap, ◌∙◌, arith, reverse}
 use Rattle.std.specs.Str.Iter.{char_indices_offset}
 use Rattle.std.specs.Iterator.Adapters.{rev_source}
-use Rattle.line_buffer.proofs.HitLemmas.{hit-missed, hit-made, hits-none, hits-end, hits-stop, part-of_hit_back, last-read, utf8-before}
+use Rattle.line_buffer.proofs.HitLemmas.{hit-missed, hit-made, hits-none, part-of_hit_back, last-read, utf8-before}
 use Rattle.line_buffer.proofs.search.nth_hit_back.Goals as goal
+use Rattle.line_buffer.proofs.ChainLemmas.{search_ended, search_spent}
 
 pub loop-i-preserved : goal.loop-i-preserved
 loop-i-preserved c = record {
@@ -17,10 +18,10 @@ loop-i-preserved-then-is_same c = record {
 }
 
 pub returns-in-None-clause-value : goal.returns-in-None-clause-value
-returns-in-None-clause-value c = hits-end _ _ _ c.loop-i.missing c.loop-i.invariant.found (ap reverse (hits-none (char_indices_offset (rev_source c.loop-i.i-iterator)) c.args.c _ c.in-None.ensures.steps.1.0))
+returns-in-None-clause-value c = search_ended _ _ _ c.loop-i.missing c.loop-i.invariant.found (ap reverse (hits-none (char_indices_offset (rev_source c.loop-i.i-iterator)) c.args.c _ c.in-None.ensures.steps.1.0))
 
 pub returns-in-None-clause-part : goal.returns-in-None-clause-part
 returns-in-None-clause-part c = part-of_hit_back c.args.c c.args.text.now c.args.n c.loop-i.found c.utf8.text (returns-in-None-clause-value c)
 
 pub returns-then-missing-eq0-clause-part : goal.returns-then-missing-eq0-clause-part
-returns-then-missing-eq0-clause-part c = part-of_hit_back c.args.c c.args.text.now c.args.n c.loop-i.found c.utf8.text (hits-stop _ _ _ c.loop-i.missing c.loop-i.invariant.found c.if-missing-eq0.true)
+returns-then-missing-eq0-clause-part c = part-of_hit_back c.args.c c.args.text.now c.args.n c.loop-i.found c.utf8.text (search_spent _ _ _ c.loop-i.missing c.loop-i.invariant.found c.if-missing-eq0.true)

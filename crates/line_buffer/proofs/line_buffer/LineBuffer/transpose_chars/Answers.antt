@@ -1,6 +1,6 @@
 use Rattle.std.proofs.Common.{rules, sym, ap, ◌∙◌}
 use Rattle.line_buffer.proofs.LeftLemmas.{edits_refused, stopped_first, stopped_for_memory}
-use Rattle.line_buffer.proofs.ReplayLemmas.{if_true}
+use Rattle.std.proofs.lemmas.Bool.{cond-true}
 use Rattle.line_buffer.proofs.TranspositionLemmas.{transposes, exchange_event}
 use Rattle.line_buffer.specs.Transpositions.{later_first}
 use Rattle.line_buffer.proofs.line_buffer.LineBuffer.transpose_chars.Goals as goal
@@ -8,7 +8,7 @@ use Rattle.line_buffer.proofs.line_buffer.LineBuffer.transpose_chars.Goals as go
 pub returns-in_err-swapped-clause-edits : goal.returns-in_err-swapped-clause-edits
 returns-in_err-swapped-clause-edits g c =
     edits_refused _ _ c.from_residual.ensures.1
-    (stopped_for_memory _ _ _ _ _ _ _ _ (if_true _ _ _ (transposes c.args.self.now _ c.pos.ensures.value c.if-pos-eq0.false c.if-not-has_two_clusters.ensures)) tt c.clusters_at_cursor-from.ensures.line)
+    (stopped_for_memory _ _ _ _ _ _ _ _ (cond-true _ _ _ (transposes c.args.self.now _ c.pos.ensures.value c.if-pos-eq0.false c.if-not-has_two_clusters.ensures)) tt c.clusters_at_cursor-from.ensures.line)
 
 pub returns-in_err-replace-clause-edits : goal.returns-in_err-replace-clause-edits
 returns-in_err-replace-clause-edits g c =
