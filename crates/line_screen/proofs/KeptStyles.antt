@@ -75,14 +75,13 @@ letters_sized : (row : List ℕ) → Sized (length row) (map Letter row)
 letters_sized [] = record { is = refl; some = tt }
 letters_sized (c ∷ row) = let more = letters_sized row in let is = more.is in record { is = omega arith; some = (omega arith, more.some) }
 
-row_sized_if : (row : List ℕ) → IsUtf8 row → (b : Bool) → Sized (length row) (if b then map Letter row else map (drawn_item whole) (graphemes true row))
-row_sized_if row text true = letters_sized row
-row_sized_if row text false =
-    subst (λ bytes. Sized (length bytes) (map (drawn_item whole) (graphemes true row))) (concat-segments (is_grapheme_break true) row text)
-    (clusters_sized (graphemes true row) (segments_nonempty (is_grapheme_break true) row))
-
 row_sized : (row : List ℕ) → IsUtf8 row → Sized (length row) (row_items whole row)
-row_sized row text = row_sized_if row text (list_all is_printable row)
+row_sized row text =
+    elim (list_all is_printable row) as (λ b. Sized (length row) (if b then map Letter row else map (drawn_item whole) (graphemes true row))) [
+      | true ↦ letters_sized row
+      | false ↦ subst (λ bytes. Sized (length bytes) (map (drawn_item whole) (graphemes true row))) (concat-segments (is_grapheme_break true) row text)
+          (clusters_sized (graphemes true row) (segments_nonempty (is_grapheme_break true) row))
+    ]
 
 -- ---- the rows of a text
 
