@@ -1,5 +1,5 @@
 -- What is laid begins at its place or after it, and takes some cells.
-use Rattle.std.proofs.Common.{◌≡◌, ℕ, ◌+◌, ◌==◌, nat_le, nat_lt, Bool, true, false, not, ◌&&◌, ◌||◌, List, [], ◌∷◌, map, Option, refl, ◌∙◌, zero, suc, arith, if◌then◌else◌}
+use Rattle.std.proofs.Common.{◌≡◌, ℕ, ◌==◌, nat_le, nat_lt, Bool, true, not, ◌&&◌, ◌||◌, List, [], ◌∷◌, map, Option, refl, ◌∙◌, zero, suc, arith}
 use Rattle.std.specs.List.{list_all}
 use Rattle.std.proofs.lemmas.Bool.{and_from, lt-ltb}
 use Rattle.std.proofs.lemmas.Bool.Decides.{nat_tests}
@@ -7,7 +7,7 @@ use Rattle.std.proofs.lemmas.List.Folds.{list_all-append}
 use Rattle.line_buffer.specs.declared.layout.Position.{Position}
 use Rattle.line_buffer.specs.Width.{tab_width}
 use Rattle.line_screen.specs.Display.{Placed, cluster_placed_at, right, starts_before}
-use Rattle.line_screen.specs.Drawing.{DrawnItem, next_row, leave, after_one, lay_one, blanks, lay_run, DrawnItem.NewRow, DrawnItem.Letter, DrawnItem.Cluster, DrawnItem.Tab}
+use Rattle.line_screen.specs.Drawing.{DrawnItem, after_one, lay_one, blanks, lay_run, DrawnItem.NewRow, DrawnItem.Letter, DrawnItem.Cluster, DrawnItem.Tab}
 use Rattle.line_screen.specs.StyledTexts.{StyledItem, lay}
 use Rattle.line_screen.proofs.Draws.{list_all_since, Fits, AllFit}
 
@@ -29,44 +29,13 @@ begins_on at to on p h = grind (arith, nat_tests)
 right_on : (n : ℕ) (at : Position) → is_on at (right n at) ≡ true
 right_on n at = grind (arith, nat_tests)
 
-below_on : (n : ℕ) (at : Position) → is_on at (right n (next_row at)) ≡ true
-below_on n at = grind (arith, nat_tests)
-
-next_on : (at : Position) → is_on at (next_row at) ≡ true
-next_on at = grind (arith, nat_tests)
-
-second_on : (at : Position) → is_on at (next_row (next_row at)) ≡ true
-second_on at = grind (arith, nat_tests)
-
-left_on : (n : ℕ) (at : Position) (b : Bool) → is_on at (if b then next_row (right n at) else right n at) ≡ true
-left_on n at true = next_on at
-left_on n at false = right_on n at
-
-left_below : (n : ℕ) (at : Position) (b : Bool) → is_on at (if b then next_row (right n (next_row at)) else right n (next_row at)) ≡ true
-left_below n at true = second_on at
-left_below n at false = below_on n at
-
-cluster_on : (columns width : ℕ) (at : Position) (b : Bool) → is_on at (leave columns (right width (if b then at else next_row at))) ≡ true
-cluster_on columns width at true = left_on width at ((right width at).col == columns)
-cluster_on columns width at false = left_below width at ((right width (next_row at)).col == columns)
-
 one_on : (columns : ℕ) (item : DrawnItem) (at : Position) → is_on at (after_one columns item at) ≡ true
-one_on columns NewRow at = next_on at
-one_on columns (Letter c) at = left_on 1 at ((right 1 at).col == columns)
-one_on columns (Cluster bytes width) at = cluster_on columns width at (nat_le (at.col + width) columns)
-one_on columns (Tab apart) at = let width = tab_width columns apart at.col in left_on width at ((right width at).col == columns)
+one_on columns item at = grind (arith, nat_tests)
 
 -- ---- where cells begin
 
 begins_itself : (style bytes : List ℕ) (width : ℕ) (at : Position) → begins_at at (cluster_placed_at style bytes width at) ≡ true
 begins_itself style bytes width at = grind (arith, nat_tests)
-
-begins_below : (style bytes : List ℕ) (width : ℕ) (at : Position) → begins_at at (cluster_placed_at style bytes width (next_row at)) ≡ true
-begins_below style bytes width at = grind (arith, nat_tests)
-
-begins_if : (style bytes : List ℕ) (width : ℕ) (at : Position) (b : Bool) → begins_at at (cluster_placed_at style bytes width (if b then at else next_row at)) ≡ true
-begins_if style bytes width at true = begins_itself style bytes width at
-begins_if style bytes width at false = begins_below style bytes width at
 
 run_begins : (style : List ℕ) (n : ℕ) (at : Position) → list_all (begins_at at) (lay_run style (blanks n) at) ≡ true
 run_begins style zero at = refl
@@ -76,7 +45,7 @@ run_begins style (suc n) at =
 one_begins : (columns : ℕ) (style : List ℕ) (item : DrawnItem) (at : Position) → list_all (begins_at at) (lay_one columns style item at) ≡ true
 one_begins columns style NewRow at = refl
 one_begins columns style (Letter c) at = and_from _ true (begins_itself style (c ∷ []) 1 at) refl
-one_begins columns style (Cluster bytes width) at = and_from _ true (begins_if style bytes width at (nat_le (at.col + width) columns)) refl
+one_begins columns style (Cluster bytes width) at = grind (arith, nat_tests)
 one_begins columns style (Tab apart) at = run_begins style (tab_width columns apart at.col) at
 
 pub lay_begins : (columns : ℕ) (xs : List StyledItem) (at : Position) → list_all (begins_at at) (lay columns xs at) ≡ true

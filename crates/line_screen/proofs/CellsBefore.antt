@@ -1,9 +1,11 @@
 -- The place at which a text ends, from that of the text with a character apart from it at its end, and the other way round.
-use Rattle.std.proofs.Common.{◌≡◌, ℕ, ◌+◌, ◌<◌, ◌≤◌, ◌==◌, nat_le, min, ⊎_elim, Bool, true, false, ◌&&◌, List, [], ◌∷◌, ◌++◌, Option, Some, None, refl, sym, ap, ◌∙◌, subst, arith, if◌then◌else◌}
+use Rattle.std.proofs.Common.{◌≡◌, ℕ, ◌+◌, ◌<◌, ◌≤◌, ◌==◌, min, Bool, true, false, ◌&&◌, List, [], ◌∷◌, ◌++◌, Option, Some, None, refl, sym, ap, ◌∙◌, subst, arith, if◌then◌else◌}
 use Rattle.std.specs.Prelude.{chars, encode_utf8, slice_index}
 use Rattle.std.specs.List.{last_or}
 use Rattle.std.specs.Str.{is_utf8}
-use Rattle.std.proofs.lemmas.Bool.{and_parts, cases_lt, false≢true, le-leb}
+use Rattle.std.proofs.lemmas.Bool.{and_parts, false≢true, le-leb}
+use Rattle.std.proofs.lemmas.Bool.Decides.{nat_tests}
+use lib.Utf8.{encode}
 use Rattle.line_buffer.specs.Cells.{origin}
 use Rattle.line_buffer.specs.declared.layout.GraphemeClusterMode.{GraphemeClusterMode}
 use Rattle.line_buffer.specs.declared.layout.Position.{Position}
@@ -15,12 +17,10 @@ use Rattle.line_screen.specs.Drawing.DrawnItem.{NewRow, Letter, Cluster, Tab}
 use Rattle.line_screen.specs.Measure.{widths_by, position_within_limit, in_row, measure_of}
 use Rattle.line_screen.proofs.ApartLemmas.{apart_scalar}
 use Rattle.line_screen.proofs.Draws.{Fits, AllFit, after_col}
-use Rattle.line_screen.proofs.EncodedChars.{encode_one, encode_two, encode_three, encode_four}
 use Rattle.line_screen.proofs.Fitting.{after_inside, items_fit, one_inside}
 use Rattle.line_screen.proofs.Items.{drawn_by, other_by}
 use Rattle.line_screen.proofs.ItemsApart.{char_items, items_apart, items_parted}
 use Rattle.line_screen.proofs.KnownLemmas.{start_inside, stays_inside_row}
-use Rattle.line_screen.proofs.RowsKept.{leave_grows}
 use Rattle.line_screen.proofs.Saturating.{after_saturated}
 use Rattle.line_screen.proofs.Shift.{after-append}
 use Rattle.line_screen.proofs.WideLemmas.{wide_item}
@@ -33,39 +33,29 @@ is_untabbed (Tab apart) = false
 is_untabbed _ = true
 
 -- from a row's start
-first_stays : (width : ℕ) (b : Bool) → (if b then next_row (right width origin) else right width origin).row ≡ 0 → (if b then next_row (right width origin) else right width origin).col ≡ width
-first_stays width true e = absurd (omega (arith, e))
-first_stays width false e = omega arith
+own_width : (columns width : ℕ) → (leave columns (right width (fit columns width origin))).row ≡ 0 → (leave columns (right width (fit columns width origin))).col ≡ width
+own_width columns width e = grind (arith, nat_tests)
 
-first_fits : (columns width : ℕ) (b : Bool) → (leave columns (right width (if b then origin else next_row origin))).row ≡ 0 → b ≡ true
-first_fits columns width true e = refl
-first_fits columns width false e = absurd (omega (arith, e, leave_grows columns (right width (next_row origin))))
+own_letter : (columns : ℕ) → (leave columns (right 1 origin)).row ≡ 0 → (leave columns (right 1 origin)).col ≡ 1
+own_letter columns e = grind (arith, nat_tests)
 
 -- from any place on: a row was left neither before the item nor after it
-end_stays : (width : ℕ) (at : Position) (b : Bool) → width < (if b then next_row (right width at) else right width at).col → (if b then next_row (right width at) else right width at) ≡ right width at
-end_stays width at true h = absurd (omega (arith, h))
-end_stays width at false h = refl
+end_stays : (columns width : ℕ) (at : Position) → width < (leave columns (right width at)).col → leave columns (right width at) ≡ right width at
+end_stays columns width at h = grind (arith, nat_tests)
 
-next_low : (width : ℕ) (at : Position) (b : Bool) → (if b then next_row (right width (next_row at)) else right width (next_row at)).col ≤ width
-next_low width at true = omega arith
-next_low width at false = omega arith
-
-cluster_stays : (columns width : ℕ) (at : Position) (b : Bool) → width < (leave columns (right width (if b then at else next_row at))).col → leave columns (right width (if b then at else next_row at)) ≡ right width at
-cluster_stays columns width at true h = end_stays width at ((right width at).col == columns) h
-cluster_stays columns width at false h = absurd (omega (arith, h, next_low width at ((right width (next_row at)).col == columns)))
+cluster_stays : (columns width : ℕ) (at : Position) → width < (leave columns (right width (fit columns width at))).col → leave columns (right width (fit columns width at)) ≡ right width at
+cluster_stays columns width at h = grind (arith, nat_tests)
 
 -- its own drawing ends in its first row, in a lower column
 item_stays : (columns : ℕ) (item : DrawnItem) (at : Position) → is_untabbed item ≡ true → (after_one columns item origin).row ≡ 0 → (after_one columns item origin).col < (after_one columns item at).col
     → after_one columns item at ≡ right (after_one columns item origin).col at
 item_stays columns NewRow at h row more = absurd (omega (arith, row))
 item_stays columns (Letter c) at h row more =
-    let own : (after_one columns (Letter c) origin).col ≡ 1 = first_stays 1 ((right 1 origin).col == columns) row in
-    end_stays 1 at ((right 1 at).col == columns) (omega (arith, own, more)) ∙ ap (λ n. right n at) (sym own)
+    let own : (after_one columns (Letter c) origin).col ≡ 1 = own_letter columns row in
+    end_stays columns 1 at (omega (arith, own, more)) ∙ ap (λ n. right n at) (sym own)
 item_stays columns (Cluster bytes width) at h row more =
-    let first = first_fits columns width (nat_le (origin.col + width) columns) row in
-    let own_end : after_one columns (Cluster bytes width) origin ≡ leave columns (right width origin) = ap (λ b. leave columns (right width (if b then origin else next_row origin))) first in
-    let own : (after_one columns (Cluster bytes width) origin).col ≡ width = ap (λ p. p.col) own_end ∙ first_stays width ((right width origin).col == columns) (ap (λ p. p.row) (sym own_end) ∙ row) in
-    cluster_stays columns width at (nat_le (at.col + width) columns) (omega (arith, own, more)) ∙ ap (λ n. right n at) (sym own)
+    let own : (after_one columns (Cluster bytes width) origin).col ≡ width = own_width columns width row in
+    cluster_stays columns width at (omega (arith, own, more)) ∙ ap (λ n. right n at) (sym own)
 item_stays columns (Tab apart) at h row more = absurd (false≢true h)
 
 -- ---- any place of such an item
@@ -83,16 +73,14 @@ cells_of : (columns : ℕ) (clusters : List ℕ → Option ℕ) (item : DrawnIte
     → Cells columns item (after_one columns item origin).col
 cells_of columns clusters NewRow some h untabbed row = absurd (omega (arith, row))
 cells_of columns clusters (Letter c) some h untabbed row =
-    let own : (after_one columns (Letter c) origin).col ≡ 1 = first_stays 1 ((right 1 origin).col == columns) row in
+    let own : (after_one columns (Letter c) origin).col ≡ 1 = own_letter columns row in
     record {
       some = omega (arith, own);
       narrow = one_inside columns clusters (Letter c) origin h some;
       last = λ at low. one_fits columns at low ∙ ap (λ n. leave columns (right n (fit columns n at))) (sym own);
     }
 cells_of columns clusters (Cluster bytes width) some h untabbed row =
-    let first = first_fits columns width (nat_le (origin.col + width) columns) row in
-    let own_end : after_one columns (Cluster bytes width) origin ≡ leave columns (right width origin) = ap (λ b. leave columns (right width (if b then origin else next_row origin))) first in
-    let own : (after_one columns (Cluster bytes width) origin).col ≡ width = ap (λ p. p.col) own_end ∙ first_stays width ((right width origin).col == columns) (ap (λ p. p.row) (sym own_end) ∙ row) in
+    let own : (after_one columns (Cluster bytes width) origin).col ≡ width = own_width columns width row in
     record {
       some = omega (arith, own, h.some);
       narrow = one_inside columns clusters (Cluster bytes width) origin h some;
@@ -102,20 +90,12 @@ cells_of columns clusters (Tab stops) some h untabbed row = absurd (false≢true
 
 -- ---- a character apart is one
 
+other_bytes : (c : ℕ) → (c == 0x09) ≡ false → is_tab (encode_utf8 c) ≡ false
+unfolding encode
+other_bytes c h = grind (arith, nat_tests)
+
 no_tab : (c : ℕ) → is_apart c ≡ true → is_tab (encode_utf8 c) ≡ false
-no_tab c h = ⊎_elim one (λ some. ⊎_elim (two some) (λ more. ⊎_elim (three more) four (cases_lt c 0x10000)) (cases_lt c 0x800)) (cases_lt c 0x80)
-  where
-    one : c < 0x80 → is_tab (encode_utf8 c) ≡ false
-    one low = ap is_tab (encode_one c low) ∙ apart is_apart c 0x09 h refl
-
-    two : 0x80 ≤ c → c < 0x800 → is_tab (encode_utf8 c) ≡ false
-    two low high = ap is_tab (encode_two c low high)
-
-    three : 0x800 ≤ c → c < 0x10000 → is_tab (encode_utf8 c) ≡ false
-    three low high = ap is_tab (encode_three c low high)
-
-    four : 0x10000 ≤ c → is_tab (encode_utf8 c) ≡ false
-    four low = ap is_tab (encode_four c low)
+no_tab c h = other_bytes c (apart is_apart c 0x09 h refl)
 
 pub apart_of : (front : List ℕ) (c : ℕ) → stands_apart front c ≡ true → is_apart c ≡ true
 apart_of front c h = (and_parts (is_apart c) (ends_apart (last_or None (chars front))) (and_parts (is_utf8 front) (is_apart c && ends_apart (last_or None (chars front))) h).1).0

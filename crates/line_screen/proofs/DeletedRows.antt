@@ -1,5 +1,5 @@
 -- Letters taken out before others: row by row their cells are taken out, and the row's end is filled from the next row.
-use Rattle.std.proofs.Common.{◌≡◌, ℕ, zero, suc, ◌+◌, ◌-◌, ◌^◌, ◌<◌, ◌≤◌, ◌==◌, nat_le, Bool, true, false, ◌⊎◌, inl, inr, List, [], ◌∷◌, ◌++◌, map, length, length-append, Option, refl, sym, ap, ◌∙◌, subst, append_assoc, append-nil, arith, if◌then◌else◌}
+use Rattle.std.proofs.Common.{◌≡◌, ℕ, zero, suc, ◌+◌, ◌-◌, ◌^◌, ◌<◌, ◌≤◌, true, ◌⊎◌, inl, inr, List, [], ◌∷◌, ◌++◌, map, length, length-append, Option, refl, sym, ap, ◌∙◌, subst, append_assoc, append-nil, arith}
 use Rattle.std.specs.List.{list_all}
 use Rattle.std.proofs.lemmas.Bool.{and_parts, and_from, cases_lt, eq-eqb, ne_eqb, le-leb, lt-leb}
 use Rattle.std.proofs.lemmas.List.Folds.{list_all-append}
@@ -19,20 +19,10 @@ use Rattle.line_screen.proofs.Parts.{deletion_bytes}
 
 -- ---- the bytes, by rows
 
--- what stands for a letter that goes to this column, and what follows it
-abbrev back_if : ℕ → ℕ → ℕ → ℕ → ℕ → List ℕ → Bool → Bool → Bool → List ℕ
-back_if columns count start col c cs at_gap is_new at_end =
-    (if at_gap then take_cells_out count ++ col_move start col else []) ++ (if is_new then c ∷ [] else [])
-    ++ (if at_end then row_break ++ pulled_back columns count 0 0 cs else pulled_back columns count start (col + 1) cs)
-
-back_is : (columns count start col c : ℕ) (cs : List ℕ) (at_gap is_new at_end : Bool) → (col + count == columns) ≡ at_gap → nat_le columns (col + count) ≡ is_new → (col + 1 == columns) ≡ at_end
-    → pulled_back columns count start col (c ∷ cs) ≡ back_if columns count start col c cs at_gap is_new at_end
-back_is columns count start col c cs at_gap is_new at_end gap new end = (λ i. back_if columns count start col c cs (gap i) (new i) (end i))
-
 -- letters that stay in the row
 back_stays : (columns count start col c : ℕ) (cs : List ℕ) → 1 ≤ count → col + count < columns → pulled_back columns count start col (c ∷ cs) ≡ pulled_back columns count start (col + 1) cs
 back_stays columns count start col c cs some room =
-    back_is columns count start col c cs false false false (ne_eqb (col + count) columns (λ e. omega arith)) (lt-leb columns (col + count) room) (ne_eqb (col + 1) columns (λ e. omega arith))
+    rw (ne_eqb (col + count) columns (λ e. omega arith), lt-leb columns (col + count) room, ne_eqb (col + 1) columns (λ e. omega arith))
 
 back_none : (columns count start : ℕ) (rest : List ℕ) (col : ℕ) → 1 ≤ count → col + count + length rest ≤ columns → pulled_back columns count start col rest ≡ take_cells_out count
 back_none columns count start [] col some room = refl
@@ -47,20 +37,20 @@ back_from columns count start (c ∷ cs) behind col gap some there full =
 back_new : (columns count start : ℕ) (x : ℕ) (xs more : List ℕ) (col : ℕ) → columns < col + count → col + length (x ∷ xs) ≡ columns
     → pulled_back columns count start col (x ∷ (xs ++ more)) ≡ (x ∷ xs) ++ (row_break ++ deletion_bytes columns count 0 more)
 back_new columns count start x [] more col past full =
-    back_is columns count start col x more false true true (ne_eqb (col + count) columns (λ e. omega arith)) (le-leb columns (col + count) (omega arith)) (eq-eqb (col + 1) columns (omega arith))
+    rw (ne_eqb (col + count) columns (λ e. omega arith), le-leb columns (col + count) (omega arith), eq-eqb (col + 1) columns (omega arith))
 back_new columns count start x (y ∷ ys) more col past full =
-    back_is columns count start col x (y ∷ (ys ++ more)) false true false (ne_eqb (col + count) columns (λ e. omega arith)) (le-leb columns (col + count) (omega arith)) (ne_eqb (col + 1) columns (λ e. omega arith))
-    ∙ ap (λ bytes. x ∷ bytes) (back_new columns count start y ys more (col + 1) (omega arith) (omega arith))
+    rw (ne_eqb (col + count) columns (λ e. omega arith), le-leb columns (col + count) (omega arith), ne_eqb (col + 1) columns (λ e. omega arith))
+    (ap (λ bytes. x ∷ bytes) (back_new columns count start y ys more (col + 1) (omega arith) (omega arith)))
 
 back_full : (columns count start : ℕ) (x : ℕ) (xs more : List ℕ) (gap : ℕ) → length (x ∷ xs) ≡ count → gap + count ≡ columns
     → pulled_back columns count start gap (x ∷ (xs ++ more)) ≡ (take_cells_out count ++ col_move start gap) ++ ((x ∷ xs) ++ (row_break ++ deletion_bytes columns count 0 more))
 back_full columns count start x [] more gap size full =
-    back_is columns count start gap x more true true true (eq-eqb (gap + count) columns full) (le-leb columns (gap + count) (omega arith)) (eq-eqb (gap + 1) columns (omega arith))
-    ∙ append_assoc (take_cells_out count ++ col_move start gap) (x ∷ []) (row_break ++ deletion_bytes columns count 0 more)
+    rw (eq-eqb (gap + count) columns full, le-leb columns (gap + count) (omega arith), eq-eqb (gap + 1) columns (omega arith))
+    (append_assoc (take_cells_out count ++ col_move start gap) (x ∷ []) (row_break ++ deletion_bytes columns count 0 more))
 back_full columns count start x (y ∷ ys) more gap size full =
-    back_is columns count start gap x (y ∷ (ys ++ more)) true true false (eq-eqb (gap + count) columns full) (le-leb columns (gap + count) (omega arith)) (ne_eqb (gap + 1) columns (λ e. omega arith))
-    ∙ append_assoc (take_cells_out count ++ col_move start gap) (x ∷ []) (pulled_back columns count start (gap + 1) (y ∷ (ys ++ more)))
-    ∙ ap (λ bytes. (take_cells_out count ++ col_move start gap) ++ (x ∷ bytes)) (back_new columns count start y ys more (gap + 1) (omega arith) (omega arith))
+    rw (eq-eqb (gap + count) columns full, le-leb columns (gap + count) (omega arith), ne_eqb (gap + 1) columns (λ e. omega arith))
+    (append_assoc (take_cells_out count ++ col_move start gap) (x ∷ []) (pulled_back columns count start (gap + 1) (y ∷ (ys ++ more)))
+    ∙ ap (λ bytes. (take_cells_out count ++ col_move start gap) ++ (x ∷ bytes)) (back_new columns count start y ys more (gap + 1) (omega arith) (omega arith)))
 
 deleted : (columns count col : ℕ) (mid : List ℕ) (pulled more : List ℕ) → 1 ≤ count → length pulled ≡ count → col + length mid + count ≡ columns
     → deletion_bytes columns count col (mid ++ (pulled ++ more)) ≡ (take_cells_out count ++ col_move col (col + length mid)) ++ (pulled ++ (row_break ++ deletion_bytes columns count 0 more))

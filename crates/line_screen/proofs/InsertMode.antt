@@ -158,12 +158,6 @@ module _ (columns : ℕ) (wide : List ℕ → Option ℕ) where
       ∙ ap (λ x. read x end_inserting) (a.inserts ∙ ap in_insert_mode left_is) in
       subst (λ x. Stands columns x e) (sym is) (stands_text columns e)
 
-  inserts_if : (b : Bool) (col c : ℕ) (rest : List ℕ) (r : DisplayReading) (d e : Display) → list_all is_printable (c ∷ rest) ≡ true → Stands columns r d → d.cursor.col < columns → d.pen ≡ []
-      → Stands columns (read r (put_and_pushed false columns col (c ∷ []) rest)) e
-      → Stands columns (read r (if b then begin_inserting ++ (put_and_pushed true columns col (c ∷ []) rest ++ end_inserting) else put_and_pushed false columns col (c ∷ []) rest)) e
-  inserts_if true col c rest r d e printable s inside plain h = mode_stands col c rest r d e printable s inside plain h
-  inserts_if false col c rest r d e printable s inside plain h = h
-
   -- what cells opened for them leave, the insertion leaves
   pub inserted_holds : (bytes : List ℕ) (over : List Placed) (top : ℕ) (old new : List Placed) (at next : Position) (c : ℕ) (rest : List ℕ) → list_all is_printable (c ∷ rest) ≡ true → at.col < columns
       → Holds columns wide bytes over top old at → Holds columns wide (bytes ++ put_and_pushed false columns at.col (c ∷ []) rest) over top new next
@@ -173,7 +167,11 @@ module _ (columns : ℕ) (wide : List ℕ → Option ℕ) where
       let d : Display = D h.placed at [] in
       let e : Display = D k.placed next [] in
       let before = subst (λ x. Stands columns x e) (read-append columns wide start bytes slow) k.stands in
-      let after = inserts_if (begins_two_rows columns at.col rest) at.col c rest (read start bytes) d e printable h.stands inside refl before in
+      let fast = begin_inserting ++ (put_and_pushed true columns at.col (c ∷ []) rest ++ end_inserting) in
+      let after = elim (begins_two_rows columns at.col rest) as (λ b. Stands columns (read (read start bytes) (if b then fast else slow)) e) [
+        | true ↦ mode_stands at.col c rest (read start bytes) d e printable h.stands inside refl before
+        | false ↦ before
+      ] in
       record {
         placed = k.placed;
         stands = subst (λ x. Stands columns x e) (sym (read-append columns wide start bytes (insertion_bytes columns at.col (c ∷ []) rest))) after;

@@ -1,5 +1,5 @@
 -- A letter put before others: row by row a cell is opened, and a letter written there.
-use Rattle.std.proofs.Common.{◌≡◌, ℕ, zero, suc, ◌+◌, ◌-◌, ◌<◌, ◌≤◌, ◌==◌, Bool, true, false, ◌⊎◌, inl, inr, List, [], ◌∷◌, ◌++◌, map, length, length-append, Option, refl, sym, ap, ◌∙◌, subst, append_assoc, append-nil, arith, if◌then◌else◌}
+use Rattle.std.proofs.Common.{◌≡◌, ℕ, zero, suc, ◌+◌, ◌-◌, ◌<◌, ◌≤◌, ◌==◌, true, false, ◌⊎◌, inl, inr, List, [], ◌∷◌, ◌++◌, map, length, length-append, Option, refl, sym, ap, ◌∙◌, subst, append_assoc, append-nil, arith, if◌then◌else◌}
 use Rattle.std.specs.List.{list_all}
 use Rattle.std.proofs.lemmas.Bool.{and_parts, and_from, cases_lt, eq-eqb, ne_eqb}
 use Rattle.std.proofs.lemmas.List.Folds.{list_all-append}
@@ -22,23 +22,19 @@ use Rattle.line_screen.proofs.Parts.{open_cell}
 abbrev on_from : ℕ → ℕ → List ℕ → List ℕ
 on_from columns col rest = break_if (col + 1 == columns) ++ pushed_on false columns (left_col columns (col + 1)) rest
 
-abbrev on_if : ℕ → ℕ → List ℕ → Bool → List ℕ
-on_if columns col rest b = break_if b ++ pushed_on false columns (if b then 0 else col + 1) rest
-
 on_in_row : (columns col : ℕ) (rest : List ℕ) → col + 1 < columns → on_from columns col rest ≡ pushed_on false columns (col + 1) rest
-on_in_row columns col rest room = ap (on_if columns col rest) (ne_eqb (col + 1) columns (λ e. omega arith))
+on_in_row columns col rest room = rw (ne_eqb (col + 1) columns (λ e. omega arith))
 
 -- in a column that isn't the first
 on_next : (columns col c : ℕ) (cs : List ℕ) → pushed_on false columns (col + 1) (c ∷ cs) ≡ on_from columns (col + 1) cs
-on_next columns col c cs =
-    ap (λ b. (if b then open_cell ++ c ∷ [] else []) ++ break_if (col + 1 + 1 == columns) ++ pushed_on false columns (left_col columns (col + 1 + 1)) cs) (ne_eqb (col + 1) 0 (λ e. omega arith))
+on_next columns col c cs = rw (ne_eqb (col + 1) 0 (λ e. omega arith))
 
 on_none : (columns : ℕ) (rest : List ℕ) (col : ℕ) → col + 1 + length rest < columns → on_from columns col rest ≡ []
 on_none columns [] col room = on_in_row columns col [] (omega arith)
 on_none columns (c ∷ cs) col room = on_in_row columns col (c ∷ cs) (omega arith) ∙ on_next columns col c cs ∙ on_none columns cs (col + 1) (omega arith)
 
 on_full : (columns : ℕ) (mid behind : List ℕ) (col : ℕ) → col + 1 + length mid ≡ columns → on_from columns col (mid ++ behind) ≡ row_break ++ pushed_on false columns 0 behind
-on_full columns [] behind col full = ap (on_if columns col behind) (eq-eqb (col + 1) columns (omega arith))
+on_full columns [] behind col full = rw (eq-eqb (col + 1) columns (omega arith))
 on_full columns (c ∷ cs) behind col full =
     on_in_row columns col (c ∷ (cs ++ behind)) (omega arith) ∙ on_next columns col c (cs ++ behind) ∙ on_full columns cs behind (col + 1) (omega arith)
 

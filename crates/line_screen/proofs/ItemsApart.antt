@@ -1,10 +1,11 @@
 -- The items of a text, and of the text with a rest that begins apart from it.
-use Rattle.std.proofs.Common.{◌≡◌, ℕ, ◌<◌, ◌≤◌, ◌==◌, ⊎_elim, Bool, true, false, not, ◌&&◌, ◌||◌, List, [], ◌∷◌, ◌++◌, map, cond, Option, Some, None, refl, sym, ap, ap₂, ◌∙◌, subst, arith, append_assoc, append-nil, if◌then◌else◌, eqb-true, ◌/◌, ◌%◌, ◌+◌}
+use Rattle.std.proofs.Common.{◌≡◌, ℕ, ◌==◌, ⊎_elim, Bool, true, false, not, ◌&&◌, ◌||◌, List, [], ◌∷◌, ◌++◌, map, cond, Option, Some, None, refl, sym, ap, ap₂, ◌∙◌, subst, arith, append_assoc, append-nil, if◌then◌else◌, eqb-true, ◌+◌}
 use Rattle.std.specs.Prelude.{chars, encode_utf8, encode_utf8_all, IsUtf8}
 use Rattle.std.specs.Char.{IsScalar}
+use lib.Utf8.{encode}
 use Rattle.std.specs.List.{list_all, flat_map, last_or, onto_first}
 use Rattle.std.specs.Str.{all_scalars, is_utf8}
-use Rattle.std.proofs.lemmas.Bool.{and_parts, and_from, or_cases, cases_lt}
+use Rattle.std.proofs.lemmas.Bool.{and_parts, and_from, or_cases, not-true}
 use Rattle.std.proofs.lemmas.Bool.Decides.{nat_tests}
 use Rattle.std.proofs.lemmas.List.{map-append}
 use Rattle.std.proofs.lemmas.Grind.{flat_map-append}
@@ -21,7 +22,7 @@ use Rattle.line_screen.specs.Display.{is_printable}
 use Rattle.line_screen.specs.Drawing.{DrawnItem, Widths, drawn_item, row_items, join_rows, split_rows, text_items, DrawnItem.NewRow, DrawnItem.Letter}
 use Rattle.line_screen.proofs.ApartLemmas.{breaks, cut_from, clusters_apart, apart_scalar}
 use Rattle.line_screen.proofs.Draws.{list_all_since}
-use Rattle.line_screen.proofs.EncodedChars.{encode_one, encode_two, encode_three, encode_four}
+use Rattle.line_screen.proofs.EncodedChars.{encode_one}
 use Rattle.line_screen.proofs.Items.{letter_row}
 use Rattle.line_screen.proofs.Singles.{is_single, printable_single, clusters_single}
 
@@ -86,43 +87,12 @@ split_inside : (bytes rest : List ℕ) → list_all is_inside bytes ≡ true →
 split_inside [] rest h = rows_are rest
 split_inside (x ∷ bytes) rest h =
     let parts = and_parts (is_inside x) (list_all is_inside bytes) h in
-    slice_split-cons_no (λ c. c == 0x0A) x (bytes ++ rest) (not_true (x == 0x0A) parts.0) ∙ ap (onto_first x) (split_inside bytes rest parts.1) ∙ onto_prepend x bytes (split_rows rest)
-  where
-    not_true : (b : Bool) → not b ≡ true → b ≡ false
-    not_true true h = cc
-    not_true false h = refl
-
-high_inside : (b : ℕ) → 0x80 ≤ b → is_inside b ≡ true
-high_inside b h = grind (arith, nat_tests)
+    slice_split-cons_no (λ c. c == 0x0A) x (bytes ++ rest) (not-true (x == 0x0A) parts.0) ∙ ap (onto_first x) (split_inside bytes rest parts.1) ∙ onto_prepend x bytes (split_rows rest)
 
 -- no byte of another character is a newline
 char_inside : (c : ℕ) → (c == 0x0A) ≡ false → list_all is_inside (encode_utf8 c) ≡ true
-char_inside c h = ⊎_elim one (λ some. ⊎_elim (two some) (λ more. ⊎_elim (three more) four (cases_lt c 0x10000)) (cases_lt c 0x800)) (cases_lt c 0x80)
-  where
-    one : c < 0x80 → list_all is_inside (encode_utf8 c) ≡ true
-    one low = ap (list_all is_inside) (encode_one c low) ∙ and_from (is_inside c) true (ap not h) refl
-
-    last : (c : ℕ) → list_all is_inside ((128 + c % 64) ∷ []) ≡ true
-    last c = and_from (is_inside (128 + c % 64)) true (high_inside (128 + c % 64) (omega arith)) refl
-
-    last_two : (c : ℕ) → list_all is_inside ((128 + (c / 64) % 64) ∷ (128 + c % 64) ∷ []) ≡ true
-    last_two c = and_from (is_inside (128 + (c / 64) % 64)) (list_all is_inside ((128 + c % 64) ∷ [])) (high_inside (128 + (c / 64) % 64) (omega arith)) (last c)
-
-    two : 0x80 ≤ c → c < 0x800 → list_all is_inside (encode_utf8 c) ≡ true
-    two low high =
-        ap (list_all is_inside) (encode_two c low high)
-        ∙ and_from (is_inside (192 + c / 64)) (list_all is_inside ((128 + c % 64) ∷ [])) (high_inside (192 + c / 64) (omega arith)) (last c)
-
-    three : 0x800 ≤ c → c < 0x10000 → list_all is_inside (encode_utf8 c) ≡ true
-    three low high =
-        ap (list_all is_inside) (encode_three c low high)
-        ∙ and_from (is_inside (224 + c / 4096)) (list_all is_inside ((128 + (c / 64) % 64) ∷ (128 + c % 64) ∷ [])) (high_inside (224 + c / 4096) (omega arith)) (last_two c)
-
-    four : 0x10000 ≤ c → list_all is_inside (encode_utf8 c) ≡ true
-    four low =
-        ap (list_all is_inside) (encode_four c low)
-        ∙ and_from (is_inside (240 + c / 262144)) (list_all is_inside ((128 + (c / 4096) % 64) ∷ (128 + (c / 64) % 64) ∷ (128 + c % 64) ∷ [])) (high_inside (240 + c / 262144) (omega arith))
-        (and_from (is_inside (128 + (c / 4096) % 64)) (list_all is_inside ((128 + (c / 64) % 64) ∷ (128 + c % 64) ∷ [])) (high_inside (128 + (c / 4096) % 64) (omega arith)) (last_two c))
+unfolding encode
+char_inside c h = grind (arith, nat_tests)
 
 pub split_char : (c : ℕ) (rest : List ℕ) → (c == 0x0A) ≡ false → split_rows (encode_utf8 c ++ rest) ≡ prepend (encode_utf8 c) (split_rows rest)
 split_char c rest h = split_inside (encode_utf8 c) rest (char_inside c h)
@@ -193,11 +163,8 @@ row_end (Some d) = if d == 0x0A then None else Some d
 
 row_parts : (o : Option ℕ) → ends_apart o ≡ true → parts_from (row_end o) ≡ true
 row_parts None h = refl
-row_parts (Some d) h = by (d == 0x0A) h
-  where
-    by : (b : Bool) → (b || is_apart d) ≡ true → parts_from (if b then None else Some d) ≡ true
-    by true h = refl
-    by false h = h
+row_parts (Some d) h =
+    (elim (d == 0x0A) as (λ b. (b || is_apart d) ≡ true → parts_from (if b then None else Some d) ≡ true) [ true ↦ λ k. refl | false ↦ λ k. k ]) h
 
 text_parts : (o : Option ℕ) (cs : List ℕ) → ends_apart (last_or o cs) ≡ true → parts_behind (row_end o) cs ≡ true
 text_parts o [] h = row_parts o h

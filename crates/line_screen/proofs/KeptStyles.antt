@@ -5,7 +5,7 @@ use Rattle.std.specs.Char.{IsScalar}
 use Rattle.std.specs.List.{list_all, flat_map, concat, onto_first}
 use Rattle.std.specs.Str.{all_scalars, is_utf8}
 use Rattle.std.proofs.lemmas.Bool.{and_parts, eqb-true}
-use Rattle.std.proofs.lemmas.List.{drop-drop, get_or-take, length-append, map-append, take-map}
+use Rattle.std.proofs.lemmas.List.{drop-drop, drop_all, get_or-replicate, get_or-take, length-append, map-append, take-map}
 use Rattle.std.proofs.lemmas.Str.{IsUtf8-nil, IsUtf8-append, IsUtf8-encode, IsUtf8-from_is_utf8, encodes-chars, scalars-chars}
 use Rattle.unicode_segmentation.specs.Grapheme.{graphemes, is_grapheme_break}
 use Rattle.unicode_segmentation.specs.Segments.{prepend}
@@ -75,14 +75,13 @@ letters_sized : (row : List ℕ) → Sized (length row) (map Letter row)
 letters_sized [] = record { is = refl; some = tt }
 letters_sized (c ∷ row) = let more = letters_sized row in let is = more.is in record { is = omega arith; some = (omega arith, more.some) }
 
-row_sized_if : (row : List ℕ) → IsUtf8 row → (b : Bool) → Sized (length row) (if b then map Letter row else map (drawn_item whole) (graphemes true row))
-row_sized_if row text true = letters_sized row
-row_sized_if row text false =
-    subst (λ bytes. Sized (length bytes) (map (drawn_item whole) (graphemes true row))) (concat-segments (is_grapheme_break true) row text)
-    (clusters_sized (graphemes true row) (segments_nonempty (is_grapheme_break true) row))
-
 row_sized : (row : List ℕ) → IsUtf8 row → Sized (length row) (row_items whole row)
-row_sized row text = row_sized_if row text (list_all is_printable row)
+row_sized row text =
+    elim (list_all is_printable row) as (λ b. Sized (length row) (if b then map Letter row else map (drawn_item whole) (graphemes true row))) [
+      | true ↦ letters_sized row
+      | false ↦ subst (λ bytes. Sized (length bytes) (map (drawn_item whole) (graphemes true row))) (concat-segments (is_grapheme_break true) row text)
+          (clusters_sized (graphemes true row) (segments_nonempty (is_grapheme_break true) row))
+    ]
 
 -- ---- the rows of a text
 
@@ -128,11 +127,12 @@ bytes_are [] = refl
 bytes_are (x ∷ text) =
     let more = bytes_are text in
     let whole = ap bytes_of_rows (sym (rows_are text)) in
-    by (x == 0x0A) (omega (arith, more, whole))
-  where
-    by : (b : Bool) → bytes_of_rows (prepend [] (split_rows text)) ≡ length text → bytes_of_rows (if b then [] ∷ split_rows text else onto_first x (split_rows text)) ≡ length (x ∷ text)
-    by true h = let first = ap bytes_behind (rows_are text) in let next = after_newline (split_rows text) in omega arith
-    by false h = let first = ap (λ rows. bytes_of_rows (onto_first x rows)) (rows_are text) in let next = after_byte x (split_rows text) in omega arith
+    let newline = ap bytes_behind (rows_are text) ∙ after_newline (split_rows text) in
+    let other = ap (λ rows. bytes_of_rows (onto_first x rows)) (rows_are text) ∙ after_byte x (split_rows text) in
+    elim (x == 0x0A) as (λ b. bytes_of_rows (if b then [] ∷ split_rows text else onto_first x (split_rows text)) ≡ length (x ∷ text)) [
+      | true ↦ omega (arith, more, whole, newline)
+      | false ↦ omega (arith, more, whole, other)
+    ]
 
 behind_sized : (rows : List (List ℕ)) → AllUtf8 rows → Sized (bytes_behind rows) (flat_map (λ r. NewRow ∷ row_items whole r) rows)
 behind_sized [] h = record { is = refl; some = tt }
@@ -238,9 +238,7 @@ module _ (wide : Widths) where
 
   as_same : (styles others : List (List ℕ)) (item : DrawnItem) → first_of styles ≡ first_of others → styled_as styles item ≡ styled_as others item
   as_same styles others NewRow h = refl
-  as_same styles others (Letter c) h = ap (λ s. with_style s (drawn_item wide (c ∷ []))) h
-  as_same styles others (Cluster bytes width) h = ap (λ s. with_style s (drawn_item wide bytes)) h
-  as_same styles others (Tab apart) h = ap (λ s. with_style s (Tab apart)) h
+  as_same styles others _ h = cc
 
   by_same : (items : List DrawnItem) (styles others : List (List ℕ)) → AllSome items → Agree (size items) styles others → styled_by styles items ≡ styled_by others items
   by_same [] styles others some h = refl
@@ -254,16 +252,7 @@ module _ (wide : Widths) where
   no_style_of = []
 
   at_padded : (styles : List (List ℕ)) (n i : ℕ) → i < n → get_or (styles ++ replicate n no_style_of) i [] ≡ first_of (drop i styles)
-  at_padded [] n i low = none i n ∙ sym (ap first_of (gone i))
-    where
-      gone : (i : ℕ) → drop {A = List ℕ} i [] ≡ []
-      gone zero = refl
-      gone (suc i) = refl
-
-      none : (i n : ℕ) → get_or (replicate n no_style_of) i [] ≡ []
-      none i zero = refl
-      none zero (suc n) = refl
-      none (suc i) (suc n) = none i n
+  at_padded [] n i low = get_or-replicate n i no_style_of [] low ∙ sym (ap first_of (drop_all {X = List ℕ} i [] (omega arith)))
   at_padded (s ∷ styles) n zero low = refl
   at_padded (s ∷ styles) n (suc i) low = at_padded styles n i (omega (arith, low))
 
@@ -290,9 +279,6 @@ text_before text rest h =
 
 -- ---- the styles of spans, and of these as a control sequence has them
 
-plain_numbers : numbers plain ≡ []
-plain_numbers = refl
-
 map_replicate : {A B : Type 0} (f : A → B) (n : ℕ) (x : A) → map f (replicate n x) ≡ replicate n (f x)
 map_replicate f zero x = refl
 map_replicate f (suc n) x = ap (λ xs. f x ∷ xs) (map_replicate f n x)
@@ -307,7 +293,6 @@ first_numbers : (n : ℕ) (spans : List Span) → first_styles n (map span_of sp
 first_numbers n spans =
     let all = span_styles spans in
     ap (λ styles. take n (styles ++ replicate n [])) (numbers_are spans)
-    ∙ ap (λ style. take n (map numbers all ++ replicate n style)) (sym plain_numbers)
     ∙ ap (λ styles. take n (map numbers all ++ styles)) (sym (map_replicate numbers n plain))
     ∙ ap (take n) (sym (map-append numbers all (replicate n plain)))
     ∙ take-map numbers n (all ++ replicate n plain)

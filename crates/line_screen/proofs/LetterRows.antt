@@ -1,7 +1,8 @@
 -- Letters over rows: where they end, and their cells row by row.
-use Rattle.std.proofs.Common.{◌≡◌, ℕ, zero, suc, ◌+◌, ◌<◌, ◌≤◌, ◌==◌, nat_lt, Bool, true, false, List, [], ◌∷◌, ◌++◌, map, length, refl, ap, ◌∙◌, arith, if◌then◌else◌}
+use Rattle.std.proofs.Common.{◌≡◌, ℕ, zero, suc, ◌+◌, ◌<◌, ◌≤◌, nat_lt, Bool, true, List, [], ◌∷◌, ◌++◌, map, length, refl, ap, ◌∙◌, arith, if◌then◌else◌}
 use Rattle.std.specs.List.{list_all}
-use Rattle.std.proofs.lemmas.Bool.{and_from, eqb-true, eqb-false, eq-eqb, ne_eqb, lt-ltb}
+use Rattle.std.proofs.lemmas.Bool.{and_from, eq-eqb, ne_eqb, lt-ltb}
+use Rattle.std.proofs.lemmas.Bool.Decides.{nat_tests}
 use Rattle.line_buffer.specs.declared.layout.Position.{Position}
 use Rattle.line_screen.specs.Display.{Placed, cluster_placed_at, right}
 use Rattle.line_screen.specs.Drawing.{next_row, leave, place_after, lay_run}
@@ -15,15 +16,8 @@ use Rattle.line_screen.proofs.RowsKept.{leave_grows}
 pub not_left : (columns : ℕ) (at : Position) → at.col + 1 < columns → leave columns (right 1 at) ≡ right 1 at
 not_left columns at room = ap (λ b. if b then next_row (right 1 at) else right 1 at) (ne_eqb (at.col + 1) columns (λ e. omega arith))
 
-left_full : (columns : ℕ) (at : Position) → at.col + 1 ≡ columns → leave columns (right 1 at) ≡ next_row at
-left_full columns at full = ap (λ b. if b then next_row (right 1 at) else right 1 at) (eq-eqb (at.col + 1) columns full)
-
-low_if : (columns : ℕ) (at : Position) → at.col < columns → (b : Bool) → (at.col + 1 == columns) ≡ b → (if b then next_row (right 1 at) else right 1 at).col < columns
-low_if columns at low true e = omega arith
-low_if columns at low false e = let differ = eqb-false (at.col + 1) columns e in grind arith
-
 pub leave_low : (columns : ℕ) (at : Position) → at.col < columns → (leave columns (right 1 at)).col < columns
-leave_low columns at low = low_if columns at low (at.col + 1 == columns) refl
+leave_low columns at low = grind (arith, nat_tests)
 
 pub letters_low : (columns : ℕ) (cs : List ℕ) (at : Position) → at.col < columns → (place_after columns (map Letter cs) at).col < columns
 letters_low columns [] at low = low
@@ -41,16 +35,12 @@ some_behind columns (x ∷ xs) ys at = some_behind columns xs ys (leave columns 
 
 -- ---- their cells
 
-laid_if : (columns c : ℕ) (cs : List ℕ) (at : Position) → at.col + length (c ∷ cs) < columns → lay columns (plain_letters cs) (right 1 at) ≡ lay_run [] cs (right 1 at)
-    → (b : Bool) → (at.col + 1 == columns) ≡ b → lay columns (plain_letters cs) (if b then next_row (right 1 at) else right 1 at) ≡ lay_run [] cs (right 1 at)
-laid_if columns c cs at room ih true e = let full = eqb-true (at.col + 1) columns e in absurd (omega arith)
-laid_if columns c cs at room ih false e = ih
-
 -- those that don't fill their row
 pub letters_laid : (columns : ℕ) (cs : List ℕ) (at : Position) → at.col + length cs < columns → lay columns (plain_letters cs) at ≡ lay_run [] cs at
 letters_laid columns [] at room = refl
 letters_laid columns (c ∷ cs) at room =
-    ap (λ xs. cluster_placed_at [] (c ∷ []) 1 at ∷ xs) (laid_if columns c cs at room (letters_laid columns cs (right 1 at) (omega arith)) (at.col + 1 == columns) refl)
+    ap (λ xs. cluster_placed_at [] (c ∷ []) 1 at ∷ xs)
+    (ap (lay columns (plain_letters cs)) (not_left columns at (omega arith)) ∙ letters_laid columns cs (right 1 at) (omega arith))
 
 -- those that do, and others in the rows below
 pub record Fills (columns : ℕ) (now more : List ℕ) (at : Position) : Type 0 where
@@ -60,7 +50,7 @@ pub record Fills (columns : ℕ) (now more : List ℕ) (at : Position) : Type 0 
 pub fills : (columns : ℕ) (now more : List ℕ) (at : Position) → at.col < columns → at.col + length now ≡ columns → Fills columns now more at
 fills columns [] more at low full = absurd (omega arith)
 fills columns (x ∷ []) more at low full =
-    let next = left_full columns at (omega arith) in
+    let next : leave columns (right 1 at) ≡ next_row at = ap (λ b. if b then next_row (right 1 at) else right 1 at) (eq-eqb (at.col + 1) columns (omega arith)) in
     record { cells = ap (λ p. cluster_placed_at [] (x ∷ []) 1 at ∷ lay columns (plain_letters more) p) next; ends = ap (place_after columns (map Letter more)) next }
 fills columns (x ∷ (y ∷ now)) more at low full =
     let next = not_left columns at (omega arith) in
@@ -79,13 +69,10 @@ letters_below columns [] at from low = refl
 letters_below columns (c ∷ cs) at from low =
     and_from (nat_lt at.row from.row) _ (lt-ltb at.row from.row low) (letters_below columns cs at (leave columns (right 1 from)) (omega (arith, leave_grows columns (right 1 from))))
 
-further : (at : Position) (n : ℕ) → right n (right 1 at) ≡ right (suc n) at
-further at n = ap (λ m. let p : Position = record { col = m; row = at.row } in p) (next_col at.col n)
-
 pub run_both : (xs ys : List ℕ) (at : Position) → lay_run [] (xs ++ ys) at ≡ lay_run [] xs at ++ lay_run [] ys (right (length xs) at)
 run_both [] ys at = ap (lay_run [] ys) (same_place at)
 run_both (x ∷ xs) ys at =
-    ap (λ zs. cluster_placed_at [] (x ∷ []) 1 at ∷ zs) (run_both xs ys (right 1 at) ∙ ap (λ p. lay_run [] xs (right 1 at) ++ lay_run [] ys p) (further at (length xs)))
+    ap (λ zs. cluster_placed_at [] (x ∷ []) 1 at ∷ zs) (run_both xs ys (right 1 at) ∙ ap (λ n. lay_run [] xs (right 1 at) ++ lay_run [] ys (record { col = n; row = at.row })) (next_col at.col (length xs)))
 
 -- what holds of each letter of a row from a column on, up to another
 pub run_all : (q : Placed → Bool) (row low high : ℕ) → ((c col : ℕ) → low ≤ col → col < high → q (cluster_placed_at [] (c ∷ []) 1 (record { col = col; row = row })) ≡ true)

@@ -1,6 +1,6 @@
 -- Parts of the definitions, as the lemmas name them.
-use Rattle.std.proofs.Common.{ℕ, ◌+◌, ◌-◌, ◌==◌, nat_lt, nat_le, Bool, true, false, not, ◌&&◌, List, [], ◌∷◌, ◌++◌, length, drop, codes, Option, Some, Result, if◌then◌else◌}
-use Rattle.std.specs.List.{filter, flat_map}
+use Rattle.std.proofs.Common.{ℕ, ◌+◌, ◌-◌, ◌==◌, nat_lt, nat_le, Bool, true, false, ◌&&◌, List, [], ◌∷◌, ◌++◌, length, drop, codes, Option, Some, Result, if◌then◌else◌}
+use Rattle.std.specs.List.{flat_map}
 use Rattle.std.specs.Option.{option_map_or}
 use Rattle.line_buffer.specs.declared.layout.Position.{Position}
 use Rattle.line_config.specs.declared.device.Last.{Last}
@@ -13,7 +13,7 @@ use Rattle.line_keys.specs.KeyFeeds.{key_at, paste_at, refusal_of}
 use Rattle.line_keys.specs.Keys.{key_with}
 use Rattle.line_screen.specs.Colours.{SgrSpan, Styles, PaintedItem, items_without_style, painted_letters, painted_item, painted_row, painted_text, first_style, skip, style_bytes, bytes_of_painted_texts, painted_bytes, rest_bytes}
 use Rattle.line_screen.specs.Colours.PaintedItem.{Bare}
-use Rattle.line_screen.specs.Display.{Display, Placed, cluster_placed_at, placed_in, right, touches}
+use Rattle.line_screen.specs.Display.{Display, Placed, cluster_placed_at, placed_in, right}
 use Rattle.line_screen.specs.Drawing.{DrawnItem, Widths, drawn_item, row_break, no_style, erase_to_end, move_bytes, col_move, take_cells_out, pulled_back, clearing_bytes, shown_text}
 use Rattle.line_screen.specs.Drawing.DrawnItem.{NewRow}
 use Rattle.line_screen.specs.Input.{Stop, AtEnd, chars_of, item_of}
@@ -70,9 +70,6 @@ abbrev pub put_down : ℕ → List ℕ → Display → Display
 put_down width run d =
     let new = cluster_placed_at d.pen run width d.cursor in
     record d { placed = placed_in d.cursor new d.placed; cursor = right width d.cursor }
-
-abbrev pub with_blank_cells : ℕ → Display → Display
-with_blank_cells width d = record d { placed = filter (λ p. not (touches d.cursor width p)) d.placed }
 
 -- ---- drawings
 
