@@ -13,7 +13,7 @@ use Rattle.std.proofs.lemmas.Str.{chars-encodes, encodes-chars, scalars-chars, I
 use Rattle.line_help.specs.Completion.{common_beginning, common_to_all, EscapesComeBack, BeginsText, CommonBeginningIsLongest}
 use Rattle.line_help.proofs.CommonPrefixLemmas.{last_cut_le, last_cut_boundary, last_cut_greatest, alike, long}
 use Rattle.line_help.specs.Quotes.{text_without_escapes, unescaped_chars, escaped_chars}
-use Rattle.line_help.specs.declared.completion.quotes.Quote.TheVariants.{Double, Single, None as Unquoted}
+use Rattle.line_help.specs.declared.completion.quotes.Quote.TheVariants.{Single}
 use Rattle.line_help.proofs.QuoteLemmas.{escaped_one, plain_char}
 use Rattle.std.specs.Fmt.Cut.{floor_char_boundary}
 
@@ -43,9 +43,8 @@ comes_back text esc breaks u s is =
     ∙ encodes-chars text u
 
 pub escapes_come_back_holds : EscapesComeBack
-escapes_come_back_holds text esc breaks Double u s is not_single = comes_back text esc breaks u s is
 escapes_come_back_holds text esc breaks Single u s is not_single = absurd (not_single refl)
-escapes_come_back_holds text esc breaks Unquoted u s is not_single = comes_back text esc breaks u s is
+escapes_come_back_holds text esc breaks quote u s is not_single = comes_back text esc breaks u s is
 
 -- what two texts have in common
 begins_on : (a b c : List ℕ) → BeginsText a b → BeginsText b c → BeginsText a c

@@ -16,9 +16,6 @@ use Rattle.line_help.specs.History.{Filed, all_saved, history_with_line, history
 use Rattle.line_help.specs.HistoryText.{LosesRow, behind_row, behind_rows, text_rows, entries_of, entry_of, good_rows, has_bad_row, header, load_answer, load_leaves, rows_answer, texts_of, LoadsSome, rest_after_load}
 use Rattle.line_help.proofs.RowLemmas.{GoodUpTo}
 
-pub not_utf8 : (bytes : List ℕ) → ¬ (IsUtf8 bytes) → is_utf8 bytes ≡ false
-not_utf8 bytes never = false_from_ne_true (is_utf8 bytes) (λ e. never (IsUtf8-from_is_utf8 bytes e))
-
 -- bytes that were read as a text are one; bytes that failed as a text are none
 pub read_utf8 : {X E : Type 0} (P : X → Type 0) (Q : E → Type 0) (bytes : List ℕ) (read : Result X E) → MatchResult read P Q → IsOk read
     → ((x : X) → P x → IsUtf8 bytes) → is_utf8 bytes ≡ true
@@ -27,7 +24,7 @@ read_utf8 P Q bytes (Err y) p e makes = absurd (let k : false ≡ true = e in cc
 
 pub unread_utf8 : {X E : Type 0} (P : X → Type 0) (Q : E → Type 0) (bytes : List ℕ) (read : Result X E) → MatchResult read P Q → is_ok read ≡ false
     → ((y : E) → Q y → ¬ (IsUtf8 bytes)) → is_utf8 bytes ≡ false
-unread_utf8 P Q bytes (Err y) p e makes = not_utf8 bytes (makes y p)
+unread_utf8 P Q bytes (Err y) p e makes = false_from_ne_true (is_utf8 bytes) (λ is. makes y p (IsUtf8-from_is_utf8 bytes is))
 unread_utf8 P Q bytes (Ok x) p e makes = absurd (let k : true ≡ false = e in cc)
 
 pub empty_is_utf8 : (row : List ℕ) → length row ≡ 0 → is_utf8 row ≡ true

@@ -11,7 +11,6 @@ use Rattle.memchr.specs.Find.{IsFirstByte, is_byte}
 use Rattle.line_config.specs.Feed.{Feed, GivesBytes, device_failed, front_of}
 use Rattle.line_config.specs.declared.device.Last.{Last, TheVariants.End, TheVariants.Failed}
 use Rattle.line_config.specs.declared.errors.ReadlineError.{ReadlineError, TheVariants.Memory, TheVariants.Reader}
-use Rattle.script.proofs.ScriptLaws.{ok_not_err}
 use Rattle.line_help.specs.HistoryText.{TakesPiece, text_rows, without_return, behind_row, EndIsMet, LosesRow, ReadsByte, ReadsGood, ReadsRow}
 
 -- no newline stands among these bytes
@@ -182,8 +181,8 @@ pub record RowSoFar (old here : Feed) (xs : List ℕ) : Type 0 where
   pub inside : has_newline xs ≡ false
 
 refused_front : (bytes : List ℕ) (last : Last) → Err device_failed ≡ front_of bytes last → (bytes ≡ []) × (last ≡ Failed)
-refused_front (b ∷ bytes) last is = ok_not_err (Some b) device_failed (sym is)
-refused_front [] End is = ok_not_err None device_failed (sym is)
+refused_front (b ∷ bytes) last is = absurd cc
+refused_front [] End is = absurd cc
 refused_front [] Failed is = (refl, refl)
 
 some_byte : (xs : List ℕ) (empty : Bool) → empty ≡ (length xs == 0) → not empty ≡ true → 0 < length xs

@@ -97,17 +97,12 @@ differ_more (span ∷ []) n s t differ some other = (differ.0, differ.1, (some, 
 differ_more (span ∷ (next ∷ spans)) n s t differ some other =
     (differ.0, differ.1, differ_more (next ∷ spans) n s t differ.2 some other)
 
-pub grown : (len start n : ℕ) (spans : List Span) (s : Style) → start ≤ len
-    → styles_so_far (len + n) start spans s ≡ styles_so_far len start spans s ++ replicate n s
-grown len start n spans s within =
-    let e : (len + n) - start ≡ (len - start) + n = omega arith in
-    rw e (ap (λ styles. span_styles spans ++ styles) (sym (replicate-append-replicate (len - start) n s))
-    ∙ sym (append_assoc (span_styles spans) (replicate (len - start) s) (replicate n s)))
-
 pub put_styles : (len start n more : ℕ) (spans : List Span) (stands s : Style) (styles : List Style) → more ≡ len + n → start ≤ len → stands ≡ s
     → styles_so_far len start spans stands ≡ styles → styles_so_far more start spans stands ≡ styles ++ replicate n s
 put_styles len start n more spans stands s styles e within is so_far =
-    rw (e, ← is, ← so_far) (grown len start n spans stands within)
+    let grown : more - start ≡ (len - start) + n = omega arith in
+    rw (grown, ← is, ← so_far) (ap (λ later. span_styles spans ++ later) (sym (replicate-append-replicate (len - start) n stands))
+    ∙ sym (append_assoc (span_styles spans) (replicate (len - start) stands) (replicate n stands)))
 
 -- ---- pieces
 
