@@ -1,5 +1,5 @@
 -- Where a common beginning ends.
-use Rattle.std.proofs.Common.{◌++◌, cond, length-drop, ◌≡◌, ℕ, zero, suc, ◌+◌, ◌-◌, ◌<◌, ◌≤◌, ◌⊎◌, Bool, true, false, List, [], ◌∷◌, length, take, drop, get_or, refl, sym, ap, ◌∙◌, subst, inl, inr, Some, arith, nat_eq}
+use Rattle.std.proofs.Common.{◌++◌, length-drop, ◌≡◌, ℕ, zero, suc, ◌+◌, ◌-◌, ◌<◌, ◌≤◌, ◌⊎◌, true, false, List, [], ◌∷◌, length, take, drop, get_or, refl, sym, ap, ◌∙◌, subst, inl, inr, Some, arith, nat_eq}
 use Rattle.std.specs.Prelude.{IsUtf8, IsCharBoundary, slice_index}
 use Rattle.std.proofs.lemmas.Bool.{cond_both}
 use Rattle.std.specs.List.{common_prefix_len}
@@ -79,13 +79,12 @@ pub alike : (m : ℕ) (text other : List ℕ) → m ≤ common_prefix_len nat_eq
 alike zero text other le = refl
 alike (suc m) [] other le = absurd (omega arith)
 alike (suc m) (x ∷ xs) [] le = absurd (omega arith)
-alike (suc m) (x ∷ xs) (y ∷ ys) le = go (nat_eq x y) refl le (λ l. alike m xs ys l)
-  where
-    go : (b : Bool) → nat_eq x y ≡ b → suc m ≤ cond b (1 + common_prefix_len nat_eq xs ys) 0 → (m ≤ common_prefix_len nat_eq xs ys → take m xs ≡ take m ys) → x ∷ take m xs ≡ y ∷ take m ys
-    go true e more rest_of =
-        let same : x ≡ y = grind (arith, nat_tests) in
-        let rest : take m xs ≡ take m ys = rest_of (omega arith) in cc
-    go false e more rest_of = absurd (omega arith)
+alike (suc m) (x ∷ xs) (y ∷ ys) le =
+    cond_both (nat_eq x y) (1 + common_prefix_len nat_eq xs ys) 0 (λ n. suc m ≤ n → x ∷ take m xs ≡ y ∷ take m ys)
+    (λ e more.
+    let same : x ≡ y = grind (arith, nat_tests) in
+    let rest : take m xs ≡ take m ys = alike m xs ys (omega arith) in cc)
+    (λ e more. absurd (omega arith)) le
 
 itself : (n : ℕ) → nat_eq n n ≡ true
 itself n = grind arith

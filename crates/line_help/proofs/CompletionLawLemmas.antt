@@ -1,5 +1,5 @@
 -- The laws of completion.
-use Rattle.std.proofs.Common.{◌≡◌, ◌≢◌, ℕ, ◌≤◌, cond, Bool, true, false, List, [], ◌∷◌, ◌++◌, length, take, drop, nat_eq, Some, refl, sym, ap, ◌∙◌, arith, ne_eqb, append_assoc, length-append}
+use Rattle.std.proofs.Common.{◌≡◌, ◌≢◌, ℕ, ◌≤◌, Bool, true, false, List, [], ◌∷◌, ◌++◌, length, take, drop, nat_eq, Some, refl, sym, ap, ◌∙◌, arith, ne_eqb, append_assoc, length-append}
 use Rattle.std.specs.Prelude.{encode_utf8_all, IsUtf8, IsCharBoundary}
 use Rattle.std.proofs.lemmas.Bool.{and_from, and_parts, cond_both}
 use Rattle.std.specs.Str.{chars, all_scalars}
@@ -13,20 +13,20 @@ use Rattle.std.proofs.lemmas.Str.{chars-encodes, encodes-chars, scalars-chars, I
 use Rattle.line_help.specs.Completion.{common_beginning, common_to_all, EscapesComeBack, BeginsText, CommonBeginningIsLongest}
 use Rattle.line_help.proofs.CommonPrefixLemmas.{last_cut_le, last_cut_boundary, last_cut_greatest, alike, long}
 use Rattle.line_help.specs.Quotes.{text_without_escapes, unescaped_chars, escaped_chars}
-use Rattle.line_help.specs.declared.completion.quotes.Quote.TheVariants.{Double, Single, None as Unquoted}
+use Rattle.line_help.specs.declared.completion.quotes.Quote.TheVariants.{Single}
 use Rattle.line_help.proofs.QuoteLemmas.{escaped_one, plain_char}
 use Rattle.std.specs.Fmt.Cut.{floor_char_boundary}
 
 -- escapes, character by character
 read_back : (esc : ℕ) (breaks : ℕ → Bool) → breaks esc ≡ true → (cs : List ℕ) → unescaped_chars esc (escaped_chars esc breaks cs) ≡ cs
 read_back esc breaks is [] = refl
-read_back esc breaks is (c ∷ cs) = go (breaks c) refl (read_back esc breaks is cs)
-  where
-    go : (b : Bool) → breaks c ≡ b → unescaped_chars esc (escaped_chars esc breaks cs) ≡ cs → unescaped_chars esc (cond b (esc ∷ c ∷ []) (c ∷ []) ++ escaped_chars esc breaks cs) ≡ c ∷ cs
-    go true e rest = escaped_one esc c (escaped_chars esc breaks cs) ∙ ap (λ ds. c ∷ ds) rest
-    go false e rest =
-        let ne : c ≢ esc = λ same. let t : true ≡ false = sym is ∙ ap breaks (sym same) ∙ e in cc in
-        plain_char esc c (escaped_chars esc breaks cs) (ne_eqb c esc ne) ∙ ap (λ ds. c ∷ ds) rest
+read_back esc breaks is (c ∷ cs) =
+    let rest = escaped_chars esc breaks cs in
+    cond_both (breaks c) (esc ∷ c ∷ []) (c ∷ []) (λ front. unescaped_chars esc (front ++ rest) ≡ c ∷ cs)
+    (λ _. escaped_one esc c rest ∙ ap (λ ds. c ∷ ds) (read_back esc breaks is cs))
+    (λ e.
+    let ne : c ≢ esc = λ same. let t : true ≡ false = sym is ∙ ap breaks (sym same) ∙ e in absurd cc in
+    plain_char esc c rest (ne_eqb c esc ne) ∙ ap (λ ds. c ∷ ds) (read_back esc breaks is cs))
 
 all_scalar : (esc : ℕ) (breaks : ℕ → Bool) → IsScalar esc → (cs : List ℕ) → all_scalars cs ≡ true → all_scalars (escaped_chars esc breaks cs) ≡ true
 all_scalar esc breaks s [] h = refl
@@ -43,30 +43,12 @@ comes_back text esc breaks u s is =
     ∙ encodes-chars text u
 
 pub escapes_come_back_holds : EscapesComeBack
-escapes_come_back_holds text esc breaks Double u s is not_single = comes_back text esc breaks u s is
 escapes_come_back_holds text esc breaks Single u s is not_single = absurd (not_single refl)
-escapes_come_back_holds text esc breaks Unquoted u s is not_single = comes_back text esc breaks u s is
+escapes_come_back_holds text esc breaks quote u s is not_single = comes_back text esc breaks u s is
 
 -- what two texts have in common
 begins_on : (a b c : List ℕ) → BeginsText a b → BeginsText b c → BeginsText a c
 begins_on a b c p q = (p.0 ++ q.0, q.1 ∙ ap (λ t. t ++ q.0) p.1 ∙ append_assoc a p.0 q.0)
-
-common_is_text : (text other : List ℕ) → IsUtf8 text → IsUtf8 (common_beginning text other)
-common_is_text text other u =
-    let n = common_prefix_len nat_eq text other in
-    IsUtf8-take text (floor_char_boundary text n) u (last_cut_boundary text n u (common_prefix_len-le nat_eq text other).0)
-
-common_begins : (text other : List ℕ) → BeginsText (common_beginning text other) text
-common_begins text other =
-    let n = floor_char_boundary text (common_prefix_len nat_eq text other) in
-    (drop n text, sym (take-append-drop n text))
-
-common_begins_other : (text other : List ℕ) → BeginsText (common_beginning text other) other
-common_begins_other text other =
-    let m = common_prefix_len nat_eq text other in
-    let n = floor_char_boundary text m in
-    let same : take n text ≡ take n other = alike n text other (last_cut_le text m) in
-    (drop n other, sym (take-append-drop n other) ∙ ap (λ t. t ++ drop n other) (sym same))
 
 common_is_longest : (text other front : List ℕ) → IsUtf8 text → IsUtf8 front → BeginsText front text → BeginsText front other → BeginsText front (common_beginning text other)
 common_is_longest text other front u v a b =
@@ -85,13 +67,16 @@ pub common_beginning_is_longest_holds : CommonBeginningIsLongest
 common_beginning_is_longest_holds text [] u =
     (u, All-cons (BeginsText text) text [] ([], sym (append-nil text)) (All-nil (BeginsText text)), λ front v all. All-head (BeginsText front) text [] all)
 common_beginning_is_longest_holds text (other ∷ others) u =
+    let m = common_prefix_len nat_eq text other in
+    let n = floor_char_boundary text m in
     let first = common_beginning text other in
-    let left = common_beginning_is_longest_holds first others (common_is_text text other u) in
+    let left = common_beginning_is_longest_holds first others (IsUtf8-take text n u (last_cut_boundary text m u (common_prefix_len-le nat_eq text other).0)) in
     let whole = common_to_all first others in
+    let begins_other : BeginsText first other = (drop n other, sym (take-append-drop n other) ∙ ap (λ t. t ++ drop n other) (sym (alike n text other (last_cut_le text m)))) in
     let in_first : BeginsText whole first = All-head (BeginsText whole) first others left.1 in (
       left.0,
-      All-cons (BeginsText whole) text (other ∷ others) (begins_on whole first text in_first (common_begins text other))
-          (All-cons (BeginsText whole) other others (begins_on whole first other in_first (common_begins_other text other)) (All-tail (BeginsText whole) first others left.1)),
+      All-cons (BeginsText whole) text (other ∷ others) (begins_on whole first text in_first (drop n text, sym (take-append-drop n text)))
+          (All-cons (BeginsText whole) other others (begins_on whole first other in_first begins_other) (All-tail (BeginsText whole) first others left.1)),
       λ front v all.
           let rest = All-tail (BeginsText front) text (other ∷ others) all in
           left.2 front v (All-cons (BeginsText front) first others

@@ -32,61 +32,6 @@ record Stands (s : Settings) (now : WrittenHistory) : Type 0 where
 which : (a b : ℕ) → (a ≤ b) ⊎ (b < a)
 which a b = grind arith
 
--- a line that becomes an entry
-module _ (s : Settings) (entries rows : List (List ℕ)) (unsaved : ℕ) (line : List ℕ) (taken : ignores_line s entries line ≡ false)
-    (turn : InTurn s [] entries) (fits : length entries ≤ s.max_len) (few : unsaved ≤ length entries)
-    (gives : added_all s [] (rows ++ newest unsaved entries) ≡ entries) where
-  one_more : unsaved + 1 ≤ length (entries_after s entries line) → added_all s [] (rows ++ newest (unsaved + 1) (entries_after s entries line)) ≡ entries_after s entries line
-  one_more le =
-      let small = stays_small s entries line fits in
-      ap (λ xs. added_all s [] (rows ++ newest (unsaved + 1) xs)) (added_when s entries line taken)
-      ∙ ap (λ xs. added_all s [] (rows ++ xs)) (newest_twice (unsaved + 1) s.max_len (entries ++ line ∷ []) (omega arith) ∙ newest_with unsaved entries line)
-      ∙ ap (λ xs. added_all s [] xs) (sym (append_assoc rows (newest unsaved entries) (line ∷ [])))
-      ∙ added_in_parts s [] (rows ++ newest unsaved entries) (line ∷ [])
-      ∙ ap (λ xs. entries_after s xs line) gives
-
-  all_are_new : length (entries_after s entries line) < unsaved + 1 → added_all s [] (rows ++ newest (length (entries_after s entries line)) (entries_after s entries line)) ≡ entries_after s entries line
-  all_are_new lt =
-      let l : length (entries_after s entries line) ≡ length (entries ++ line ∷ []) - (length (entries ++ line ∷ []) - s.max_len) =
-      ap (λ xs. length xs) (added_when s entries line taken) ∙ length-newest s.max_len (entries ++ line ∷ []) in
-      let m = length-append entries (line ∷ []) in
-      ap (λ xs. added_all s [] (rows ++ xs)) (all_new (length (entries_after s entries line)) (entries_after s entries line) (omega arith))
-      ∙ added_in_parts s [] rows (entries_after s entries line)
-      ∙ overwritten s (added_all s [] rows) (entries_after s entries line) (all_small s [] rows (omega arith)) (stays_in_turn s entries line turn) (omega arith)
-
-after_adding : (s : Settings) (now : WrittenHistory) (line : List ℕ) → Stands s now → Stands s (after_step s (Adds line) now)
-after_adding s now line r = by_case (ignores_line s r.entries line) refl where
-  is_ignored : ignores_line s r.entries line ≡ true → history_with_line (filed_of s r.entries r.unsaved) line ≡ filed_of s r.entries r.unsaved
-  is_ignored e = rw e refl
-
-  counted : ignores_line s r.entries line ≡ false → history_with_line (filed_of s r.entries r.unsaved) line ≡ filed_of s (entries_after s r.entries line) (min (r.unsaved + 1) (length (entries_after s r.entries line)))
-  counted e = rw e refl
-
-  taken : (count : ℕ) → ignores_line s r.entries line ≡ false → min (r.unsaved + 1) (length (entries_after s r.entries line)) ≡ count → count ≤ length (entries_after s r.entries line)
-      → added_all s [] (r.rows ++ newest count (entries_after s r.entries line)) ≡ entries_after s r.entries line → Stands s (after_step s (Adds line) now)
-  taken count e f few gives = record {
-    entries = entries_after s r.entries line;
-    unsaved = count;
-    rows = r.rows;
-    is = ap (λ h. history_with_line h line) r.is ∙ counted e ∙ ap (λ n. filed_of s (entries_after s r.entries line) n) f;
-    text = r.text;
-    back = r.back;
-    turn = stays_in_turn s r.entries line r.turn;
-    fits = stays_small s r.entries line r.fits;
-    few = few;
-    gives = gives;
-  }
-
-  by_case : (b : Bool) → ignores_line s r.entries line ≡ b → Stands s (after_step s (Adds line) now)
-  by_case true e =
-      let same : now.history ≡ history_with_line now.history line = r.is ∙ sym (ap (λ h. history_with_line h line) r.is ∙ is_ignored e) in
-      subst (λ h. Stands s (record { text = now.text; history = h })) same r
-  by_case false e =
-      elim (which (r.unsaved + 1) (length (entries_after s r.entries line))) [
-        | inl le ↦ taken (r.unsaved + 1) e (min-eq_left le) le (one_more s r.entries r.rows r.unsaved line e r.turn r.fits r.few r.gives le)
-        | inr lt ↦ taken (length (entries_after s r.entries line)) e (min-eq_right (omega arith)) (omega arith) (all_are_new s r.entries r.rows r.unsaved line e r.turn r.fits r.few r.gives lt)
-      ]
-
 -- if nothing is new after the rows, they give the history
 none_behind : (s : Settings) (rows entries : List (List ℕ)) → added_all s [] (rows ++ newest 0 entries) ≡ added_all s [] rows
 none_behind s rows entries = ap (λ xs. added_all s [] (rows ++ xs)) (none_new entries) ∙ ap (λ xs. added_all s [] xs) (append-nil rows)
@@ -106,15 +51,10 @@ after_writing s now text rows r of back gives = record {
   gives = none_behind s rows r.entries ∙ gives;
 }
 
-all_written : (s : Settings) (now : WrittenHistory) (r : Stands s now) → r.unsaved ≡ 0 → added_all s [] r.rows ≡ r.entries
-all_written s now r e = sym (none_behind s r.rows r.entries) ∙ ap (λ n. added_all s [] (r.rows ++ newest n r.entries)) (sym e) ∙ r.gives
-
-after_saving : (s : Settings) (now : WrittenHistory) → CanStep Saves now → Stands s now → Stands s (after_step s Saves now)
-after_saving s now can r = by_case (now.history.unsaved == 0) refl where
-  by_case : (b : Bool) → (now.history.unsaved == 0) ≡ b → Stands s (after_step s Saves now)
-  by_case true e = rw e (after_writing s now now.text r.rows r r.text r.back (all_written s now r (sym (ap (λ h. h.unsaved) r.is) ∙ (Decides-eqb now.history.unsaved 0).0 e)))
-  by_case false e = rw e (after_writing s now (saved_text now.history.kept.entries) now.history.kept.entries r refl can
-      (ap (λ h. added_all s [] h.kept.entries) r.is ∙ gives_itself s r.entries r.turn r.fits))
+all_written : (s : Settings) (now : WrittenHistory) (r : Stands s now) → now.history.unsaved ≡ 0 → added_all s [] r.rows ≡ r.entries
+all_written s now r e =
+    let none : r.unsaved ≡ 0 = sym (ap (λ h. h.unsaved) r.is) ∙ e in
+    sym (none_behind s r.rows r.entries) ∙ ap (λ n. added_all s [] (r.rows ++ newest n r.entries)) (sym none) ∙ r.gives
 
 back_of_rest : (k : ℕ) (xs : List (List ℕ)) → CanComeBack xs → CanComeBack (drop k xs)
 back_of_rest zero xs can = can
@@ -124,8 +64,64 @@ back_of_rest (suc k) (x ∷ xs) can = back_of_rest k xs can.1
 rows_behind : (text : List ℕ) (rows more : List (List ℕ)) → text ≡ saved_text rows → text ++ rows_text more ≡ saved_text (rows ++ more)
 rows_behind text rows more is = ap (λ t. t ++ rows_text more) is ∙ ap (λ t. header ++ (10 ∷ t)) (sym (flat_map-append row_of rows more))
 
-after_appending : (s : Settings) (now : WrittenHistory) → CanStep Appends now → Stands s now → Stands s (after_step s Appends now)
-after_appending s now can r = by_case (now.history.unsaved == 0) refl where
+made_is : (s : Settings) (rows : List (List ℕ)) → history_made_of s rows ≡ filed_of s (added_all s [] rows) 0
+made_is s rows = let kept = filed_kept (nothing_filed s) rows in rw kept refl
+
+loaded_is : (s : Settings) (text : List ℕ) (rows : List (List ℕ)) → text ≡ saved_text rows → CanComeBack rows → history_from_text s text ≡ filed_of s (added_all s [] rows) 0
+loaded_is s text rows is back = ap (λ t. history_from_text s t) is ∙ saved_back s rows back ∙ made_is s rows
+
+after_one : (s : Settings) (now : WrittenHistory) (step : HistoryStep) → CanStep step now → Stands s now → Stands s (after_step s step now)
+after_one s now (Adds line) can r = by_case (ignores_line s r.entries line) refl where
+  -- a line that becomes an entry is new, with those before it or as the first of all that are left
+  on : ignores_line s r.entries line ≡ false → r.unsaved + 1 ≤ length (entries_after s r.entries line)
+      → added_all s [] (r.rows ++ newest (r.unsaved + 1) (entries_after s r.entries line)) ≡ entries_after s r.entries line
+  on e le =
+      let small = stays_small s r.entries line r.fits in
+      ap (λ xs. added_all s [] (r.rows ++ newest (r.unsaved + 1) xs)) (added_when s r.entries line e)
+      ∙ ap (λ xs. added_all s [] (r.rows ++ xs)) (newest_twice (r.unsaved + 1) s.max_len (r.entries ++ line ∷ []) (omega arith) ∙ newest_with r.unsaved r.entries line)
+      ∙ ap (λ xs. added_all s [] xs) (sym (append_assoc r.rows (newest r.unsaved r.entries) (line ∷ [])))
+      ∙ added_in_parts s [] (r.rows ++ newest r.unsaved r.entries) (line ∷ [])
+      ∙ ap (λ xs. entries_after s xs line) r.gives
+
+  over : ignores_line s r.entries line ≡ false → length (entries_after s r.entries line) < r.unsaved + 1
+      → added_all s [] (r.rows ++ newest (length (entries_after s r.entries line)) (entries_after s r.entries line)) ≡ entries_after s r.entries line
+  over e lt =
+      let after = entries_after s r.entries line in
+      let l : length after ≡ length (r.entries ++ line ∷ []) - (length (r.entries ++ line ∷ []) - s.max_len) =
+      ap (λ xs. length xs) (added_when s r.entries line e) ∙ length-newest s.max_len (r.entries ++ line ∷ []) in
+      let m = length-append r.entries (line ∷ []) in
+      let few = r.few in
+      ap (λ xs. added_all s [] (r.rows ++ xs)) (all_new (length after) after (omega arith))
+      ∙ added_in_parts s [] r.rows after
+      ∙ overwritten s (added_all s [] r.rows) after (all_small s [] r.rows (omega arith)) (stays_in_turn s r.entries line r.turn) (omega arith)
+
+  by_case : (b : Bool) → ignores_line s r.entries line ≡ b → Stands s (after_step s (Adds line) now)
+  by_case true e =
+      let same : now.history ≡ history_with_line now.history line = r.is ∙ sym (ap (λ h. history_with_line h line) r.is ∙ rw e refl) in
+      subst (λ h. Stands s (record { text = now.text; history = h })) same r
+  by_case false e =
+      let after = entries_after s r.entries line in
+      record {
+        entries = after;
+        unsaved = min (r.unsaved + 1) (length after);
+        rows = r.rows;
+        is = ap (λ h. history_with_line h line) r.is ∙ rw e refl;
+        text = r.text;
+        back = r.back;
+        turn = stays_in_turn s r.entries line r.turn;
+        fits = stays_small s r.entries line r.fits;
+        few = omega arith;
+        gives = elim (which (r.unsaved + 1) (length after)) [
+          | inl le ↦ rw (min-eq_left le) (on e le)
+          | inr lt ↦ let le : length after ≤ r.unsaved + 1 = omega arith in rw (min-eq_right le) (over e lt)
+        ];
+      }
+after_one s now Saves can r = by_case (now.history.unsaved == 0) refl where
+  by_case : (b : Bool) → (now.history.unsaved == 0) ≡ b → Stands s (after_step s Saves now)
+  by_case true e = rw e (after_writing s now now.text r.rows r r.text r.back (all_written s now r ((Decides-eqb now.history.unsaved 0).0 e)))
+  by_case false e = rw e (after_writing s now (saved_text now.history.kept.entries) now.history.kept.entries r refl can
+      (ap (λ h. added_all s [] h.kept.entries) r.is ∙ gives_itself s r.entries r.turn r.fits))
+after_one s now Appends can r = by_case (now.history.unsaved == 0) refl where
   new : List (List ℕ)
   new = newest now.history.unsaved now.history.kept.entries
 
@@ -135,20 +131,12 @@ after_appending s now can r = by_case (now.history.unsaved == 0) refl where
   by_case : (b : Bool) → (now.history.unsaved == 0) ≡ b → Stands s (after_step s Appends now)
   by_case true e =
       rw (e, append-nil now.text)
-      (after_writing s now now.text r.rows r r.text r.back (all_written s now r (sym (ap (λ h. h.unsaved) r.is) ∙ (Decides-eqb now.history.unsaved 0).0 e)))
+      (after_writing s now now.text r.rows r r.text r.back (all_written s now r ((Decides-eqb now.history.unsaved 0).0 e)))
   by_case false e =
       rw e (after_writing s now (now.text ++ rows_text new) (r.rows ++ new) r (rows_behind now.text r.rows new r.text)
       (can_both r.rows new r.back (back_of_rest (length now.history.kept.entries - now.history.unsaved) now.history.kept.entries can))
       (ap (λ xs. added_all s [] (r.rows ++ xs)) same ∙ r.gives))
-
-made_is : (s : Settings) (rows : List (List ℕ)) → history_made_of s rows ≡ filed_of s (added_all s [] rows) 0
-made_is s rows = let kept = filed_kept (nothing_filed s) rows in rw kept refl
-
-loaded_is : (s : Settings) (text : List ℕ) (rows : List (List ℕ)) → text ≡ saved_text rows → CanComeBack rows → history_from_text s text ≡ filed_of s (added_all s [] rows) 0
-loaded_is s text rows is back = ap (λ t. history_from_text s t) is ∙ saved_back s rows back ∙ made_is s rows
-
-after_loading : (s : Settings) (now : WrittenHistory) → Stands s now → Stands s (after_step s Loads now)
-after_loading s now r = record {
+after_one s now Loads can r = record {
   entries = added_all s [] r.rows;
   unsaved = 0;
   rows = r.rows;
@@ -161,12 +149,6 @@ after_loading s now r = record {
   gives = none_behind s r.rows (added_all s [] r.rows);
 }
 
-after_one : (s : Settings) (now : WrittenHistory) (step : HistoryStep) → CanStep step now → Stands s now → Stands s (after_step s step now)
-after_one s now (Adds line) can r = after_adding s now line r
-after_one s now Saves can r = after_saving s now can r
-after_one s now Appends can r = after_appending s now can r
-after_one s now Loads can r = after_loading s now r
-
 -- what steps make of a history and its text
 abbrev after_steps : Settings → List HistoryStep → WrittenHistory → WrittenHistory
 after_steps s steps now = fold (λ n step. after_step s step n) now steps
@@ -177,11 +159,8 @@ after_all s (step ∷ steps) now can r = after_all s steps (after_step s step no
 
 comes_back : (s : Settings) (now : WrittenHistory) → Stands s now → now.history.unsaved ≡ 0 → history_from_text s now.text ≡ now.history
 comes_back s now r e =
-    let none : r.unsaved ≡ 0 = sym (ap (λ h. h.unsaved) r.is) ∙ e in
-    loaded_is s now.text r.rows r.text r.back
-    ∙ ap (λ xs. filed_of s xs 0) (all_written s now r none)
-    ∙ ap (λ n. filed_of s r.entries n) (sym none)
-    ∙ sym r.is
+    loaded_is s now.text r.rows r.text r.back ∙ ap (λ xs. filed_of s xs 0) (all_written s now r e)
+    ∙ ap (λ n. filed_of s r.entries n) (sym e ∙ ap (λ h. h.unsaved) r.is) ∙ sym r.is
 
 -- a history made of these lines, with all of it saved
 abbrev just_saved : Settings → List (List ℕ) → WrittenHistory

@@ -17,7 +17,7 @@ pending true rest = 92 ∷ rest
 abbrev pub progress : Bool → List ℕ → List ℕ → Option (List ℕ)
 progress escape out rest = option_map (λ text. out ++ text) (unescaped_row (pending escape rest))
 
-pub from_nothing : (o : Option (List ℕ)) → option_map (λ text. [] ++ text) o ≡ o
+from_nothing : (o : Option (List ℕ)) → option_map (λ text. [] ++ text) o ≡ o
 from_nothing None = refl
 from_nothing (Some text) = refl
 
@@ -40,73 +40,48 @@ plain_bytes (x ∷ xs) rest plain =
 pub no_byte : (c b k : ℕ) → c ≢ b → b < 128 → k < length (encode_utf8 c) → get_or (encode_utf8 c) k 0 ≢ b
 no_byte c b k ne small h e = ne (inside_one c [] (encode_utf8 c) k (sym (append-nil (encode_utf8 c))) h (omega (arith, e)) ∙ e)
 
-pub plain_char : (c : ℕ) (out rest : List ℕ) → c ≢ 92 → progress false out (encode_utf8 c ++ rest) ≡ progress false (out ++ encode_utf8 c) rest
-plain_char c out rest ne =
-    ap (λ o. option_map (λ text. out ++ text) o) (plain_bytes (encode_utf8 c) rest (λ k h. no_byte c 92 k ne (omega arith) h))
-    ∙ map_twice out (encode_utf8 c) (unescaped_row rest)
+-- a step of reading, by the character
+pub plain_char : (escape : Bool) (c : ℕ) (out rest : List ℕ) → escape ≡ false → c ≢ 92
+    → progress escape out (encode_utf8 c ++ rest) ≡ progress escape (out ++ encode_utf8 c) rest
+plain_char escape c out rest none ne =
+    rw none (ap (λ o. option_map (λ text. out ++ text) o) (plain_bytes (encode_utf8 c) rest (λ k h. no_byte c 92 k ne (omega arith) h))
+    ∙ map_twice out (encode_utf8 c) (unescaped_row rest))
 
-pub backslash_taken : (out rest : List ℕ) → progress false out (encode_utf8 92 ++ rest) ≡ progress true out rest
+pub backslash_taken : (escape : Bool) (c : ℕ) (out rest : List ℕ) → escape ≡ false → c ≡ 92
+    → progress escape out (encode_utf8 c ++ rest) ≡ progress true out rest
 unfolding encode
-backslash_taken out rest = refl
+backslash_taken escape c out rest none is = rw (none, is) refl
 
-pub newline_read : (out rest : List ℕ) → progress true out (encode_utf8 110 ++ rest) ≡ progress false (out ++ encode_utf8 10) rest
+pub newline_read : (escape : Bool) (c : ℕ) (out rest : List ℕ) → escape ≡ true → c ≡ 110
+    → progress escape out (encode_utf8 c ++ rest) ≡ progress false (out ++ encode_utf8 10) rest
 unfolding encode
-newline_read out rest = map_twice out (10 ∷ []) (unescaped_row rest)
+newline_read escape c out rest some is = rw (some, is) (map_twice out (10 ∷ []) (unescaped_row rest))
 
-pub backslash_read : (out rest : List ℕ) → progress true out (encode_utf8 92 ++ rest) ≡ progress false (out ++ encode_utf8 92) rest
+pub backslash_read : (escape : Bool) (c : ℕ) (out rest : List ℕ) → escape ≡ true → c ≡ 92
+    → progress escape out (encode_utf8 c ++ rest) ≡ progress false (out ++ encode_utf8 92) rest
 unfolding encode
-backslash_read out rest = map_twice out (92 ∷ []) (unescaped_row rest)
+backslash_read escape c out rest some is = rw (some, is) (map_twice out (92 ∷ []) (unescaped_row rest))
 
-wrong_byte : (c : ℕ) (bs : List ℕ) → c ≢ 110 → c ≢ 92 → unescaped_row (92 ∷ (c ∷ bs)) ≡ None
-wrong_byte c bs ne nf = rw (ne_eqb c 110 ne, ne_eqb c 92 nf) refl
+pub begun : (out rest : List ℕ) → out ≡ [] → progress false out rest ≡ unescaped_row rest
+begun out rest e = rw e (from_nothing (unescaped_row rest))
 
 wrong_bytes : (xs rest : List ℕ) → 0 < length xs → get_or xs 0 0 ≢ 110 → get_or xs 0 0 ≢ 92 → unescaped_row (92 ∷ (xs ++ rest)) ≡ None
 wrong_bytes [] rest some ne nf = absurd (omega arith)
-wrong_bytes (x ∷ xs) rest some ne nf = wrong_byte x (xs ++ rest) ne nf
+wrong_bytes (x ∷ xs) rest some ne nf = rw (ne_eqb x 110 ne, ne_eqb x 92 nf) refl
 
-pub wrong_char : (c : ℕ) (out rest : List ℕ) → c ≢ 110 → c ≢ 92 → progress true out (encode_utf8 c ++ rest) ≡ None
-wrong_char c out rest ne nf =
+pub wrong_char : (escape : Bool) (c : ℕ) (out rest : List ℕ) → escape ≡ true → c ≢ 110 → c ≢ 92 → progress escape out (encode_utf8 c ++ rest) ≡ None
+wrong_char escape c out rest is ne nf =
     let some : 0 < length (encode_utf8 c) = omega (arith, length-encode c, len_utf8_bounds c) in
-    rw (wrong_bytes (encode_utf8 c) rest some (no_byte c 110 0 ne (omega arith) some) (no_byte c 92 0 nf (omega arith) some)) refl
-
-pub begun : (out row rest : List ℕ) → out ≡ [] → rest ≡ row → unescaped_row row ≡ progress false out rest
-begun out row rest e f = rw (e, f) (sym (from_nothing (unescaped_row row)))
-
--- a step of reading, by the character
-pub plain_read : (row out more before left : List ℕ) (escape : Bool) (c : ℕ) → unescaped_row row ≡ progress escape out before → before ≡ encode_utf8 c ++ left → escape ≡ false → c ≢ 92
-    → more ≡ out ++ encode_utf8 c → unescaped_row row ≡ progress escape more left
-plain_read row out more before left escape c so_far here none ne put =
-    so_far ∙ rw (here, none, put) (plain_char c out left ne)
-
-pub escape_read : (row out before left : List ℕ) (escape : Bool) (c : ℕ) → unescaped_row row ≡ progress escape out before → before ≡ encode_utf8 c ++ left → escape ≡ false → c ≡ 92
-    → unescaped_row row ≡ progress true out left
-escape_read row out before left escape c so_far here none is =
-    so_far ∙ rw (here, none, is) (backslash_taken out left)
-
-pub escaped_newline_read : (row out more before left : List ℕ) (escape : Bool) (c : ℕ) → unescaped_row row ≡ progress escape out before → before ≡ encode_utf8 c ++ left → escape ≡ true → c ≡ 110
-    → more ≡ out ++ encode_utf8 10 → unescaped_row row ≡ progress false more left
-escaped_newline_read row out more before left escape c so_far here some is put =
-    so_far ∙ rw (here, some, is, put) (newline_read out left)
-
-pub escaped_backslash_read : (row out more before left : List ℕ) (escape : Bool) (c : ℕ) → unescaped_row row ≡ progress escape out before → before ≡ encode_utf8 c ++ left → escape ≡ true → c ≡ 92
-    → more ≡ out ++ encode_utf8 92 → unescaped_row row ≡ progress false more left
-escaped_backslash_read row out more before left escape c so_far here some is put =
-    so_far ∙ rw (here, some, is, put) (backslash_read out left)
-
--- a character that no backslash may precede
-pub wrong_read : (row out before left : List ℕ) (escape : Bool) (c : ℕ) → unescaped_row row ≡ progress escape out before → before ≡ encode_utf8 c ++ left → escape ≡ true → c ≢ 110 → c ≢ 92
-    → None ≡ unescaped_row row
-wrong_read row out before left escape c so_far here some ne nf =
-    sym (so_far ∙ rw (here, some) (wrong_char c out left ne nf))
+    rw (is, wrong_bytes (encode_utf8 c) rest some (no_byte c 110 0 ne (omega arith) some) (no_byte c 92 0 nf (omega arith) some)) refl
 
 -- the row's end
-pub ends_open : (row out left : List ℕ) (escape : Bool) → unescaped_row row ≡ progress escape out left → left ≡ [] → escape ≡ true → None ≡ unescaped_row row
-ends_open row out left escape so_far none some = sym (so_far ∙ rw (none, some) refl)
+pub ends_open : (escape : Bool) (out rest : List ℕ) → escape ≡ true → rest ≡ [] → progress escape out rest ≡ None
+ends_open escape out rest is none = rw (is, none) refl
 
-pub ends_whole : (row out left : List ℕ) (escape : Bool) → unescaped_row row ≡ progress escape out left → left ≡ [] → escape ≡ false → Some out ≡ unescaped_row row
-ends_whole row out left escape so_far none closed = sym (so_far ∙ rw (none, closed) (ap (λ t. Some t) (append-nil out)))
+pub ends_whole : (escape : Bool) (out rest : List ℕ) → escape ≡ false → rest ≡ [] → progress escape out rest ≡ Some out
+ends_whole escape out rest closed none = rw (closed, none) (ap (λ t. Some t) (append-nil out))
 
-pub ruleset escape_steps = (plain_char, backslash_taken, newline_read, backslash_read, wrong_char, from_nothing)
+pub ruleset escape_steps = (plain_char, backslash_taken, newline_read, backslash_read, wrong_char, ends_open, ends_whole, begun)
 
 -- ---- a row without a backslash
 

@@ -1,9 +1,10 @@
 -- Paths cut at their last slash, and listed names one after the other.
-use Rattle.std.proofs.Common.{◌≡◌, ◌≢◌, ℕ, ◌+◌, ◌-◌, ◌<◌, ◌==◌, not, true, false, List, [], ◌∷◌, ◌++◌, length, get_or, drop, Some, refl, sym, ap, ◌∙◌, arith, add-one, drop-cons, append_assoc, ne_eqb}
+use Rattle.std.proofs.Common.{◌≡◌, ◌≢◌, ℕ, ◌+◌, ◌-◌, ◌<◌, ◌==◌, not, true, false, List, [], ◌∷◌, ◌++◌, length, get_or, drop, Some, refl, sym, arith, append_assoc, ne_eqb}
 use Rattle.std.specs.Prelude.{nat_eq, IsUtf8, IsCharBoundary}
 use Rattle.std.specs.List.{starts_with, suffix_len}
 use Rattle.std.specs.Cmp.{IsStrictWeakOrder}
 use Rattle.std.specs.Cmp.Lexicographic.{nat_list_cmp_total}
+use Rattle.std.proofs.lemmas.List.{drop_more}
 use Rattle.std.proofs.lemmas.List.Sorted.{ranks_by}
 use Rattle.std.proofs.lemmas.List.Sums.{suffix_len_is}
 use Rattle.std.proofs.lemmas.Str.{IsCharBoundary-after_ascii}
@@ -46,29 +47,14 @@ behind_quote text within u e =
     (stands.0, IsCharBoundary-after_ascii text within.0 u stands.0 (close_is_ascii within.1 (get_or text within.0 0) stands.1))
 
 -- one name more
-at_name : (all : List Named) (i : ℕ) (named : Named) → i < length all → named ≡ get_or all i named → drop i all ≡ named ∷ drop (i + 1) all
-at_name all i named inside is = rw (add-one, drop-cons all i named, ← is) refl
-
 pub name_taken : (quote : Quote) (folder name : List ℕ) (all : List Named) (i : ℕ) (named : Named) (done : List Offered) → i < length all → named ≡ get_or all i named → starts_with nat_eq named.name name ≡ true
     → done ++ offered_names quote folder name (drop i all) ≡ (done ++ (offered_name quote folder named ∷ [])) ++ offered_names quote folder name (drop (i + 1) all)
 name_taken quote folder name all i named done inside is begins =
-    rw (at_name all i named inside is, begins) (sym (append_assoc done (offered_name quote folder named ∷ []) (offered_names quote folder name (drop (i + 1) all))))
+    rw (drop_more all i named inside, ← is, begins) (sym (append_assoc done (offered_name quote folder named ∷ []) (offered_names quote folder name (drop (i + 1) all))))
 
 pub name_skipped : (quote : Quote) (folder name : List ℕ) (all : List Named) (i : ℕ) (named : Named) → i < length all → named ≡ get_or all i named → starts_with nat_eq named.name name ≡ false
     → offered_names quote folder name (drop i all) ≡ offered_names quote folder name (drop (i + 1) all)
-name_skipped quote folder name all i named inside is begins = rw (at_name all i named inside is, begins) refl
-
-pub taken_turn : (quote : Quote) (folder name : List ℕ) (all : List Named) (i : ℕ) (named : Named) (done after : List Offered) (pair : Offered) → i < length all → named ≡ get_or all i named → starts_with nat_eq named.name name ≡ true
-    → done ++ offered_names quote folder name (drop i all) ≡ offered_names quote folder name all → after ≡ done ++ (pair ∷ []) → pair ≡ offered_name quote folder named
-    → after ++ offered_names quote folder name (drop (i + 1) all) ≡ offered_names quote folder name all
-taken_turn quote folder name all i named done after pair inside is begins whole e f =
-    rw (e, f) (sym (name_taken quote folder name all i named done inside is begins) ∙ whole)
-
-pub skipped_turn : (quote : Quote) (folder name : List ℕ) (all : List Named) (i : ℕ) (named : Named) (done after : List Offered) → i < length all → named ≡ get_or all i named → starts_with nat_eq named.name name ≡ false
-    → done ++ offered_names quote folder name (drop i all) ≡ offered_names quote folder name all → after ≡ done
-    → after ++ offered_names quote folder name (drop (i + 1) all) ≡ offered_names quote folder name all
-skipped_turn quote folder name all i named done after inside is begins whole e =
-    rw e (ap (λ rest. done ++ rest) (sym (name_skipped quote folder name all i named inside is begins)) ∙ whole)
+name_skipped quote folder name all i named inside is begins = rw (drop_more all i named inside, ← is, begins) refl
 
 pub display_order : IsStrictWeakOrder is_displayed_before
 display_order = ranks_by nat_list_cmp_total (λ (offered : Offered). offered.display)

@@ -1,7 +1,7 @@
 -- The nearest hit of a search.
 use Rattle.std.proofs.Common.{◌≡◌, ◌≢◌, ℕ, suc, ◌+◌, ◌-◌, ◌<◌, ◌≤◌, ◌⊎◌, inl, inr, Bool, true, false, List, [], ◌∷◌, ◌++◌, length, drop, take, reverse, eqb, refl, sym, ap, ◌∙◌, subst, append_assoc, Option, Some, None, option_map, arith, length-append, length-drop, true≢false, ne_eqb}
 use Rattle.std.specs.Prelude.{if◌then◌else◌, ◌||◌, ◌==◌, nat_le, unwrap_or}
-use Rattle.std.proofs.lemmas.Bool.{eqb-true, or_parts}
+use Rattle.std.proofs.lemmas.Bool.{cond_both, eqb-true, or_from, or_parts}
 use Rattle.std.proofs.lemmas.Option.{cond_some, none-some}
 use Rattle.std.specs.List.{starts_with, All}
 use Rattle.std.proofs.Math.Seq.{take-append-add}
@@ -31,11 +31,9 @@ begins term text e = (starts_is Decides-eqb text term (starts_with eqb text term
 -- ---- a term in a text
 
 first_found : (term text : List ℕ) (pos : ℕ) → first_hit term text ≡ Some pos → TermAt term text pos
-first_found term [] pos e = go term e
-  where
-    go : (term : List ℕ) → (if length term == 0 then Some 0 else None) ≡ Some pos → TermAt term [] pos
-    go [] e = ([], [], refl, sym (ap (λ o. unwrap_or o pos) e))
-    go (t ∷ term) e = absurd (let f : length (t ∷ term) ≡ 0 = eqb-true (length (t ∷ term)) 0 (cond_some (length (t ∷ term) == 0) 0 pos e).0 in omega arith)
+first_found [] [] pos e = ([], [], refl, sym (ap (λ o. unwrap_or o pos) e))
+first_found (t ∷ term) [] pos e =
+    absurd (let f : length (t ∷ term) ≡ 0 = eqb-true (length (t ∷ term)) 0 (cond_some (length (t ∷ term) == 0) 0 pos e).0 in omega arith)
 first_found term (b ∷ bs) pos e = elim (some_if (starts_with eqb (b ∷ bs) term) 0 pos (option_map suc (first_hit term bs)) e) [
   | inl h ↦ ([], drop (length term) (b ∷ bs), begins term (b ∷ bs) h.0, sym h.1)
   | inr h ↦ (
@@ -46,36 +44,26 @@ first_found term (b ∷ bs) pos e = elim (some_if (starts_with eqb (b ∷ bs) te
 
 -- it is found there or before
 abbrev FoundUpTo : ℕ → Option ℕ → Type 0
-FoundUpTo n None = ⊥
-FoundUpTo n (Some pos) = pos ≤ n
-
-up_to_more : (n : ℕ) (o : Option ℕ) → FoundUpTo n o → FoundUpTo (suc n) (option_map suc o)
-up_to_more n None h = h
-up_to_more n (Some pos) h = let le : pos ≤ n = h in omega arith
-
-found_if : (n : ℕ) (b : Bool) (other : Option ℕ) → (b ≡ false → FoundUpTo n other) → FoundUpTo n (if b then Some 0 else other)
-found_if n true other h = omega arith
-found_if n false other h = h refl
-
-empty_term : (term rest : List ℕ) → [] ≡ term ++ rest → (length term == 0) ≡ true
-empty_term [] rest e = refl
-empty_term (t ∷ term) rest e = cc
+FoundUpTo n found = (pos : ℕ) × (found ≡ Some pos) × (pos ≤ n)
 
 up_to : (term front rest text : List ℕ) → text ≡ front ++ (term ++ rest) → FoundUpTo (length front) (first_hit term text)
-up_to term [] rest [] e = subst (λ b. FoundUpTo 0 (if b then Some 0 else None)) (sym (empty_term term rest e)) (omega arith)
+up_to [] [] rest [] e = (0, refl, omega arith)
+up_to (t ∷ term) [] rest [] e = absurd cc
 up_to term [] rest (b ∷ bs) e =
     let all : starts_with eqb (b ∷ bs) term ≡ true = subst (λ t. starts_with eqb t term ≡ true) (sym e) (begins_with_itself term rest) in
-    subst (λ x. FoundUpTo 0 (if x then Some 0 else option_map suc (first_hit term bs))) (sym all) (omega arith)
-up_to term (f ∷ front) rest [] e = cc
+    (0, rw all refl, omega arith)
+up_to term (f ∷ front) rest [] e = absurd cc
 up_to term (f ∷ front) rest (b ∷ bs) e =
     let later : bs ≡ front ++ (term ++ rest) = cc in
-    found_if (suc (length front)) (starts_with eqb (b ∷ bs) term) (option_map suc (first_hit term bs)) (λ h. up_to_more (length front) (first_hit term bs) (up_to term front rest bs later))
+    let found = up_to term front rest bs later in
+    cond_both (starts_with eqb (b ∷ bs) term) (Some 0) (option_map suc (first_hit term bs)) (FoundUpTo (suc (length front))) (λ _. (0, refl, omega arith))
+    (λ _. (suc found.0, ap (option_map suc) found.1, omega (arith, found.2)))
 
 least : (term text : List ℕ) (pos other : ℕ) → first_hit term text ≡ Some pos → TermAt term text other → pos ≤ other
 least term text pos other e at =
-    let le : pos ≤ length at.0 = subst (FoundUpTo (length at.0)) e (up_to term at.0 at.1 text at.2) in
-    let same : other ≡ length at.0 = at.3 in
-    omega arith
+    let found = up_to term at.0 at.1 text at.2 in
+    let same : found.0 ≡ pos = ap (λ o. unwrap_or o pos) (sym found.1 ∙ e) in
+    omega (arith, found.2, at.3)
 
 -- ---- a search's test of an entry
 
@@ -92,7 +80,7 @@ starts_at_zero term entry at = go at.0 at.2 at.3
     go (f ∷ front) e h = absurd (omega arith)
 
 test_none : (anchored : Bool) (term entry : List ℕ) → hit_by anchored term entry ≡ None → ¬ HasTerm anchored term entry
-test_none false term entry e has = subst (FoundUpTo (length has.1.0)) e (up_to term has.1.0 has.1.1 entry has.1.2)
+test_none false term entry e has = let found = up_to term has.1.0 has.1.1 entry has.1.2 in none-some _ (sym e ∙ found.1)
 test_none true term entry e has =
     let whole = starts_at_zero term entry has in
     let all : starts_with eqb entry term ≡ true = subst (λ t. starts_with eqb t term ≡ true) (sym whole) (begins_with_itself term (drop (length term) entry)) in
@@ -206,16 +194,15 @@ searching term start entries e =
 is_searching : (term : List ℕ) (start : ℕ) (entries : List (List ℕ)) → term ≢ [] → start < length entries → (length term == 0 || nat_le (length entries) start) ≡ false
 is_searching [] start entries some low = absurd (some refl)
 is_searching (t ∷ term) start entries some low =
-    let f : length (t ∷ term) ≢ 0 = λ g. absurd (omega arith) in
-    let past : nat_le (length entries) start ≡ false = grind (arith, nat_tests) in
-    ap (λ b. b || nat_le (length entries) start) (ne_eqb (length (t ∷ term)) 0 f) ∙ past
+    or_from (length (t ∷ term) == 0) (nat_le (length entries) start) (ne_eqb (length (t ∷ term)) 0 (λ g. absurd (omega arith))) (grind (arith, nat_tests))
 
 module _ (anchored : Bool) (term : List ℕ) (start : ℕ) (entries : List (List ℕ)) (hit : Hit) where
   abbrev test : List ℕ → Option ℕ
   test entry = hit_by anchored term entry
 
-  forward_found : term ≢ [] → start < length entries → first_from test start (drop start entries) ≡ Some hit → IsNearest anchored term start Forward entries hit
-  forward_found some low e =
+  found_so : (direction : SearchDirection) → term ≢ [] → start < length entries → nearest direction test start entries ≡ Some hit
+      → IsNearest anchored term start direction entries hit
+  found_so Forward some low e =
       let found = from_parts test start (drop start entries) hit e in
       let f = found.0 in
       let first = take start entries in
@@ -232,9 +219,7 @@ module _ (anchored : Bool) (term : List ℕ) (start : ℕ) (entries : List (List
         here = test_hits anchored term hit.entry hit.pos f.here;
         none_nearer = (omega arith, subst (All (λ entry. ¬ HasTerm anchored term entry)) (sym rest) (λ k d low. test_none anchored term _ (f.missed k d low)));
       }
-
-  backward_found : term ≢ [] → start < length entries → first_back test (reverse (take (start + 1) entries)) ≡ Some hit → IsNearest anchored term start Reverse entries hit
-  backward_found some low e =
+  found_so Reverse some low e =
       let first = take (start + 1) entries in
       let last = drop (start + 1) entries in
       let found = back_parts test (reverse first) hit e in
@@ -255,8 +240,8 @@ module _ (anchored : Bool) (term : List ℕ) (start : ℕ) (entries : List (List
         none_nearer = (omega arith, subst (All (λ entry. ¬ HasTerm anchored term entry)) (sym rest) (all_turned (λ entry. ¬ HasTerm anchored term entry) f.front (λ k d low. test_none anchored term _ (f.missed k d low))));
       }
 
-  is_forward : (n : IsNearest anchored term start Forward entries hit) → first_from test start (drop start entries) ≡ Some hit
-  is_forward n =
+  so_found : (direction : SearchDirection) → IsNearest anchored term start direction entries hit → nearest direction test start entries ≡ Some hit
+  so_found Forward n =
       let ahead : start ≤ length n.before = n.none_nearer.0 in
       let place : hit.idx ≡ length n.before = n.place in
       let count = length-drop start n.before in
@@ -266,9 +251,7 @@ module _ (anchored : Bool) (term : List ℕ) (start : ℕ) (entries : List (List
       ∙ from_is test start (drop start n.before) hit.entry n.after hit.pos
       (λ k d low. lacks_test anchored term _ (n.none_nearer.1 k d low)) (hits_test anchored term hit.entry hit.pos n.here)
       ∙ ap (λ i. let h : Hit = record { entry = hit.entry; idx = i; pos = hit.pos } in Some h) idx
-
-  is_backward : (n : IsNearest anchored term start Reverse entries hit) → first_back test (reverse (take (start + 1) entries)) ≡ Some hit
-  is_backward n =
+  so_found Reverse n =
       let ahead : length n.before ≤ start = n.none_nearer.0 in
       let place : hit.idx ≡ length n.before = n.place in
       let nearer = take (start - length n.before) n.after in
@@ -282,22 +265,12 @@ module _ (anchored : Bool) (term : List ℕ) (start : ℕ) (entries : List (List
       (all_turned (NoHit test) nearer (λ k d low. lacks_test anchored term _ (n.none_nearer.1 k d low))) (hits_test anchored term hit.entry hit.pos n.here)
       ∙ ap (λ i. let h : Hit = record { entry = hit.entry; idx = i; pos = hit.pos } in Some h) (turned ∙ sym place)
 
-found_so : (anchored : Bool) (term : List ℕ) (start : ℕ) (direction : SearchDirection) (entries : List (List ℕ)) (hit : Hit) → term ≢ [] → start < length entries
-    → nearest direction (hit_by anchored term) start entries ≡ Some hit → IsNearest anchored term start direction entries hit
-found_so anchored term start Forward entries hit some low e = forward_found anchored term start entries hit some low e
-found_so anchored term start Reverse entries hit some low e = backward_found anchored term start entries hit some low e
-
-so_found : (anchored : Bool) (term : List ℕ) (start : ℕ) (direction : SearchDirection) (entries : List (List ℕ)) (hit : Hit)
-    → IsNearest anchored term start direction entries hit → nearest direction (hit_by anchored term) start entries ≡ Some hit
-so_found anchored term start Forward entries hit n = is_forward anchored term start entries hit n
-so_found anchored term start Reverse entries hit n = is_backward anchored term start entries hit n
-
 pub nearest_is_found : NearestIsFound
 nearest_is_found anchored term start direction entries hit = (
   λ e.
       let u = unless_none (length term == 0 || nat_le (length entries) start) (nearest direction (hit_by anchored term) start entries) hit e in
       let s = searching term start entries u.0 in
-      found_so anchored term start direction entries hit s.0 s.1 u.1,
+      found_so anchored term start entries hit direction s.0 s.1 u.1,
   λ n.
-      ap (λ b. if b then None else nearest direction (hit_by anchored term) start entries) (is_searching term start entries n.some n.within) ∙ so_found anchored term start direction entries hit n,
+      ap (λ b. if b then None else nearest direction (hit_by anchored term) start entries) (is_searching term start entries n.some n.within) ∙ so_found anchored term start entries hit direction n,
 )

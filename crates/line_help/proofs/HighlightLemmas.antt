@@ -1,5 +1,5 @@
 -- Highlighted texts: a text without styles, and one with a byte in bold and blue.
-use Rattle.std.proofs.Common.{◌≡◌, ℕ, ◌+◌, ◌<◌, List, [], ◌∷◌, ◌++◌, length, take, drop, refl, sym, arith, subst, Some}
+use Rattle.std.proofs.Common.{◌≡◌, ℕ, ◌+◌, ◌<◌, List, [], ◌∷◌, ◌++◌, length, take, drop, refl, arith, subst, Some}
 use Rattle.std.specs.Prelude.{codes, slice_get, IsCharBoundary}
 use Rattle.std.specs.Str.{IsUtf8}
 use Rattle.std.proofs.lemmas.Option.{slice_get_within, get_or_from_slice_get}
@@ -21,18 +21,12 @@ bold_byte first after b =
     (style (codes "1;34") (b ∷ after) (b ∷ (style_sequence (codes "0") ++ after)) refl
     (byte b after (style_sequence (codes "0") ++ after) (style (codes "0") after after refl (unstyled after))))
 
-bold_styled : (line : List ℕ) (b place : ℕ) → slice_get line place ≡ Some b → Styled line (with_bold_byte line (Some (b, place)))
-bold_styled line b place stands =
+pub bold_shown : (line shown : List ℕ) (b place : ℕ) → slice_get line place ≡ Some b → shown ≡ with_bold_byte line (Some (b, place)) → Styled line shown
+bold_shown line shown b place stands same =
     let within : place < length line = slice_get_within line place b stands in
     let cut : take place line ++ (b ∷ drop (place + 1) line) ≡ line =
     rw (← get_or_from_slice_get line place b 0 stands, ← drop_more line place 0 within) (take-append-drop place line) in
-    let P : List ℕ → Type 0 = λ text. Styled text (with_bold_byte line (Some (b, place))) in
-    subst P cut (bold_byte (take place line) (drop (place + 1) line) b)
-
-pub bold_shown : (line shown : List ℕ) (b place : ℕ) → slice_get line place ≡ Some b → shown ≡ with_bold_byte line (Some (b, place)) → Styled line shown
-bold_shown line shown b place stands same =
-    let P : List ℕ → Type 0 = λ text. Styled line text in
-    subst P (sym same) (bold_styled line b place stands)
+    rw same (subst (λ text. Styled text (with_bold_byte line (Some (b, place)))) cut (bold_byte (take place line) (drop (place + 1) line) b))
 
 pub behind_ascii : (line : List ℕ) (b place : ℕ) → IsUtf8 line → slice_get line place ≡ Some b → b < 128 → IsCharBoundary line (place + 1)
 behind_ascii line b place utf8 stands ascii =

@@ -2,7 +2,7 @@
 use Rattle.std.proofs.Common.{◌≡◌, ℕ, zero, suc, ◌-◌, ◌≤◌, ◌<◌, Bool, true, false, List, [], ◌∷◌, ◌++◌, length, drop, refl, sym, ◌∙◌, ap, arith}
 use Rattle.std.specs.Prelude.{◌==◌, ◌||◌, ◌&&◌}
 use Rattle.std.proofs.lemmas.Bool.{and_parts, and_right, cond_both, eqb-false, or_from, or_parts}
-use Rattle.std.proofs.lemmas.List.{append-nil, append_assoc}
+use Rattle.std.proofs.lemmas.List.{append-nil, append_assoc, nil_from_length}
 use Rattle.std.proofs.lemmas.Slice.Eq.{bytes_eq-Decides}
 use Rattle.line_help.specs.History.{Settings, Filed, entries_after, begins_with_space, history_with_line, history_with_lines, ignores_line, newest, newest_is}
 use Rattle.line_help.proofs.NewestLemmas.{all_new, length-newest, newest_behind, newest_all_behind}
@@ -29,10 +29,10 @@ pub added_when : (s : Settings) (entries : List (List ℕ)) (line : List ℕ) �
 added_when s entries line e = rw e refl
 
 -- the newest entry is what decides
-newest_alone : (line last : List ℕ) (entries : List (List ℕ)) → newest_is line (entries ++ last ∷ []) ≡ newest_is line (last ∷ [])
-newest_alone line last [] = refl
-newest_alone line last (x ∷ []) = refl
-newest_alone line last (x ∷ (y ∷ entries)) = newest_alone line last (y ∷ entries)
+newest_alone : (line last : List ℕ) (entries lines : List (List ℕ)) → newest_is line (entries ++ last ∷ lines) ≡ newest_is line (last ∷ lines)
+newest_alone line last [] lines = refl
+newest_alone line last (x ∷ []) lines = refl
+newest_alone line last (x ∷ (y ∷ entries)) lines = newest_alone line last (y ∷ entries) lines
 
 newest_of_drop : (line : List ℕ) (k : ℕ) (entries : List (List ℕ)) → k < length entries → newest_is line (drop k entries) ≡ newest_is line entries
 newest_of_drop line zero entries some = refl
@@ -61,7 +61,7 @@ taken_first s entries line e =
 
 pub in_turn_alone : (s : Settings) (entries : List (List ℕ)) (last : List ℕ) (lines : List (List ℕ)) → InTurn s (last ∷ []) lines → InTurn s (entries ++ last ∷ []) lines
 in_turn_alone s entries last [] t = tt
-in_turn_alone s entries last (line ∷ lines) t = (same_newest s (entries ++ last ∷ []) (last ∷ []) line (newest_alone line last entries) ∙ t.0, t.1)
+in_turn_alone s entries last (line ∷ lines) t = (same_newest s (entries ++ last ∷ []) (last ∷ []) line (newest_alone line last entries []) ∙ t.0, t.1)
 
 in_turn_first : (s : Settings) (entries lines : List (List ℕ)) → InTurn s entries lines → InTurn s [] lines
 in_turn_first s entries [] t = tt
@@ -75,11 +75,7 @@ in_turn_rest s (suc k) (line ∷ lines) t = in_turn_rest s k lines (in_turn_firs
 in_turn_with : (s : Settings) (before lines : List (List ℕ)) (line : List ℕ) → InTurn s before lines → ignores_line s (before ++ lines) line ≡ false → InTurn s before (lines ++ line ∷ [])
 in_turn_with s before [] line t e = (sym (same_newest s (before ++ []) before line (ap (λ xs. newest_is line xs) (append-nil before))) ∙ e, tt)
 in_turn_with s before (x ∷ lines) line t e =
-    (t.0, in_turn_with s (x ∷ []) lines line t.1 (sym (same_newest s (before ++ x ∷ lines) (x ∷ lines) line (behind before)) ∙ e)) where
-      behind : (xs : List (List ℕ)) → newest_is line (xs ++ x ∷ lines) ≡ newest_is line (x ∷ lines)
-      behind [] = refl
-      behind (y ∷ []) = refl
-      behind (y ∷ (z ∷ xs)) = behind (z ∷ xs)
+    (t.0, in_turn_with s (x ∷ []) lines line t.1 (sym (same_newest s (before ++ x ∷ lines) (x ∷ lines) line (newest_alone line x before lines)) ∙ e))
 
 -- they all stand after what was there, as far as there is space
 pub taken_in_turn : (s : Settings) (entries lines : List (List ℕ)) → InTurn s entries lines → added_all s (newest s.max_len entries) lines ≡ newest s.max_len (entries ++ lines)
@@ -95,24 +91,15 @@ ends_with line [] e = cc
 ends_with line (x ∷ []) e = ([], ap (λ y. y ∷ []) ((bytes_eq-Decides x line).0 e))
 ends_with line (x ∷ (y ∷ entries)) e = let r = ends_with line (y ∷ entries) e in (x ∷ r.0, ap (λ xs. x ∷ xs) r.1)
 
-or_true_right : (a b : Bool) → (a || b) ≡ true → a ≡ false → b ≡ true
-or_true_right true b e f = cc
-or_true_right false b e f = e
-
 -- a line that would be taken first is ignored after entries of which the newest is the line
 ignored_repeats : (s : Settings) (entries : List (List ℕ)) (line : List ℕ) → ignores_line s entries line ≡ true → ignores_line s [] line ≡ false → newest_is line entries ≡ true
 ignored_repeats s entries line e f =
     let others = (s.max_len == 0 || length line == 0) || (s.ignore_space && begins_with_space line) in
-    (and_parts s.ignore_dups (newest_is line entries)
-    (or_true_right others (s.ignore_dups && newest_is line entries) e (or_parts others (s.ignore_dups && false) f).0)).1
-
-none_of : (entries : List (List ℕ)) → length entries ≤ 0 → entries ≡ []
-none_of [] few = refl
-none_of (x ∷ entries) few = absurd (omega arith)
+    (and_parts s.ignore_dups (newest_is line entries) (rw (or_parts others (s.ignore_dups && false) f).0 at e)).1
 
 -- as many as there is space for take the place of all that was there
 pub overwritten : (s : Settings) (entries lines : List (List ℕ)) → length entries ≤ s.max_len → InTurn s [] lines → length lines ≡ s.max_len → added_all s entries lines ≡ lines
-overwritten s entries [] fits t e = none_of entries (omega arith)
+overwritten s entries [] fits t e = nil_from_length entries (omega arith)
 overwritten s entries (line ∷ lines) fits t e = by_case (ignores_line s entries line) refl where
   by_case : (b : Bool) → ignores_line s entries line ≡ b → added_all s (entries_after s entries line) lines ≡ line ∷ lines
   by_case false f =

@@ -1,21 +1,20 @@
 -- Loading: one row after the other.
-use Rattle.std.proofs.Common.{◌≡◌, ◌≢◌, ℕ, ◌<◌, Bool, true, false, List, [], ◌∷◌, ◌++◌, length, refl, sym, ◌∙◌, ap, ap₂, arith, append_assoc, subst, suc}
-use Rattle.std.specs.Prelude.{Result, if◌then◌else◌, ◌&&◌, ◌||◌, not, IsUtf8, IfErr, Ok, Err, IsOk, bytes_eq}
+use Rattle.std.proofs.Common.{◌≡◌, ◌≢◌, ℕ, ◌<◌, Bool, true, false, List, [], ◌∷◌, ◌++◌, length, refl, sym, ◌∙◌, ap, ap₂, append_assoc, subst}
+use Rattle.std.specs.Prelude.{Result, if◌then◌else◌, ◌&&◌, not, IsUtf8, IfErr, Ok, Err, IsOk, bytes_eq}
 use Rattle.std.proofs.Math.Bool.{and-true, and_assoc}
-use Rattle.std.proofs.lemmas.Bool.{false_from_ne_true}
+use Rattle.std.proofs.lemmas.Bool.{false_from_ne_true, true_from_ne_false}
+use Rattle.std.proofs.lemmas.List.{nil_from_length}
+use Rattle.std.proofs.lemmas.List.Folds.{list_any-append}
 use Rattle.std.specs.Result.{is_ok, MatchResult, OnOk}
 use Rattle.std.specs.Str.{is_utf8, chars}
 use Rattle.std.proofs.lemmas.Str.{IsUtf8-from_is_utf8, is_utf8-from_IsUtf8, IsUtf8-nil}
 use Rattle.std.proofs.lemmas.Slice.Eq.{bytes_eq-Decides}
 use lib.Utf8.{encode}
 use Rattle.line_config.specs.declared.device.Last.{Last, TheVariants.End, TheVariants.Failed}
-use Rattle.line_config.specs.declared.errors.ReadlineError.{ReadlineError, TheVariants.HistoryText, TheVariants.Memory, TheVariants.Reader}
+use Rattle.line_config.specs.declared.errors.ReadlineError.{ReadlineError, TheVariants.HistoryText, TheVariants.Memory}
 use Rattle.line_help.specs.History.{Filed, all_saved, history_with_line, history_with_lines, takes_all, ignores_line}
 use Rattle.line_help.specs.HistoryText.{LosesRow, behind_row, behind_rows, text_rows, entries_of, entry_of, good_rows, has_bad_row, header, load_answer, load_leaves, rows_answer, texts_of, LoadsSome, rest_after_load}
 use Rattle.line_help.proofs.RowLemmas.{GoodUpTo}
-
-pub not_utf8 : (bytes : List ℕ) → ¬ (IsUtf8 bytes) → is_utf8 bytes ≡ false
-not_utf8 bytes never = false_from_ne_true (is_utf8 bytes) (λ e. never (IsUtf8-from_is_utf8 bytes e))
 
 -- bytes that were read as a text are one; bytes that failed as a text are none
 pub read_utf8 : {X E : Type 0} (P : X → Type 0) (Q : E → Type 0) (bytes : List ℕ) (read : Result X E) → MatchResult read P Q → IsOk read
@@ -25,12 +24,11 @@ read_utf8 P Q bytes (Err y) p e makes = absurd (let k : false ≡ true = e in cc
 
 pub unread_utf8 : {X E : Type 0} (P : X → Type 0) (Q : E → Type 0) (bytes : List ℕ) (read : Result X E) → MatchResult read P Q → is_ok read ≡ false
     → ((y : E) → Q y → ¬ (IsUtf8 bytes)) → is_utf8 bytes ≡ false
-unread_utf8 P Q bytes (Err y) p e makes = not_utf8 bytes (makes y p)
+unread_utf8 P Q bytes (Err y) p e makes = false_from_ne_true (is_utf8 bytes) (λ is. makes y p (IsUtf8-from_is_utf8 bytes is))
 unread_utf8 P Q bytes (Ok x) p e makes = absurd (let k : true ≡ false = e in cc)
 
 pub empty_is_utf8 : (row : List ℕ) → length row ≡ 0 → is_utf8 row ≡ true
-empty_is_utf8 [] e = is_utf8-from_IsUtf8 [] IsUtf8-nil
-empty_is_utf8 (b ∷ bs) e = absurd (omega arith)
+empty_is_utf8 row e = rw (nil_from_length row e) (is_utf8-from_IsUtf8 [] IsUtf8-nil)
 
 -- the rest of the rows, after the entry of the first
 left_step : (h : Filed) (escapes : Bool) (row : List ℕ) (rows : List (List ℕ))
@@ -45,36 +43,21 @@ takes_step h escapes (b ∷ bs) rows =
     ap (λ taken. taken && takes_all (history_with_line h (entry_of escapes (b ∷ bs))) (entries_of escapes rows))
     (sym (and-true (not (ignores_line h.kept.settings h.kept.entries (entry_of escapes (b ∷ bs))))))
 
-good_more : (row : List ℕ) (rows : List (List ℕ)) → is_utf8 row ≡ true → good_rows (row ∷ rows) ≡ row ∷ good_rows rows
-good_more row rows e = rw e refl
-
-good_none : (row : List ℕ) (rows : List (List ℕ)) → is_utf8 row ≡ false → good_rows (row ∷ rows) ≡ []
-good_none row rows e = rw e refl
-
-bad_more : (row : List ℕ) (rows : List (List ℕ)) → is_utf8 row ≡ true → has_bad_row (row ∷ rows) ≡ has_bad_row rows
-bad_more row rows e = rw e refl
-
-pub left_more : (h : Filed) (escapes : Bool) (row : List ℕ) (rows : List (List ℕ)) → is_utf8 row ≡ true
-    → history_with_lines h (entries_of escapes (good_rows (row ∷ rows))) ≡ history_with_lines (history_with_lines h (entries_of escapes (row ∷ []))) (entries_of escapes (good_rows rows))
-left_more h escapes row rows e = ap (λ rs. history_with_lines h (entries_of escapes rs)) (good_more row rows e) ∙ left_step h escapes row (good_rows rows)
+-- a row that isn't UTF-8 comes before what else is answered
+answer_parts : (last : Last) (rows : List (List ℕ)) (whole : Bool)
+    → rows_answer last rows whole ≡ (if has_bad_row rows then Err HistoryText else rows_answer last [] whole)
+answer_parts End rows whole = refl
+answer_parts Failed rows whole = refl
 
 outcome_more : (last : Last) (row : List ℕ) (rows : List (List ℕ)) (whole : Bool) → is_utf8 row ≡ true → rows_answer last (row ∷ rows) whole ≡ rows_answer last rows whole
-outcome_more End row rows whole e = rw e refl
-outcome_more Failed row rows whole e = rw e refl
+outcome_more last row rows whole e = answer_parts last (row ∷ rows) whole ∙ rw e (sym (answer_parts last rows whole))
 
-pub answer_more : (last : Last) (whole : Bool) (h : Filed) (escapes : Bool) (row : List ℕ) (rows : List (List ℕ)) → is_utf8 row ≡ true
+answer_more : (last : Last) (whole : Bool) (h : Filed) (escapes : Bool) (row : List ℕ) (rows : List (List ℕ)) → is_utf8 row ≡ true
     → rows_answer last (row ∷ rows) (whole && takes_all h (entries_of escapes (good_rows (row ∷ rows))))
     ≡ rows_answer last rows ((whole && takes_all h (entries_of escapes (row ∷ []))) && takes_all (history_with_lines h (entries_of escapes (row ∷ []))) (entries_of escapes (good_rows rows)))
 answer_more last whole h escapes row rows e =
     outcome_more last row rows (whole && takes_all h (entries_of escapes (good_rows (row ∷ rows)))) e
-    ∙ ap (λ b. rows_answer last rows b)
-    (ap (λ rs. whole && takes_all h (entries_of escapes rs)) (good_more row rows e)
-    ∙ ap (λ b. whole && b) (takes_step h escapes row (good_rows rows))
-    ∙ sym (and_assoc whole (takes_all h (entries_of escapes (row ∷ []))) (takes_all (history_with_lines h (entries_of escapes (row ∷ []))) (entries_of escapes (good_rows rows)))))
-
-good_if_memory : (good : Bool) → (if good then Memory else HistoryText) ≡ Memory → good ≡ true
-good_if_memory true e = refl
-good_if_memory false e = cc
+    ∙ rw (e, takes_step h escapes row (good_rows rows), and_assoc) refl
 
 pub good_text : (row : List ℕ) (result : Result Bool ReadlineError) → is_utf8 row ≡ true → OnOk result (is_utf8 row ≡ true)
 good_text row (Ok b) utf8 = utf8
@@ -90,15 +73,7 @@ good_fault row (Err why) utf8 some e = (rw utf8 e, some)
 
 -- a row for which memory runs out is UTF-8
 pub memory_row : (row : List ℕ) → row_fault row ≡ Memory → is_utf8 row ≡ true
-memory_row row e = good_if_memory (is_utf8 row) e
-
-pub left_bad : (h : Filed) (escapes : Bool) (row : List ℕ) (rows : List (List ℕ)) → is_utf8 row ≡ false
-    → history_with_lines h (entries_of escapes (good_rows (row ∷ rows))) ≡ h
-left_bad h escapes row rows e = ap (λ rs. history_with_lines h (entries_of escapes rs)) (good_none row rows e)
-
-pub answer_bad : (last : Last) (row : List ℕ) (rows : List (List ℕ)) (whole : Bool) → is_utf8 row ≡ false → rows_answer last (row ∷ rows) whole ≡ Err HistoryText
-answer_bad End row rows whole e = rw e refl
-answer_bad Failed row rows whole e = rw e refl
+memory_row row e = true_from_ne_false (is_utf8 row) (λ bad. let f : HistoryText ≡ Memory = rw bad at e in absurd cc)
 
 pub header_is_utf8 : is_utf8 header ≡ true
 unfolding is_utf8 chars encode
@@ -116,10 +91,6 @@ texts_step : (h : Filed) (row : List ℕ) (rows : List (List ℕ)) (escapes : Bo
 texts_step h row rows true e = refl
 texts_step h row rows false e = left_step h false row rows
 
-pub loaded_left : (h : Filed) (row : List ℕ) (rows : List (List ℕ)) → is_utf8 row ≡ true
-    → history_with_lines h (texts_of (good_rows (row ∷ rows))) ≡ history_with_lines (after_first h row) (entries_of (bytes_eq row header) (good_rows rows))
-loaded_left h row rows e = ap (λ rs. history_with_lines h (texts_of rs)) (good_more row rows e) ∙ texts_step h row (good_rows rows) (bytes_eq row header) refl
-
 takes_behind : (h : Filed) (row : List ℕ) (rows : List (List ℕ)) (escapes : Bool)
     → (escapes && takes_all h (if escapes then entries_of true rows else entries_of false (row ∷ rows))) ≡ (escapes && takes_all (history_with_lines h (if escapes then entries_of true [] else entries_of false (row ∷ []))) (entries_of escapes rows))
 takes_behind h row rows true = refl
@@ -129,8 +100,7 @@ pub loaded_answer : (last : Last) (h : Filed) (row : List ℕ) (rows : List (Lis
     → load_answer last (row ∷ rows) h ≡ rows_answer last rows (bytes_eq row header && takes_all (after_first h row) (entries_of (bytes_eq row header) (good_rows rows)))
 loaded_answer last h row rows e =
     outcome_more last row rows (bytes_eq row header && takes_all h (texts_of (good_rows (row ∷ rows)))) e
-    ∙ ap (λ b. rows_answer last rows b)
-    (ap (λ rs. bytes_eq row header && takes_all h (texts_of rs)) (good_more row rows e) ∙ takes_behind h row (good_rows rows) (bytes_eq row header))
+    ∙ rw e (ap (rows_answer last rows) (takes_behind h row (good_rows rows) (bytes_eq row header)))
 
 -- the history behind the last row
 abbrev history_left_at : Last → Filed → Filed
@@ -138,28 +108,21 @@ history_left_at End filed = all_saved filed
 history_left_at Failed filed = filed
 
 -- a row that isn't UTF-8, or a failure of the source, keeps what is new
-abbrev answer_with : Bool → Result Bool ReadlineError → Result Bool ReadlineError
-answer_with bad last = if bad then Err HistoryText else last
-
-saved_by : (bad whole : Bool) (h : Filed) → (if is_ok (answer_with bad (Ok whole)) then all_saved h else h) ≡ (if bad then h else all_saved h)
-saved_by true whole h = refl
-saved_by false whole h = refl
-
-kept_by : (bad : Bool) (h : Filed) → (if is_ok (answer_with bad (Err Reader)) then all_saved h else h) ≡ (if bad then h else h)
-kept_by true h = refl
-kept_by false h = refl
-
-leaves_by : (rows : List (List ℕ)) (last : Last) (whole : Bool) (h : Filed) → (if is_ok (rows_answer last rows whole) then all_saved h else h) ≡ (if has_bad_row rows then h else history_left_at last h)
-leaves_by rows End whole h = saved_by (has_bad_row rows) whole h
-leaves_by rows Failed whole h = kept_by (has_bad_row rows) h
+left_by : (bad : Bool) (last : Last) (whole : Bool) (h : Filed)
+    → (if is_ok (if bad then Err HistoryText else rows_answer last [] whole) then all_saved h else h) ≡ (if bad then h else history_left_at last h)
+left_by true last whole h = refl
+left_by false End whole h = refl
+left_by false Failed whole h = refl
 
 pub loaded_leaves : (last : Last) (h : Filed) (row : List ℕ) (rows : List (List ℕ)) → is_utf8 row ≡ true
     → load_leaves last (row ∷ rows) h ≡ (if has_bad_row rows then history_with_lines (after_first h row) (entries_of (bytes_eq row header) (good_rows rows))
     else history_left_at last (history_with_lines (after_first h row) (entries_of (bytes_eq row header) (good_rows rows))))
 loaded_leaves last h row rows e =
-    leaves_by (row ∷ rows) last _ (history_with_lines h (texts_of (good_rows (row ∷ rows))))
-    ∙ ap (λ b. if b then history_with_lines h (texts_of (good_rows (row ∷ rows))) else history_left_at last (history_with_lines h (texts_of (good_rows (row ∷ rows))))) (bad_more row rows e)
-    ∙ ap (λ f. if has_bad_row rows then f else history_left_at last f) (loaded_left h row rows e)
+    let after = history_with_lines h (texts_of (good_rows (row ∷ rows))) in
+    let whole = bytes_eq row header && takes_all h (texts_of (good_rows (row ∷ rows))) in
+    ap (λ a. if is_ok a then all_saved after else after) (answer_parts last (row ∷ rows) whole)
+    ∙ left_by (has_bad_row (row ∷ rows)) last whole after
+    ∙ rw e (ap (λ f. if has_bad_row rows then f else history_left_at last f) (texts_step h row (good_rows rows) (bytes_eq row header) refl))
 
 -- ---- what was loaded, and what is left
 
@@ -172,14 +135,6 @@ all_in_turn : (h : Filed) (xs ys : List (List ℕ)) → history_with_lines h (xs
 all_in_turn h [] ys = refl
 all_in_turn h (x ∷ xs) ys = all_in_turn (history_with_line h x) xs ys
 
-good_one : (good bad after : Bool) → (not good || bad) ≡ false → (bad ≡ false → after ≡ false) → (not good || after) ≡ false
-good_one true bad after g h = h g
-good_one false bad after g h = g
-
-good_behind : (xs : List (List ℕ)) (row : List ℕ) → has_bad_row xs ≡ false → is_utf8 row ≡ true → has_bad_row (xs ++ (row ∷ [])) ≡ false
-good_behind [] row g e = rw e refl
-good_behind (x ∷ xs) row g e = good_one (is_utf8 x) (has_bad_row xs) (has_bad_row (xs ++ (row ∷ []))) g (λ h. good_behind xs row h e)
-
 one_behind : (xs : List (List ℕ)) (row text : List ℕ) → behind_rows (length (xs ++ (row ∷ []))) text ≡ behind_row (behind_rows (length xs) text)
 one_behind [] row text = refl
 one_behind (x ∷ xs) row text = one_behind xs row (behind_row text)
@@ -191,21 +146,6 @@ pub record Reached (escapes : Bool) (last : Last) (text coming : List ℕ) (befo
   pub good : has_bad_row loaded ≡ false
   pub added : now ≡ history_with_lines before (entries_of escapes loaded)
   pub left : behind_rows (length loaded) text ≡ coming
-
-pub reached_more : (escapes : Bool) (last : Last) (text coming later row : List ℕ) (before now after : Filed) → is_utf8 row ≡ true
-    → text_rows last coming ≡ row ∷ text_rows last later → later ≡ behind_row coming → after ≡ history_with_lines now (entries_of escapes (row ∷ []))
-    → Reached escapes last text coming before now → Reached escapes last text later before after
-reached_more escapes last text coming later row before now after e rows is a r = record {
-  loaded = r.loaded ++ (row ∷ []);
-  split = r.split ∙ ap (λ rs. r.loaded ++ rs) rows ∙ sym (append_assoc r.loaded (row ∷ []) (text_rows last later));
-  good = good_behind r.loaded row r.good e;
-  added =
-      a
-      ∙ ap (λ f. history_with_lines f (entries_of escapes (row ∷ []))) r.added
-      ∙ sym (all_in_turn before (entries_of escapes r.loaded) (entries_of escapes (row ∷ [])))
-      ∙ ap (history_with_lines before) (sym (entries_append escapes r.loaded (row ∷ [])));
-  left = one_behind r.loaded row text ∙ ap behind_row r.left ∙ sym is;
-}
 
 -- the load ends there, and of the next row something may have been read
 pub loads_some : (escapes : Bool) (last : Last) (text coming later : List ℕ) (before now : Filed) → Reached escapes last text coming before now → LosesRow coming later
@@ -229,7 +169,7 @@ loads_behind_first last text coming later row before middle after escapes e b ro
   loaded = row ∷ r.loaded;
   later = r.later;
   split = rows ∙ ap (λ rs. row ∷ rs) r.split;
-  good = bad_more row r.loaded e ∙ r.good;
+  good = rw e r.good;
   added =
       r.added
       ∙ ap₂ (λ f x. history_with_lines f (entries_of x r.loaded)) m b
@@ -237,27 +177,10 @@ loads_behind_first last text coming later row before middle after escapes e b ro
   left = subst (λ t. LosesRow (behind_rows (length r.loaded) t) later) is r.left;
 }
 
-rest_of : (rows : List (List ℕ)) (text : List ℕ) → List ℕ
-rest_of rows text = if has_bad_row rows then behind_rows (suc (length (good_rows rows))) text else []
-
-rest_behind : (row : List ℕ) (rows : List (List ℕ)) (text : List ℕ) → is_utf8 row ≡ true → rest_of (row ∷ rows) text ≡ rest_of rows (behind_row text)
-unfolding rest_of
-rest_behind row rows text e = rw e refl
-
-rest_bad : (row : List ℕ) (rows : List (List ℕ)) (text : List ℕ) → is_utf8 row ≡ false → rest_of (row ∷ rows) text ≡ behind_row text
-unfolding rest_of
-rest_bad row rows text e = rw e refl
-
--- what a load leaves, behind a row that it takes, at a row that it doesn't, and without a row
+-- what a load leaves behind a row that it takes
 pub left_more_text : (last : Last) (text coming row : List ℕ) → is_utf8 row ≡ true → text_rows last text ≡ row ∷ text_rows last coming → coming ≡ behind_row text
     → rest_after_load last text ≡ rest_after_load last coming
-unfolding rest_of
-left_more_text last text coming row e rows is =
-    ap (λ rs. rest_of rs text) rows ∙ rest_behind row (text_rows last coming) text e ∙ ap (rest_of (text_rows last coming)) (sym is)
-
-pub left_bad_text : (last : Last) (text coming row : List ℕ) → is_utf8 row ≡ false → text_rows last text ≡ row ∷ text_rows last coming → rest_after_load last text ≡ behind_row text
-unfolding rest_of
-left_bad_text last text coming row e rows = ap (λ rs. rest_of rs text) rows ∙ rest_bad row (text_rows last coming) text e
+left_more_text last text coming row e rows is = rw (rows, e, is) refl
 
 -- where the rows up to there were loaded, the rest of a load says what the whole does
 pub record Underway (escapes whole : Bool) (last : Last) (text coming : List ℕ) (before now : Filed) : Type 0 where
@@ -275,9 +198,18 @@ pub one_row_on : (escapes whole added : Bool) (last : Last) (text here onward ro
     → Underway escapes whole last text here before now → Underway escapes (whole && added) last text onward before after
 one_row_on escapes whole added last text here onward row before now after utf8 r is good made took so = record {
   good = λ later g. so.good later (good later g);
-  part = reached_more escapes last text here onward row before now after utf8 r is made so.part;
+  part = record {
+    loaded = so.part.loaded ++ (row ∷ []);
+    split = so.part.split ∙ ap (λ rs. so.part.loaded ++ rs) r ∙ sym (append_assoc so.part.loaded (row ∷ []) (text_rows last onward));
+    good = rw (list_any-append (λ r. not (is_utf8 r)) so.part.loaded (row ∷ []), so.part.good, utf8) refl;
+    added =
+        made
+        ∙ ap (λ f. history_with_lines f (entries_of escapes (row ∷ []))) so.part.added
+        ∙ sym (rw (entries_append escapes so.part.loaded (row ∷ [])) (all_in_turn before (entries_of escapes so.part.loaded) (entries_of escapes (row ∷ []))));
+    left = one_behind so.part.loaded row text ∙ ap behind_row so.part.left ∙ sym is;
+  };
   left = sym (left_more_text last here onward row utf8 r is) ∙ so.left;
-  history = rw made (sym (left_more now escapes row (text_rows last onward) utf8) ∙ (rw r at so.history));
+  history = rw made (sym (left_step now escapes row (good_rows (text_rows last onward))) ∙ (rw (r, utf8) at so.history));
   answer = rw (made, took) (sym (answer_more last whole now escapes row (text_rows last onward) utf8) ∙ (rw r at so.answer));
 }
 
@@ -287,21 +219,15 @@ pub record EndsLoad (escapes : Bool) (last : Last) (text coming : List ℕ) (bef
   pub history : now ≡ history_with_lines before (entries_of escapes (good_rows (text_rows last text)))
   pub left : coming ≡ rest_after_load last text
 
-bad_if_followed : (good : Bool) (result : Result Bool ReadlineError) → result ≡ Err (if good then Memory else HistoryText) → result ≢ Err Memory → good ≡ false
-bad_if_followed true result e f = absurd (f e)
-bad_if_followed false result e f = refl
-
 pub bad_row_ends : (escapes whole : Bool) (last : Last) (text here onward row : List ℕ) (before now : Filed) (result : Result Bool ReadlineError)
     → text_rows last here ≡ row ∷ text_rows last onward → onward ≡ behind_row here → result ≡ Err (row_fault row) → result ≢ Err Memory
     → Underway escapes whole last text here before now → EndsLoad escapes last text onward before now result
 bad_row_ends escapes whole last text here onward row before now result r is e f so =
-    let bad : is_utf8 row ≡ false = bad_if_followed (is_utf8 row) result e f in
-    let rows = text_rows last onward in
-    let why : row_fault row ≡ HistoryText = rw bad refl in
+    let bad : is_utf8 row ≡ false = false_from_ne_true (is_utf8 row) (λ good. f (rw good at e)) in
     record {
-      answer = e ∙ ap (λ w. Err w) why ∙ sym (answer_bad last row rows _ bad) ∙ (rw r at so.answer);
-      history = sym (left_bad now escapes row rows bad) ∙ (rw r at so.history);
-      left = is ∙ sym (left_bad_text last here onward row bad r) ∙ so.left;
+      answer = (rw bad at e) ∙ (rw (r, answer_parts last (row ∷ text_rows last onward), bad) at so.answer);
+      history = rw (r, bad) at so.history;
+      left = is ∙ (rw (r, bad) at so.left);
     }
 
 pub ruleset load_steps = (loaded_answer, loaded_leaves)

@@ -1,8 +1,8 @@
 -- The quote that is open at a text's end.
-use Rattle.std.proofs.Common.{◌≡◌, ◌≢◌, ℕ, ◌+◌, ◌==◌, ◌&&◌, ◌⊎◌, inl, inr, Bool, true, false, List, [], ◌∷◌, ◌++◌, length, Option, Some, None, refl, sym, ap, ◌∙◌, subst, append_assoc, length-append, arith, ne_eqb, true≢false, if◌then◌else◌}
+use Rattle.std.proofs.Common.{◌≡◌, ◌≢◌, ℕ, ◌+◌, ◌==◌, ◌&&◌, ◌⊎◌, inl, inr, Bool, true, false, List, [], ◌∷◌, ◌++◌, length, Option, Some, None, refl, sym, ap, ◌∙◌, subst, append_assoc, length-append, arith, ne_eqb, if◌then◌else◌}
 use Rattle.std.specs.Prelude.{unwrap_or}
 use Rattle.std.proofs.lemmas.Option.{none-some}
-use Rattle.std.proofs.lemmas.Bool.{and_right, eqb-true}
+use Rattle.std.proofs.lemmas.Bool.{and_right, eqb-false, eqb-true}
 use Rattle.std.proofs.lemmas.List.{append-nil}
 use Rattle.line_help.specs.Quotes.{closes_quote, escapes_at, quote_after, open_behind, unclosed_quote, Within, nothing_within, byte_within, pair_within, Closed, nothing_closed, byte_closed, pair_closed, between_double, between_single, UpToBackslash, Unclosed, OpensAt, UnclosedQuoteIsOpen}
 use Rattle.line_help.specs.declared.completion.quotes.Quote.{Quote}
@@ -113,9 +113,12 @@ Outcome text = UpToBackslash Closed text ⊎ ((place : ℕ) × (quote : Quote) �
 abbrev WithinFirst : ℕ → Bool → (List ℕ → Type 0) → List ℕ → Type 0
 WithinFirst mark escaping U text = U text ⊎ ((inner : List ℕ) × (after : List ℕ) × (text ≡ inner ++ (mark ∷ after)) × Within mark escaping inner × Outcome after)
 
+backslash_onto : (P : List ℕ → Type 0) (piece : List ℕ) → ((text : List ℕ) → P text → P (piece ++ text)) → (text : List ℕ) → UpToBackslash P text → UpToBackslash P (piece ++ text)
+backslash_onto P piece f text (inl w) = inl (f text w)
+backslash_onto P piece f text (inr (front, e, w)) = inr (piece ++ front, ap (λ t. piece ++ t) e ∙ sym (append_assoc piece front (92 ∷ [])), f front w)
+
 outcome_onto : (piece : List ℕ) → ((text : List ℕ) → Closed text → Closed (piece ++ text)) → (text : List ℕ) → Outcome text → Outcome (piece ++ text)
-outcome_onto piece f text (inl (inl c)) = inl (inl (f text c))
-outcome_onto piece f text (inl (inr (front, e, c))) = inl (inr (piece ++ front, ap (λ t. piece ++ t) e ∙ sym (append_assoc piece front (92 ∷ [])), f front c))
+outcome_onto piece f text (inl u) = inl (backslash_onto Closed piece f text u)
 outcome_onto piece f text (inr (place, quote, (front, mark, rest, e, p, c, u))) =
     inr (length (piece ++ front), quote, (piece ++ front, mark, rest, ap (λ t. piece ++ t) e ∙ sym (append_assoc piece front (mark ∷ rest)), refl, f front c, u))
 
@@ -123,10 +126,6 @@ within_onto : (mark : ℕ) (escaping : Bool) (U : List ℕ → Type 0) (piece : 
     → ((text : List ℕ) → U text → U (piece ++ text)) → (text : List ℕ) → WithinFirst mark escaping U text → WithinFirst mark escaping U (piece ++ text)
 within_onto mark escaping U piece f g text (inl u) = inl (g text u)
 within_onto mark escaping U piece f g text (inr (inner, after, e, w, outcome)) = inr (piece ++ inner, after, ap (λ t. piece ++ t) e ∙ sym (append_assoc piece inner (mark ∷ after)), f inner w, outcome)
-
-backslash_onto : (P : List ℕ → Type 0) (piece : List ℕ) → ((text : List ℕ) → P text → P (piece ++ text)) → (text : List ℕ) → UpToBackslash P text → UpToBackslash P (piece ++ text)
-backslash_onto P piece f text (inl w) = inl (f text w)
-backslash_onto P piece f text (inr (front, e, w)) = inr (piece ++ front, ap (λ t. piece ++ t) e ∙ sym (append_assoc piece front (92 ∷ [])), f front w)
 
 abbrev DoubleFirst : List ℕ → Type 0
 DoubleFirst text = WithinFirst 34 true (UpToBackslash (Within 34 true)) text
@@ -155,21 +154,18 @@ outside_at b text p n92 true y e f =
 outside_at b text p n92 false true e f =
     subst (λ c. Outcome (c ∷ text)) (sym (eqb-true b 39 f)) (marked Single 39 false (Within 39 false) (λ t u. (refl, u)) between_single text p.single)
 outside_at b text p n92 false false e f =
-    outcome_onto (b ∷ []) (λ t c. byte_closed b t (differs b 34 e) (differs b 39 f) n92 c) text p.outside
-  where
-    differs : (b n : ℕ) → (b == n) ≡ false → b ≢ n
-    differs b n h = grind arith
+    outcome_onto (b ∷ []) (λ t c. byte_closed b t (eqb-false b 34 e) (eqb-false b 39 f) n92 c) text p.outside
 
 within_at : (mark : ℕ) (escaping : Bool) (U : List ℕ → Type 0) (b : ℕ) (text : List ℕ) → (escaping ≡ true → b ≢ 92) → ((text : List ℕ) → b ≢ mark → U text → U (b ∷ text))
     → Outcome text → WithinFirst mark escaping U text → (x : Bool) → (b == mark) ≡ x → WithinFirst mark escaping U (b ∷ text)
 within_at mark escaping U b text esc g outcome first true e = inr ([], text, ap (λ c. c ∷ text) (eqb-true b mark e), nothing_within, outcome)
 within_at mark escaping U b text esc g outcome first false e =
-    let ne : b ≢ mark = grind arith in
+    let ne = eqb-false b mark e in
     within_onto mark escaping U (b ∷ []) (λ t w. byte_within b t ne esc w) (λ t u. g t ne u) text first
 
 single_at : (b : ℕ) (text : List ℕ) → Parts text → SingleFirst (b ∷ text)
 single_at b text p =
-    let esc : false ≡ true → b ≢ 92 = λ h. absurd (true≢false (sym h)) in
+    let esc : false ≡ true → b ≢ 92 = λ h. absurd cc in
     within_at 39 false (Within 39 false) b text esc (λ t ne u. byte_within b t ne esc u) p.outside p.single (b == 39) refl
 
 double_at : (b : ℕ) (text : List ℕ) → b ≢ 92 → Parts text → DoubleFirst (b ∷ text)
@@ -178,9 +174,6 @@ double_at b text n92 p =
 
 abbrev AfterBackslash : List ℕ → Type 0
 AfterBackslash text = Outcome (92 ∷ text) × DoubleFirst (92 ∷ text)
-
-at_end : AfterBackslash []
-at_end = (inl (inr ([], refl, nothing_closed)), inl (inr ([], refl, nothing_within)))
 
 before_byte : (c : ℕ) (rest : List ℕ) → Parts rest → AfterBackslash (c ∷ rest)
 before_byte c rest p = (
@@ -198,12 +191,12 @@ next b text p escaped true e =
       single = single_at b text p;
     }
 next b text p escaped false e =
-    let n92 : b ≢ 92 = grind arith in
+    let n92 = eqb-false b 92 e in
     record { outside = outside_at b text p n92 (b == 34) (b == 39) refl refl; double = double_at b text n92 p; single = single_at b text p }
 
 parts : (text : List ℕ) → Parts text
 parts [] = record { outside = inl (inl nothing_closed); double = inl (inl nothing_within); single = inl nothing_within }
-parts (b ∷ []) = next b [] (parts []) at_end (b == 92) refl
+parts (b ∷ []) = next b [] (parts []) (inl (inr ([], refl, nothing_closed)), inl (inr ([], refl, nothing_within))) (b == 92) refl
 parts (b ∷ (c ∷ rest)) = next b (c ∷ rest) (parts (c ∷ rest)) (before_byte c rest (parts rest)) (b == 92) refl
 
 -- ---- the law

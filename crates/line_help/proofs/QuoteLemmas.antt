@@ -1,7 +1,7 @@
 -- Escapes are read and written character by character, quotes byte by byte.
-use Rattle.std.proofs.Common.{cond, subst, length-drop, ◌≡◌, ◌≢◌, ℕ, ◌+◌, ◌==◌, ◌&&◌, Bool, true, false, List, [], ◌∷◌, ◌++◌, Option, None, Some, refl, sym, ap, ◌∙◌, append_assoc, arith, ◌<◌, length, get_or, drop, add-one, drop-cons, ne_eqb}
-use Rattle.std.proofs.lemmas.Bool.{and_right, cond_both}
-use Rattle.std.proofs.lemmas.List.{append-nil}
+use Rattle.std.proofs.Common.{cond, subst, length-drop, ◌≡◌, ◌≢◌, ℕ, ◌+◌, ◌==◌, ◌&&◌, Bool, true, false, List, [], ◌∷◌, ◌++◌, Option, None, Some, refl, sym, ap, ◌∙◌, append_assoc, arith, ◌<◌, length, get_or, drop, ne_eqb}
+use Rattle.std.proofs.lemmas.Bool.{cond_both, eq-eqb}
+use Rattle.std.proofs.lemmas.List.{append-nil, drop_more}
 use Rattle.std.proofs.lemmas.Str.{chars-append, chars_past_char, chars-nil, IsUtf8-encode}
 use Rattle.std.specs.Char.{IsScalar}
 use Rattle.std.specs.Prelude.{encode_utf8, encode_utf8_all}
@@ -28,11 +28,8 @@ pub plain_char : (esc c : ℕ) (cs : List ℕ) → (c == esc) ≡ false → unes
 plain_char esc c [] ne = rw ne refl
 plain_char esc c (d ∷ cs) ne = rw ne refl
 
-eq_self : (n : ℕ) → (n == n) ≡ true
-eq_self n = grind arith
-
 pub escaped_one : (esc c : ℕ) (cs : List ℕ) → unescaped_chars esc (esc ∷ (c ∷ cs)) ≡ c ∷ unescaped_chars esc cs
-escaped_one esc c cs = rw (eq_self esc) refl
+escaped_one esc c cs = rw (eq-eqb esc esc refl) refl
 
 pub escape_taken : (esc c : ℕ) (escapes : Bool) (out rest : List ℕ) → IsScalar c → c ≡ esc → escapes ≡ false → unescaping esc escapes out (encode_utf8 c ++ rest) ≡ unescaping esc true out rest
 escape_taken esc c escapes out rest scalar is no_escape =
@@ -52,7 +49,7 @@ char_kept esc c escapes out rest scalar is ne =
 
 end_of : (esc : ℕ) (escapes : Bool) → encode_utf8_all (unescaped_chars esc (waiting escapes esc [])) ≡ []
 end_of esc false = refl
-end_of esc true = rw (eq_self esc) refl
+end_of esc true = rw (eq-eqb esc esc refl) refl
 
 pub all_unescaped : (esc : ℕ) (escapes : Bool) (out rest : List ℕ) → rest ≡ [] → unescaping esc escapes out rest ≡ out
 all_unescaped esc escapes out rest e =
@@ -95,14 +92,11 @@ scanning true within place (b ∷ bs) = open_behind within (place + 1) bs
 abbrev pub escapes_in : Quote → Bool
 escapes_in quote = escapes_at (Some (0, quote))
 
-no_close : (quote : Quote) → escapes_in quote ≡ true → closes_quote quote 92 ≡ false
-no_close Double is = refl
-no_close Single is = cc
-no_close Unquoted is = refl
-
 no_quote : (place : ℕ) (within : Option (ℕ × Quote)) → escapes_at within ≡ true → quote_after place 92 within ≡ within
 no_quote place None is = refl
-no_quote place (Some (at, quote)) is = rw (no_close quote is) refl
+no_quote place (Some (at, Double)) is = refl
+no_quote place (Some (at, Single)) is = absurd cc
+no_quote place (Some (at, Unquoted)) is = refl
 
 pub backslash_read : (within : Option (ℕ × Quote)) (place : ℕ) (bs : List ℕ) → escapes_at within ≡ true → scanning false within place (92 ∷ bs) ≡ scanning true within (place + 1) bs
 backslash_read within place [] is = no_quote place within is
@@ -114,54 +108,22 @@ pub byte_read : (within : Option (ℕ × Quote)) (place b : ℕ) (bs : List ℕ)
 byte_read within place b [] other = refl
 byte_read within place b (c ∷ cs) other = rw other refl
 
--- the same in a text, where a place is reached
-at_place : (text : List ℕ) (place : ℕ) → place < length text → drop place text ≡ get_or text place 0 ∷ drop (place + 1) text
-at_place text place inside = rw (add-one, drop-cons text place 0)
-
--- one turn of the loop: the byte at the place is passed
-pub escaped_turn : (text : List ℕ) (whole within after : Option (ℕ × Quote)) (escapes escapes_after : Bool) (place : ℕ) → place < length text
-    → whole ≡ scanning escapes within place (drop place text) → escapes ≡ true → after ≡ within → escapes_after ≡ false
-    → whole ≡ scanning escapes_after after (place + 1) (drop (place + 1) text)
-escaped_turn text whole within after escapes escapes_after place inside read e f g = read ∙ rw (e, f, g, at_place text place inside) refl
-
-pub backslash_turn : (text : List ℕ) (whole within after : Option (ℕ × Quote)) (escapes escapes_after : Bool) (place : ℕ) → place < length text
-    → whole ≡ scanning escapes within place (drop place text) → escapes ≡ false → get_or text place 0 ≡ 92 → escapes_at within ≡ true
-    → after ≡ within → escapes_after ≡ true
-    → whole ≡ scanning escapes_after after (place + 1) (drop (place + 1) text)
-backslash_turn text whole within after escapes escapes_after place inside read e is there f g =
-    read ∙ rw (e, f, g, at_place text place inside, is) (backslash_read within place (drop (place + 1) text) there)
-
-pub byte_turn : (text : List ℕ) (whole within after : Option (ℕ × Quote)) (escapes escapes_after : Bool) (place : ℕ) → place < length text
-    → whole ≡ scanning escapes within place (drop place text) → escapes ≡ false → (get_or text place 0 == 92 && escapes_at within) ≡ false
-    → after ≡ quote_after place (get_or text place 0) within → escapes_after ≡ escapes
-    → whole ≡ scanning escapes_after after (place + 1) (drop (place + 1) text)
-byte_turn text whole within after escapes escapes_after place inside read e other f g =
-    read ∙ rw (g, e, f, at_place text place inside) (byte_read within place (get_or text place 0) (drop (place + 1) text) other)
-
-pub not_there : (b : ℕ) (there : Bool) → there ≡ false → (b == 92 && there) ≡ false
-not_there b there is = rw is (and_right (b == 92) false refl)
-
-pub not_backslash : (b : ℕ) (there : Bool) → b ≢ 92 → (b == 92 && there) ≡ false
-not_backslash b there ne = rw (ne_eqb b 92 ne) refl
-
 -- an open quote stands in the text: the byte at its place is one that closes its kind
 abbrev pub StandsIn : List ℕ → Option (ℕ × Quote) → Type 0
 StandsIn text None = Unit {0}
 StandsIn text (Some within) = (within.0 < length text) × (closes_quote within.1 (get_or text within.0 0) ≡ true)
 
 after_byte : (text : List ℕ) (place : ℕ) (within : Option (ℕ × Quote)) → place < length text → StandsIn text within → StandsIn text (quote_after place (get_or text place 0) within)
-after_byte text place None inside stands = go (get_or text place 0 == 34) refl (get_or text place 0 == 39) refl
-  where
-    go : (a : Bool) → (get_or text place 0 == 34) ≡ a → (b : Bool) → (get_or text place 0 == 39) ≡ b → StandsIn text (cond a (Some (place, Double)) (cond b (Some (place, Single)) None))
-    go true e b f = (inside, e)
-    go false e true f = (inside, f)
-    go false e false f = tt
+after_byte text place None inside stands =
+    cond_both (get_or text place 0 == 34) (Some (place, Double)) (cond (get_or text place 0 == 39) (Some (place, Single)) None) (StandsIn text)
+    (λ e. (inside, e))
+    (λ _. cond_both (get_or text place 0 == 39) (Some (place, Single)) None (StandsIn text) (λ e. (inside, e)) (λ _. tt))
 after_byte text place (Some within) inside stands = cond_both (closes_quote within.1 (get_or text place 0)) None (Some within) (StandsIn text) (λ e. tt) (λ e. stands)
 
 at_front : (text : List ℕ) (place b : ℕ) (bs : List ℕ) → drop place text ≡ b ∷ bs → (place < length text) × (get_or text place 0 ≡ b) × (drop (place + 1) text ≡ bs)
 at_front text place b bs e =
     let inside : place < length text = omega (arith, length-drop place text, ap length e) in
-    let f : get_or text place 0 ∷ drop (place + 1) text ≡ b ∷ bs = sym (at_place text place inside) ∙ e in
+    let f : get_or text place 0 ∷ drop (place + 1) text ≡ b ∷ bs = sym (drop_more text place 0 inside) ∙ e in
     (inside, cc, cc)
 
 stands_behind : (text : List ℕ) (within : Option (ℕ × Quote)) (place : ℕ) (bs : List ℕ) → drop place text ≡ bs → StandsIn text within → StandsIn text (open_behind within place bs)

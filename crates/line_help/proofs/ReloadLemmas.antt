@@ -1,13 +1,12 @@
 -- A saved text is read back as it was.
-use Rattle.std.proofs.Common.{◌≡◌, ◌≢◌, ℕ, suc, ◌<◌, Bool, true, false, List, [], ◌∷◌, ◌++◌, map, length, refl, sym, ◌∙◌, ap, get_or, arith, Some, option_map, inl, inr, append_assoc}
+use Rattle.std.proofs.Common.{◌≡◌, ◌≢◌, ℕ, suc, ◌<◌, Bool, true, false, List, [], ◌∷◌, ◌++◌, map, length, refl, sym, ◌∙◌, ap, get_or, arith, Some, inl, inr, append_assoc}
 use Rattle.std.specs.Prelude.{if◌then◌else◌, ◌==◌, ◌&&◌, unwrap_or, IsUtf8}
 use Rattle.std.specs.Str.{is_utf8, chars}
-use Rattle.std.proofs.lemmas.Bool.{and_parts, ne_eqb, eqb-false, or_left, or_right}
-use Rattle.std.proofs.lemmas.List.{append-nil}
+use Rattle.std.proofs.lemmas.Bool.{and_parts, cond_both, ne_eqb, eqb-false, eqb-true, false_from_ne_true, or_left, or_right}
 use Rattle.std.proofs.lemmas.Grind.{flat_map-append}
 use lib.Utf8.{encode, encodes, scalar, scalars}
 use Rattle.std.proofs.lemmas.Bool.Decides.{eqb_tells}
-use Rattle.std.proofs.lemmas.Str.{IsUtf8-append, IsUtf8-from_is_utf8, IsUtf8-nil, is_utf8-from_IsUtf8}
+use Rattle.std.proofs.lemmas.Str.{IsUtf8-append, IsUtf8-encode, IsUtf8-from_is_utf8, IsUtf8-nil, is_utf8-from_IsUtf8}
 use Rattle.line_config.specs.declared.device.Last.TheVariants.{End}
 use Rattle.line_help.specs.History.{Settings, Filed, begins_with_space, newest_is, history_with_line, history_with_lines, nothing_filed, all_saved, newest}
 use Rattle.line_help.specs.HistoryText.{escaped_entry, escaped_byte, unescaped_row, entry_of, entries_of, row_of, rows_text, text_rows, saved_text, header, without_return, good_rows, has_bad_row, load_leaves, text_to_append}
@@ -16,43 +15,29 @@ use Rattle.line_help.proofs.EscapeLemmas.{plain_byte, no_byte}
 use Rattle.line_help.proofs.LoadLemmas.{loaded_leaves, header_is_utf8}
 use Rattle.line_help.proofs.RowLemmas.{cut_row, has_newline}
 
--- the three kinds of bytes
-data Kind (b : ℕ) : Type 0 where
-  newline : b ≡ 10 → Kind b
-  backslash : b ≡ 92 → Kind b
-  plain : (b == 10) ≡ false → b ≢ 92 → Kind b
-
-kind_of : (b : ℕ) → Kind b
-kind_of b = elim (eqb_tells b 10) [ inl h ↦ newline h.1 | inr h ↦ elim (eqb_tells b 92) [ inl k ↦ backslash k.1 | inr k ↦ plain h.0 k.1 ] ]
-
 plain_escaped : (b : ℕ) → (b == 10) ≡ false → b ≢ 92 → escaped_byte b ≡ b ∷ []
 plain_escaped b h k = rw (h, ne_eqb b 92 k) refl
+
+-- what holds of each text that a byte is saved as
+by_kind : (P : List ℕ → Type 0) (b : ℕ) → (b ≡ 10 → P (92 ∷ 110 ∷ [])) → (b ≡ 92 → P (92 ∷ 92 ∷ [])) → (b ≢ 92 → P (b ∷ [])) → P (escaped_byte b)
+by_kind P b newline backslash plain =
+    cond_both (b == 10) (92 ∷ 110 ∷ []) (if b == 92 then 92 ∷ 92 ∷ [] else b ∷ []) P (λ e. newline (eqb-true b 10 e))
+    (λ h. cond_both (b == 92) (92 ∷ 92 ∷ []) (b ∷ []) P (λ e. backslash (eqb-true b 92 e)) (λ k. plain (eqb-false b 92 k)))
 
 read_back : (text : List ℕ) → unescaped_row (escaped_entry text) ≡ Some text
 read_back [] = refl
 read_back (b ∷ bs) =
-    elim (kind_of b) [
-      | newline e ↦ rw e (ap (λ o. option_map (λ t. 10 ∷ t) o) (read_back bs))
-      | backslash e ↦ rw e (ap (λ o. option_map (λ t. 92 ∷ t) o) (read_back bs))
-      | plain h k ↦ rw (plain_escaped b h k) (plain_byte b (escaped_entry bs) k ∙ ap (λ o. option_map (λ t. b ∷ t) o) (read_back bs))
-    ]
+    by_kind (λ front. unescaped_row (front ++ escaped_entry bs) ≡ Some (b ∷ bs)) b (λ e. rw (e, read_back bs) refl) (λ e. rw (e, read_back bs) refl)
+    (λ k. plain_byte b (escaped_entry bs) k ∙ rw (read_back bs) refl)
 
 one_row : (text : List ℕ) → has_newline (escaped_entry text) ≡ false
 one_row [] = refl
 one_row (b ∷ bs) =
-    elim (kind_of b) [
-      | newline e ↦ rw e (one_row bs)
-      | backslash e ↦ rw e (one_row bs)
-      | plain h k ↦ rw (plain_escaped b h k, h) (one_row bs)
-    ]
+    cond_both (b == 10) (92 ∷ 110 ∷ []) (if b == 92 then 92 ∷ 92 ∷ [] else b ∷ []) (λ front. has_newline (front ++ escaped_entry bs) ≡ false) (λ _. one_row bs)
+    (λ h. cond_both (b == 92) (92 ∷ 92 ∷ []) (b ∷ []) (λ front. has_newline (front ++ escaped_entry bs) ≡ false) (λ _. one_row bs) (λ _. rw h (one_row bs)))
 
 escaped_some : (b : ℕ) (bs : List ℕ) → 0 < length (escaped_entry (b ∷ bs))
-escaped_some b bs =
-    elim (kind_of b) [
-      | newline e ↦ rw e (omega arith)
-      | backslash e ↦ rw e (omega arith)
-      | plain h k ↦ rw (plain_escaped b h k) (omega arith)
-    ]
+escaped_some b bs = by_kind (λ front. 0 < length (front ++ escaped_entry bs)) b (λ _. omega arith) (λ _. omega arith) (λ _. omega arith)
 
 abbrev ends_in_return : List ℕ → Bool
 ends_in_return [] = false
@@ -61,11 +46,7 @@ ends_in_return (b ∷ (c ∷ bs)) = ends_in_return (c ∷ bs)
 
 no_return_at_end : (row : List ℕ) → without_return row ≡ row → ends_in_return row ≡ false
 no_return_at_end [] e = refl
-no_return_at_end (b ∷ []) e = sole (b == 13) e
-  where
-    sole : (r : Bool) → (if r then [] else b ∷ []) ≡ b ∷ [] → r ≡ false
-    sole true e = cc
-    sole false e = refl
+no_return_at_end (b ∷ []) e = false_from_ne_true (b == 13) (λ r. let f : [] ≡ b ∷ [] = rw r at e in absurd cc)
 no_return_at_end (b ∷ (c ∷ bs)) e = let rest : without_return (c ∷ bs) ≡ c ∷ bs = cc in no_return_at_end (c ∷ bs) rest
 
 ends_behind : (b : ℕ) (bs : List ℕ) → 0 < length bs → ends_in_return (b ∷ bs) ≡ ends_in_return bs
@@ -74,19 +55,11 @@ ends_behind b (c ∷ bs) some = refl
 
 same_end : (text : List ℕ) → ends_in_return (escaped_entry text) ≡ ends_in_return text
 same_end [] = refl
-same_end (b ∷ []) =
-    elim (kind_of b) [
-      | newline e ↦ rw e refl
-      | backslash e ↦ rw e refl
-      | plain h k ↦ rw (plain_escaped b h k) refl
-    ]
+same_end (b ∷ []) = by_kind (λ front. ends_in_return (front ++ []) ≡ (b == 13)) b (λ e. rw e refl) (λ e. rw e refl) (λ _. refl)
 same_end (b ∷ (c ∷ bs)) =
-    let some = escaped_some c bs in
-    elim (kind_of b) [
-      | newline e ↦ rw e (ends_behind 110 (escaped_entry (c ∷ bs)) some ∙ same_end (c ∷ bs))
-      | backslash e ↦ rw e (ends_behind 92 (escaped_entry (c ∷ bs)) some ∙ same_end (c ∷ bs))
-      | plain h k ↦ rw (plain_escaped b h k) (ends_behind b (escaped_entry (c ∷ bs)) some ∙ same_end (c ∷ bs))
-    ]
+    let rest = escaped_entry (c ∷ bs) in
+    let on = λ (x : ℕ). ends_behind x rest (escaped_some c bs) ∙ same_end (c ∷ bs) in
+    by_kind (λ front. ends_in_return (front ++ rest) ≡ ends_in_return (c ∷ bs)) b (λ _. on 110) (λ _. on 92) (λ _. on b)
 
 without_same : (row : List ℕ) → ends_in_return row ≡ false → without_return row ≡ row
 without_same [] e = refl
@@ -108,32 +81,22 @@ plain_text (x ∷ xs) p q =
     rw (plain_escaped x (ne_eqb x 10 (p 0 (omega arith))) (q 0 (omega arith)))
     (ap (λ t. x ∷ t) (plain_text xs (λ k h. p (suc k) (omega arith)) (λ k h. q (suc k) (omega arith))))
 
-newline_utf8 : IsUtf8 (92 ∷ 110 ∷ [])
+newline_utf8 : IsUtf8 (escaped_entry (encode 10))
 unfolding is_utf8 chars encode
 newline_utf8 = IsUtf8-from_is_utf8 (92 ∷ 110 ∷ []) refl
 
-backslash_utf8 : IsUtf8 (92 ∷ 92 ∷ [])
+backslash_utf8 : IsUtf8 (escaped_entry (encode 92))
 unfolding is_utf8 chars encode
 backslash_utf8 = IsUtf8-from_is_utf8 (92 ∷ 92 ∷ []) refl
 
-newline_escaped : escaped_entry (encode 10) ≡ 92 ∷ 110 ∷ []
-unfolding encode
-newline_escaped = refl
-
-backslash_escaped : escaped_entry (encode 92) ≡ 92 ∷ 92 ∷ []
-unfolding encode
-backslash_escaped = refl
-
-char_utf8 : (c : ℕ) → scalar c ≡ true → IsUtf8 (encode c)
-char_utf8 c e = (c ∷ [], (rw e refl, append-nil (encode c)))
-
 char_escaped : (c : ℕ) → scalar c ≡ true → IsUtf8 (escaped_entry (encode c))
-char_escaped c s =
-    elim (kind_of c) [
-      | newline e ↦ rw (e, newline_escaped) newline_utf8
-      | backslash e ↦ rw (e, backslash_escaped) backslash_utf8
-      | plain h k ↦ rw (plain_text (encode c) (λ i l. no_byte c 10 i (eqb-false c 10 h) (omega arith) l) (λ i l. no_byte c 92 i k (omega arith) l)) (char_utf8 c s)
-    ]
+char_escaped c s = elim (eqb_tells c 10) [
+  | inl h ↦ rw h.1 newline_utf8
+  | inr h ↦ elim (eqb_tells c 92) [
+    | inl k ↦ rw k.1 backslash_utf8
+    | inr k ↦ rw (plain_text (encode c) (λ i l. no_byte c 10 i h.1 (omega arith) l) (λ i l. no_byte c 92 i k.1 (omega arith) l)) (IsUtf8-encode c s)
+  ]
+]
 
 chars_escaped : (cs : List ℕ) → scalars cs ≡ true → IsUtf8 (escaped_entry (encodes cs))
 chars_escaped [] e = IsUtf8-nil

@@ -1,19 +1,17 @@
 -- Rows of a text: a row up to its newline, the last row, a row that a failure cuts off.
 use Rattle.std.proofs.Common.{◌≡◌, ◌≢◌, ℕ, suc, ◌+◌, ◌-◌, ◌<◌, ◌≤◌, le_trans, inl, inr, IsTrue, Bool, true, false, List, [], ◌∷◌, ◌++◌, length, take, refl, sym, ap, ◌∙◌, append_assoc, get_or, Option, Some, None, arith}
-use Rattle.std.specs.Prelude.{slice_get, if◌then◌else◌, ◌&&◌, ◌==◌, not, unwrap_or, Result, Ok, Err}
+use Rattle.std.specs.Prelude.{if◌then◌else◌, ◌&&◌, ◌==◌, not, unwrap_or, Ok, Err}
 use Rattle.std.specs.List.{list_any, position_or_len}
-use Rattle.std.specs.Option.{option_map_or}
 use Rattle.std.specs.Str.{is_utf8}
-use Rattle.std.proofs.lemmas.List.{append-nil, get_or-take, length-take-le, take_more}
+use Rattle.std.proofs.lemmas.List.{append-nil, get_or-take, length-take-le, nil_from_length, take_more}
 use Rattle.std.proofs.lemmas.List.Sums.{fails_before_first, passes_at_first, position_or_len_is, prefix_len-le-length}
 use Rattle.std.proofs.lemmas.List.Folds.{list_any-append, list_any_none}
-use Rattle.std.proofs.lemmas.Bool.{eq-eqb, eqb-true, false_from_ne_true, ne_eqb, or_from, or_parts}
+use Rattle.std.proofs.lemmas.Bool.{and_right, cond_both, eq-eqb, eqb-true, false_from_ne_true, ne_eqb, or_from, or_parts}
 use Rattle.memchr.specs.Find.{IsFirstByte, is_byte}
 use Rattle.line_config.specs.Feed.{Feed, GivesBytes, device_failed, front_of}
 use Rattle.line_config.specs.declared.device.Last.{Last, TheVariants.End, TheVariants.Failed}
 use Rattle.line_config.specs.declared.errors.ReadlineError.{ReadlineError, TheVariants.Memory, TheVariants.Reader}
-use Rattle.script.proofs.ScriptLaws.{ok_not_err}
-use Rattle.line_help.specs.HistoryText.{TakesPiece, text_rows, onto, without_return, behind_row, EndIsMet, LosesRow, ReadsByte, ReadsGood, ReadsRow}
+use Rattle.line_help.specs.HistoryText.{TakesPiece, text_rows, without_return, behind_row, EndIsMet, LosesRow, ReadsByte, ReadsGood, ReadsRow}
 
 -- no newline stands among these bytes
 abbrev pub has_newline : List ℕ → Bool
@@ -68,57 +66,32 @@ last_other (b ∷ (c ∷ bs)) d some e =
     ap (λ t. b ∷ t) (last_other (c ∷ bs) d (omega arith) (rw m f))
 
 pub no_return : (xs : List ℕ) → length xs ≡ 0 → without_return xs ≡ xs
-no_return [] none = refl
-no_return (x ∷ xs) none = absurd (omega arith)
+no_return xs none = rw (nil_from_length xs none) refl
 
 pub ruleset row_steps = (last_return, no_return, newline_at)
 
-one_byte : (last : Last) (b : ℕ) (rows : List (List ℕ)) (newline return : Bool) → newline ≡ false
-    → (if newline then [] ∷ ([] ∷ rows) else if return && true then [] ∷ rows else onto ([] ∷ rows) last b) ≡ (if return then [] else b ∷ []) ∷ rows
-one_byte last b rows true return h = cc
-one_byte last b rows false true h = refl
-one_byte last b rows false false h = refl
-
-more_bytes : (last : Last) (b : ℕ) (inner : List (List ℕ)) (row : List ℕ) (rows : List (List ℕ)) (newline return next : Bool) → inner ≡ row ∷ rows → newline ≡ false → next ≡ false
-    → (if newline then [] ∷ inner else if return && next then inner else onto inner last b) ≡ (b ∷ row) ∷ rows
-more_bytes last b inner row rows true return next e h k = cc
-more_bytes last b inner row rows false true true e h k = cc
-more_bytes last b inner row rows false true false e h k = rw e refl
-more_bytes last b inner row rows false false next e h k = rw e refl
-
-sole_byte : (b : ℕ) (newline return : Bool) → newline ≡ false → (if newline then [] ∷ [] else if return && false then [] else onto [] End b) ≡ (b ∷ []) ∷ []
-sole_byte b true return h = cc
-sole_byte b false true h = refl
-sole_byte b false false h = refl
-
-cut_byte : (b : ℕ) (inner : List (List ℕ)) (newline return : Bool) → inner ≡ [] → newline ≡ false → (if newline then [] ∷ inner else if return then inner else onto inner Failed b) ≡ []
-cut_byte b inner true return e h = cc
-cut_byte b inner false true e h = e
-cut_byte b inner false false e h = rw e refl
+one_byte : (return : Bool) (b : ℕ) (rows : List (List ℕ)) → (if return && true then [] ∷ rows else (b ∷ []) ∷ rows) ≡ (if return then [] else b ∷ []) ∷ rows
+one_byte true b rows = refl
+one_byte false b rows = refl
 
 pub cut_row : (last : Last) (xs rest : List ℕ) → has_newline xs ≡ false → text_rows last (xs ++ 10 ∷ rest) ≡ without_return xs ∷ text_rows last rest
 cut_row last [] rest none = refl
-cut_row last (b ∷ []) rest none = one_byte last b (text_rows last rest) (b == 10) (b == 13) (or_parts (b == 10) false none).0
+cut_row last (b ∷ []) rest none = rw (or_parts (b == 10) false none).0 (one_byte (b == 13) b (text_rows last rest))
 cut_row last (b ∷ (c ∷ xs)) rest none =
-    let h = (or_parts (b == 10) (has_newline (c ∷ xs)) none).0 in
-    let k = (or_parts (b == 10) (has_newline (c ∷ xs)) none).1 in
-    let m = (or_parts (c == 10) (has_newline xs) k).0 in
-    more_bytes last b (text_rows last (c ∷ (xs ++ 10 ∷ rest))) (without_return (c ∷ xs)) (text_rows last rest) (b == 10) (b == 13) (c == 10) (cut_row last (c ∷ xs) rest k) h m
+    let here = or_parts (b == 10) (has_newline (c ∷ xs)) none in
+    rw (here.0, cut_row last (c ∷ xs) rest here.1, (or_parts (c == 10) (has_newline xs) here.1).0, and_right (b == 13) false refl) refl
 
 pub last_row : (b : ℕ) (xs : List ℕ) → has_newline (b ∷ xs) ≡ false → text_rows End (b ∷ xs) ≡ (b ∷ xs) ∷ []
-last_row b [] none = sole_byte b (b == 10) (b == 13) (or_parts (b == 10) false none).0
+last_row b [] none = rw ((or_parts (b == 10) false none).0, and_right (b == 13) false refl) refl
 last_row b (c ∷ xs) none =
-    let h = (or_parts (b == 10) (has_newline (c ∷ xs)) none).0 in
-    let k = (or_parts (b == 10) (has_newline (c ∷ xs)) none).1 in
-    let m = (or_parts (c == 10) (has_newline xs) k).0 in
-    more_bytes End b (text_rows End (c ∷ xs)) (c ∷ xs) [] (b == 10) (b == 13) (c == 10) (last_row c xs k) h m
+    let here = or_parts (b == 10) (has_newline (c ∷ xs)) none in
+    rw (here.0, last_row c xs here.1, (or_parts (c == 10) (has_newline xs) here.1).0, and_right (b == 13) false refl) refl
 
 pub cut_off : (xs : List ℕ) → has_newline xs ≡ false → text_rows Failed xs ≡ []
 cut_off [] none = refl
 cut_off (b ∷ xs) none =
-    let h = (or_parts (b == 10) (has_newline xs) none).0 in
-    let k = (or_parts (b == 10) (has_newline xs) none).1 in
-    cut_byte b (text_rows Failed xs) (b == 10) (b == 13 && option_map_or (λ c. c == 10) (slice_get xs 0) false) (cut_off xs k) h
+    let here = or_parts (b == 10) (has_newline xs) none in
+    rw (here.0, cut_off xs here.1) (cond_both _ _ _ (λ rows. rows ≡ []) (λ _. refl) (λ _. refl))
 
 nothing_behind : (xs ys : List ℕ) → [] ≡ xs ++ ys → ys ≡ []
 nothing_behind [] ys e = sym e
@@ -128,29 +101,8 @@ nothing_behind (x ∷ xs) ys e = cc
 abbrev pub GoodUpTo : List ℕ → List ℕ → Type 0
 GoodUpTo text coming = (later : List ℕ) → ReadsGood coming later → ReadsGood text later
 
--- a row that is UTF-8, up to its newline, before what reads on so; a part of a row; the last row
-pub row_reads : (xs coming : List ℕ) → has_newline xs ≡ false → is_utf8 (without_return xs) ≡ true → GoodUpTo (xs ++ (10 ∷ coming)) coming
-row_reads xs coming none utf8 later r = record {
-  read = xs ++ (10 ∷ r.read);
-  split = ap (λ bytes. xs ++ (10 ∷ bytes)) r.split ∙ sym (append_assoc xs (10 ∷ r.read) later);
-  good = rw (cut_row Failed xs r.read none, utf8) r.good;
-}
-
-one_more : (xs : List ℕ) (b : ℕ) → has_newline xs ≡ false → b ≢ 10 → has_newline (xs ++ (b ∷ [])) ≡ false
-one_more [] b none other = rw (ne_eqb b 10 other) refl
-one_more (x ∷ xs) b none other =
-    let both = or_parts (x == 10) (has_newline xs) none in
-    rw both.0 (one_more xs b both.1 other)
-
 pub more_free : (xs ys : List ℕ) → has_newline xs ≡ false → has_newline ys ≡ false → has_newline (xs ++ ys) ≡ false
 more_free xs ys one two = list_any-append (λ b. b == 10) xs ys ∙ or_from (has_newline xs) (has_newline ys) one two
-
-pub pieces_read : (xs piece coming : List ℕ) (b : ℕ) → has_newline xs ≡ false → b ≢ 10 → has_newline piece ≡ false → ReadsGood (xs ++ (b ∷ (piece ++ coming))) coming
-pieces_read xs piece coming b none other inside = record {
-  read = xs ++ (b ∷ piece);
-  split = sym (append_assoc xs (b ∷ piece) coming);
-  good = rw (cut_off (xs ++ (b ∷ piece)) (more_free xs (b ∷ piece) none (or_from (b == 10) (has_newline piece) (ne_eqb b 10 other) inside))) refl;
-}
 
 pub none_read : (coming : List ℕ) → ReadsGood coming coming
 none_read coming = record { read = []; split = refl; good = refl }
@@ -166,28 +118,17 @@ at_end (b ∷ row) empty none h = let f : (suc (length row) == 0) ≡ false = ne
 
 pub behind_cut : (xs rest : List ℕ) → has_newline xs ≡ false → behind_row (xs ++ 10 ∷ rest) ≡ rest
 behind_cut [] rest none = refl
-behind_cut (b ∷ xs) rest none =
-    let both = or_parts (b == 10) (has_newline xs) none in
-    rw both.0 (behind_cut xs rest both.1)
+behind_cut (b ∷ xs) rest none = let here = or_parts (b == 10) (has_newline xs) none in rw here.0 (behind_cut xs rest here.1)
 
 pub behind_none : (xs : List ℕ) → has_newline xs ≡ false → behind_row xs ≡ []
 behind_none [] none = refl
-behind_none (b ∷ xs) none =
-    let both = or_parts (b == 10) (has_newline xs) none in
-    rw both.0 (behind_none xs both.1)
+behind_none (b ∷ xs) none = let here = or_parts (b == 10) (has_newline xs) none in rw here.0 (behind_none xs here.1)
 
 pub part_lost : (xs coming : List ℕ) → has_newline xs ≡ false → LosesRow (xs ++ coming) coming
 part_lost xs coming none = record { lost = xs; split = refl; row = behind_none xs none }
 
 pub row_lost : (xs coming : List ℕ) → has_newline xs ≡ false → LosesRow (xs ++ (10 ∷ coming)) coming
 row_lost xs coming none = record { lost = xs ++ (10 ∷ []); split = sym (append_assoc xs (10 ∷ []) coming); row = behind_cut xs [] none }
-
-pub piece_lost : (xs piece coming : List ℕ) (b : ℕ) → has_newline xs ≡ false → b ≢ 10 → has_newline piece ≡ false → LosesRow (xs ++ (b ∷ (piece ++ coming))) coming
-piece_lost xs piece coming b none other inside = record {
-  lost = xs ++ (b ∷ piece);
-  split = sym (append_assoc xs (b ∷ piece) coming);
-  row = behind_none (xs ++ (b ∷ piece)) (more_free xs (b ∷ piece) none (or_from (b == 10) (has_newline piece) (ne_eqb b 10 other) inside));
-}
 
 -- a row that stands whole in what a source has, and what comes behind its newline
 pub record StandsWhole (here onward row : List ℕ) : Type 0 where
@@ -200,7 +141,11 @@ whole_row : (xs here onward row : List ℕ) → has_newline xs ≡ false → her
 whole_row xs here onward row none cut is = record {
   rows = λ last. ap (text_rows last) cut ∙ cut_row last xs onward none ∙ ap (λ r. r ∷ text_rows last onward) (sym is);
   behind = sym (ap behind_row cut ∙ behind_cut xs onward none);
-  good = λ utf8. rw cut (row_reads xs onward none (rw is at utf8));
+  good = λ utf8 later r. record {
+    read = xs ++ (10 ∷ r.read);
+    split = cut ∙ ap (λ bytes. xs ++ (10 ∷ bytes)) r.split ∙ sym (append_assoc xs (10 ∷ r.read) later);
+    good = rw (cut_row Failed xs r.read none, (rw is at utf8)) r.good;
+  };
   lost = rw cut (row_lost xs onward none);
 }
 
@@ -223,8 +168,7 @@ still_met met old new bytes ended given is = (
 )
 
 pub not_met : (met : Bool) (feed : Feed) → met ≡ false → EndIsMet met feed
-not_met true feed e met = absurd (let k : true ≡ false = e in cc)
-not_met false feed e met = absurd (let k : false ≡ true = met in cc)
+not_met met feed e is = absurd (let k : false ≡ true = sym e ∙ is in cc)
 
 -- ---- a row that is read: its bytes so far, and what remains
 
@@ -237,24 +181,12 @@ pub record RowSoFar (old here : Feed) (xs : List ℕ) : Type 0 where
   pub inside : has_newline xs ≡ false
 
 refused_front : (bytes : List ℕ) (last : Last) → Err device_failed ≡ front_of bytes last → (bytes ≡ []) × (last ≡ Failed)
-refused_front (b ∷ bytes) last is = ok_not_err (Some b) device_failed (sym is)
-refused_front [] End is = ok_not_err None device_failed (sym is)
+refused_front (b ∷ bytes) last is = absurd cc
+refused_front [] End is = absurd cc
 refused_front [] Failed is = (refl, refl)
 
-abbrev answered : Bool → Result Bool ReadlineError
-answered b = Ok b
-
-abbrev failed : ReadlineError → Result Bool ReadlineError
-failed e = Err e
-
-no_other : {X : Type 0} → answered true ≡ answered false → X
-no_other is = absurd cc
-
-no_memory : {X : Type 0} → failed Reader ≡ failed Memory → X
-no_memory is = absurd cc
-
-some_byte : (xs : List ℕ) (empty : Bool) → empty ≡ (length xs == 0) → answered (not empty) ≡ answered true → 0 < length xs
-some_byte [] empty e is = no_other (sym (rw e at is))
+some_byte : (xs : List ℕ) (empty : Bool) → empty ≡ (length xs == 0) → not empty ≡ true → 0 < length xs
+some_byte [] empty e is = absurd (let k : false ≡ true = rw e at is in cc)
 some_byte (x ∷ xs) empty e is = omega arith
 
 module _ (old here new : Feed) (xs : List ℕ) (so : RowSoFar old here xs) where
@@ -265,11 +197,11 @@ module _ (old here new : Feed) (xs : List ℕ) (so : RowSoFar old here xs) where
       record {
         row = λ told. (w told).rows old.last;
         behind = λ told whole. (w told).behind;
-        end = λ told none. no_other none;
-        cut = λ told none. ok_not_err true Reader none;
+        end = λ told none. absurd cc;
+        cut = λ told none. absurd cc;
         lost = λ told. (w told).lost;
         good = λ told whole utf8. (w told).good utf8;
-        memory = λ told none. ok_not_err true Memory none;
+        memory = λ told none. absurd cc;
         ended = not_met met new unmet;
         fault = tt;
         failure = byte.gives.failure;
@@ -289,16 +221,16 @@ module _ (old here new : Feed) (xs : List ℕ) (so : RowSoFar old here xs) where
         row = λ told. rw (last told, all told, after told) (at_end xs empty so.inside e);
         behind = λ told some. rw (all told, after told) (sym (behind_none xs so.inside));
         end = λ told some. (last told, after told);
-        cut = λ told some. ok_not_err (not empty) Reader some;
+        cut = λ told some. absurd cc;
         lost = λ told. rw (so.split (byte.gives.told told), (none told).0, after told) (part_lost xs [] so.inside);
         good = λ told some utf8 later r. rw (all told) (last_reads xs so.inside later (rw (after told) at r));
-        memory = λ told some. ok_not_err (not empty) Memory some;
+        memory = λ told some. absurd cc;
         ended = λ met. (byte.gives.failure, λ told. (after told, byte.gives.last ∙ (none told).1));
         fault = tt;
         failure = byte.gives.failure;
         told = λ told. so.told (byte.gives.told told);
         last = byte.gives.last ∙ so.last;
-        falls = λ some. omega (arith, byte.gives.keeps, so.used (some_byte xs empty e some));
+        falls = λ some. omega (arith, byte.gives.keeps, so.used (some_byte xs empty e (cc)));
         keeps = le_trans byte.gives.keeps so.bound;
       }
 
@@ -311,55 +243,60 @@ module _ (old here new : Feed) (xs : List ℕ) (so : RowSoFar old here xs) where
       let all : IsTrue new.told → old.coming ≡ xs = λ told. so.split (byte.gives.told told) ∙ ap (λ rest. xs ++ rest) (front told).0 ∙ append-nil xs in
       record {
         row = λ told. tt;
-        behind = λ told is. ok_not_err true Reader (sym is);
-        end = λ told is. ok_not_err false Reader (sym is);
+        behind = λ told is. absurd cc;
+        end = λ told is. absurd cc;
         cut = λ told is. (last told, after told, rw (last told, all told) (cut_off xs so.inside));
         lost = λ told. rw (so.split (byte.gives.told told), (front told).0, after told) (part_lost xs [] so.inside);
-        good = λ told is. ok_not_err true Reader (sym is);
-        memory = λ told is. no_memory is;
+        good = λ told is. absurd cc;
+        memory = λ told is. absurd cc;
         ended = not_met met new unmet;
         fault = inr refl;
         failure = byte.gives.failure;
         told = λ told. so.told (byte.gives.told told);
         last = byte.gives.last ∙ so.last;
-        falls = λ is. ok_not_err true Reader (sym is);
+        falls = λ is. absurd cc;
         keeps = le_trans byte.gives.keeps so.bound;
       }
 
   -- a byte other than a newline, and the bytes behind it that were buffered
   module _ (b : ℕ) (other : b ≢ 10) (byte : ReadsByte here new (Ok (Some b))) (later : Feed) (ys : List ℕ) (piece : TakesPiece new later (xs ++ (b ∷ [])) ys) where
-    split_on : IsTrue later.told → old.coming ≡ xs ++ (b ∷ (piece.piece ++ later.coming))
+    all_read : ys ≡ xs ++ (b ∷ piece.piece)
+    all_read = piece.row ∙ append_assoc xs (b ∷ []) piece.piece
+
+    split_on : IsTrue later.told → old.coming ≡ ys ++ later.coming
     split_on told =
         let given = piece.given.gives told in
         so.split (byte.gives.told given.0) ∙ ap (λ rest. xs ++ rest) (byte.gives.read given.0 ∙ ap (λ rest. b ∷ rest) given.1)
+        ∙ sym (ap (λ bytes. bytes ++ later.coming) all_read ∙ append_assoc xs (b ∷ piece.piece) later.coming)
+
+    free : has_newline ys ≡ false
+    free = rw all_read (more_free xs (b ∷ piece.piece) so.inside (or_from (b == 10) (has_newline piece.piece) (ne_eqb b 10 other) piece.inside))
 
     pub row_goes_on : RowSoFar old later ys
     row_goes_on = record {
       told = λ told. so.told (byte.gives.told (piece.given.gives told).0);
-      split = λ told.
-          split_on told
-          ∙ sym (ap (λ bytes. bytes ++ later.coming) piece.row ∙ append_assoc (xs ++ (b ∷ [])) piece.piece later.coming ∙ append_assoc xs (b ∷ []) (piece.piece ++ later.coming));
+      split = split_on;
       last = piece.given.last ∙ byte.gives.last ∙ so.last;
       bound = omega (arith, piece.given.falls, byte.gives.falls, so.bound);
       used = λ some. omega (arith, piece.given.falls, byte.gives.falls, so.bound);
-      inside = rw piece.row (more_free (xs ++ (b ∷ [])) piece.piece (one_more xs b so.inside other) piece.inside);
+      inside = free;
     }
 
     -- memory runs out
     pub row_unkept : (bytes : List ℕ) (met : Bool) → met ≡ false → ReadsRow old later bytes met (Err Memory)
     row_unkept bytes met unmet = record {
       row = λ told. tt;
-      behind = λ told is. ok_not_err true Memory (sym is);
-      end = λ told is. ok_not_err false Memory (sym is);
-      cut = λ told is. no_memory (sym is);
-      lost = λ told. rw (split_on told) (piece_lost xs piece.piece later.coming b so.inside other piece.inside);
-      good = λ told is. ok_not_err true Memory (sym is);
-      memory = λ told is. rw (split_on told) (pieces_read xs piece.piece later.coming b so.inside other piece.inside);
+      behind = λ told is. absurd cc;
+      end = λ told is. absurd cc;
+      cut = λ told is. absurd cc;
+      lost = λ told. rw (split_on told) (part_lost ys later.coming free);
+      good = λ told is. absurd cc;
+      memory = λ told is. record { read = ys; split = split_on told; good = rw (cut_off ys free) refl };
       ended = not_met met later unmet;
       fault = inl refl;
       failure = piece.given.failed ∙ byte.gives.failure;
       told = λ told. so.told (byte.gives.told (piece.given.gives told).0);
       last = piece.given.last ∙ byte.gives.last ∙ so.last;
-      falls = λ is. ok_not_err true Memory (sym is);
+      falls = λ is. absurd cc;
       keeps = omega (arith, piece.given.falls, byte.gives.falls, so.bound);
     }

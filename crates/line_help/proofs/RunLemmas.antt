@@ -3,7 +3,7 @@ use Rattle.std.proofs.Common.{◌≡◌, ℕ, zero, suc, ◌+◌, ◌-◌, ◌<�
 use Rattle.std.specs.Prelude.{◌==◌}
 use Rattle.std.specs.Result.{IsErrAnd}
 use Rattle.std.proofs.lemmas.Bool.{or_parts, false_from_ne_true}
-use Rattle.std.proofs.lemmas.List.{take_all, drop_all, length-drop, drop-drop, take-append-drop}
+use Rattle.std.proofs.lemmas.List.{take_all, take_more, drop_all, drop_more, length-drop, drop-drop, take-append-drop}
 use Rattle.std.proofs.lemmas.Grind.{flat_map-append}
 use Rattle.memchr.specs.Find.{Nowhere, Passes, is_byte2}
 use Rattle.line_config.specs.Sending.{Takes, TakesSome}
@@ -18,38 +18,27 @@ plain_byte b none = let parts = or_parts (b == 10) (b == 92) none in rw (parts.0
 abbrev pub IsRun : List ℕ → ℕ → Type 0
 IsRun xs n = Nowhere (Passes (is_byte2 10 92) xs) 0 n
 
-abbrev later : (x : ℕ) (xs : List ℕ) (n : ℕ) → IsRun (x ∷ xs) (suc n) → IsRun xs n
-later x xs n run = λ k low high. run (suc k) (omega arith) (omega arith)
-
-abbrev first : (x : ℕ) (xs : List ℕ) (n : ℕ) → IsRun (x ∷ xs) (suc n) → escaped_byte x ≡ x ∷ []
-first x xs n run = plain_byte x (false_from_ne_true _ (run 0 (omega arith) (omega arith)))
-
 -- a run is written as it is
 run_is : (xs : List ℕ) (n : ℕ) → n ≤ length xs → IsRun xs n → escaped_entry (take n xs) ≡ take n xs
 run_is xs zero fits run = refl
 run_is [] (suc n) fits run = absurd (omega arith)
 run_is (x ∷ xs) (suc n) fits run =
-    ap (λ bytes. bytes ++ escaped_entry (take n xs)) (first x xs n run)
-    ∙ ap (λ bytes. x ∷ bytes) (run_is xs n (omega arith) (later x xs n run))
+    ap (λ bytes. bytes ++ escaped_entry (take n xs)) (plain_byte x (false_from_ne_true _ (run 0 (omega arith) (omega arith))))
+    ∙ ap (λ bytes. x ∷ bytes) (run_is xs n (omega arith) (λ k low high. run (suc k) (omega arith) (omega arith)))
 
 pub all_is : (xs : List ℕ) → IsRun xs (length xs) → escaped_entry xs ≡ xs
 all_is xs run = subst (λ ys. escaped_entry ys ≡ ys) (take_all (length xs) xs (omega arith)) (run_is xs (length xs) (omega arith) run)
 
 -- a run and what follows it
 split_at : (xs : List ℕ) (n : ℕ) → n < length xs → IsRun xs n
-    → escaped_entry xs ≡ take n xs ++ (escaped_byte (get_or xs n 0) ++ escaped_entry (drop (suc n) xs))
-split_at [] n fits run = absurd (omega arith)
-split_at (x ∷ xs) zero fits run = refl
-split_at (x ∷ xs) (suc n) fits run =
-    ap (λ bytes. bytes ++ escaped_entry xs) (first x xs n run)
-    ∙ ap (λ bytes. x ∷ bytes) (split_at xs n (omega arith) (later x xs n run))
+    → escaped_entry xs ≡ take n xs ++ (escaped_byte (get_or xs n 0) ++ escaped_entry (drop (n + 1) xs))
+split_at xs n fits run =
+    ap escaped_entry (sym (take-append-drop n xs)) ∙ flat_map-append escaped_byte (take n xs) (drop n xs)
+    ∙ rw (run_is xs n (omega arith) run, drop_more xs n 0 fits) refl
 
-taken_at : (xs : List ℕ) (n : ℕ) → n < length xs → IsRun xs n → escaped_entry (take (suc n) xs) ≡ take n xs ++ escaped_byte (get_or xs n 0)
-taken_at [] n fits run = absurd (omega arith)
-taken_at (x ∷ xs) zero fits run = append-nil (escaped_byte x)
-taken_at (x ∷ xs) (suc n) fits run =
-    ap (λ bytes. bytes ++ escaped_entry (take (suc n) xs)) (first x xs n run)
-    ∙ ap (λ bytes. x ∷ bytes) (taken_at xs n (omega arith) (later x xs n run))
+taken_at : (xs : List ℕ) (n : ℕ) → n < length xs → IsRun xs n → escaped_entry (take (n + 1) xs) ≡ take n xs ++ escaped_byte (get_or xs n 0)
+taken_at xs n fits run =
+    rw (take_more xs n 0 fits, flat_map-append escaped_byte (take n xs) (get_or xs n 0 ∷ []), run_is xs n (omega arith) run, append-nil) refl
 
 module _ {D : Type 0} (held : D → List ℕ) (failed : D → Bool) (bytes : List ℕ) where
   pub run_refused : (Q : ReadlineError → Type 0) {a b : D} {r : Result ℕ ReadlineError}
@@ -61,20 +50,19 @@ module _ {D : Type 0} (held : D → List ℕ) (failed : D → Bool) (bytes : Lis
   pub run_begun : (n : ℕ) {a b : D} → n < length bytes → IsRun bytes n → TakesSome held a b (take n bytes) → TakesSome held a b (escaped_entry bytes)
   run_begun n {a = a} {b = b} fits run some =
       subst (TakesSome held a b) (sym (split_at bytes n fits run))
-      (some_of_more held a b (take n bytes) (escaped_byte (get_or bytes n 0) ++ escaped_entry (drop (suc n) bytes)) some)
+      (some_of_more held a b (take n bytes) (escaped_byte (get_or bytes n 0) ++ escaped_entry (drop (n + 1) bytes)) some)
 
   pub escape_begun : (n : ℕ) {a b c : D} → n < length bytes → IsRun bytes n → Takes held a b (take n bytes) → TakesSome held b c (escaped_byte (get_or bytes n 0))
       → TakesSome held a c (escaped_entry bytes)
   escape_begun n {a = a} {b = b} {c = c} fits run took some =
       subst (TakesSome held a c) (sym (split_at bytes n fits run))
-      (some_then held a b c (take n bytes) (escaped_byte (get_or bytes n 0) ++ escaped_entry (drop (suc n) bytes)) took
-      (some_of_more held b c (escaped_byte (get_or bytes n 0)) (escaped_entry (drop (suc n) bytes)) some))
+      (some_then held a b c (take n bytes) (escaped_byte (get_or bytes n 0) ++ escaped_entry (drop (n + 1) bytes)) took
+      (some_of_more held b c (escaped_byte (get_or bytes n 0)) (escaped_entry (drop (n + 1) bytes)) some))
 
-  pub run_sent : (n m : ℕ) (a b c : D) → n < length bytes → m ≡ suc n → IsRun bytes n → Takes held a b (take n bytes)
-      → Takes held b c (escaped_byte (get_or bytes n 0)) → Takes held a c (escaped_entry (take m bytes))
-  run_sent n m a b c fits is run took more =
-      subst (λ k. Takes held a c (escaped_entry (take k bytes))) (sym is)
-      (subst (Takes held a c) (sym (taken_at bytes n fits run)) (takes_then held a b c (take n bytes) (escaped_byte (get_or bytes n 0)) took more))
+  pub run_sent : (n : ℕ) (a b c : D) → n < length bytes → IsRun bytes n → Takes held a b (take n bytes)
+      → Takes held b c (escaped_byte (get_or bytes n 0)) → Takes held a c (escaped_entry (take (n + 1) bytes))
+  run_sent n a b c fits run took more =
+      subst (Takes held a c) (sym (taken_at bytes n fits run)) (takes_then held a b c (take n bytes) (escaped_byte (get_or bytes n 0)) took more)
 
   -- ---- run after run: this is sent of the entry's text
 

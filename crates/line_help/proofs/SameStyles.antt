@@ -1,10 +1,12 @@
 -- Styles that compare as equal are the same.
-use Rattle.std.proofs.Common.{◌≡◌, ℕ, ◌==◌, ◌&&◌, true, true≢false, refl, sym, ap, subst, arith}
+use Rattle.std.proofs.Common.{◌≡◌, ℕ, ◌==◌, ◌&&◌, true, true≢false, refl, sym, ap, subst, arith, rules}
 use Rattle.std.specs.Bool.{Decides}
 use Rattle.std.specs.Cmp.{booleans_Decides}
 use Rattle.std.proofs.lemmas.Bool.{and_parts, eqb-true}
 use Rattle.std.proofs.lemmas.Grind.{common_steps}
 use Rattle.std.proofs.Math.Bool.{beq}
+use denote.Enum.Bare.{same_true}
+use Rattle.line_help.specs.contracts.helpers.style.Hue.{the_type}
 use Rattle.line_help.specs.contracts.helpers.style.HuePartialEq.TheImpl as hue_eq
 use Rattle.line_help.specs.contracts.helpers.style.ColourPartialEq.TheImpl as colour_eq
 use Rattle.line_help.specs.contracts.helpers.style.StylePartialEq.TheImpl as style_eq
@@ -12,19 +14,10 @@ use Rattle.line_help.specs.contracts.helpers.style.StyleEq.TheImpl.Laws.{laws-la
 use Rattle.line_help.specs.declared.helpers.style.Colour.{Colour}
 use Rattle.line_help.specs.declared.helpers.style.Colour.TheVariants.{Terminal, Basic, Bright, Palette, Rgb}
 use Rattle.line_help.specs.declared.helpers.style.Hue.{Hue}
-use Rattle.line_help.specs.declared.helpers.style.Hue.TheVariants.{Black, Red, Green, Yellow, Blue, Magenta, Cyan, White}
 use Rattle.line_help.specs.declared.helpers.style.Style.{Style}
 
 same_hue-equal : (a b : Hue) → (hue_eq.ghosts).eq a b ≡ true → a ≡ b
-same_hue-equal Black Black h = refl
-same_hue-equal Red Red h = refl
-same_hue-equal Green Green h = refl
-same_hue-equal Yellow Yellow h = refl
-same_hue-equal Blue Blue h = refl
-same_hue-equal Magenta Magenta h = refl
-same_hue-equal Cyan Cyan h = refl
-same_hue-equal White White h = refl
-same_hue-equal a b h = absurd (true≢false (sym h))
+same_hue-equal a b h = same_true the_type (search rules) a b h
 
 same_rgb : (r g b x y z : ℕ) → (r == x && (g == y && b == z)) ≡ true → Rgb r g b ≡ Rgb x y z
 same_rgb r g b x y z h = grind (arith, common_steps)

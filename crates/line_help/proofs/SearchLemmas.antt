@@ -4,7 +4,7 @@ use Rattle.std.specs.Prelude.{bytes_eq, if◌then◌else◌, ◌==◌, ◌||◌,
 use Rattle.std.specs.List.{starts_with}
 use Rattle.std.specs.Str.Pattern.{LacksTextAt}
 use Rattle.std.proofs.lemmas.Str.Pattern.{starts_text}
-use Rattle.std.proofs.lemmas.Bool.{eq-eqb}
+use Rattle.std.proofs.lemmas.Bool.{cond_both, eq-eqb}
 use Rattle.std.proofs.lemmas.List.{drop_more, take_more, reverse-append, length-reverse, length-take}
 use Rattle.line_help.specs.History.{newest_is}
 use Rattle.line_help.specs.Search.{Hit, first_hit, hit_by, hit_or, first_from, first_back, search_hit}
@@ -48,17 +48,12 @@ back_step test entries i d within =
     let e : length (reverse (take i entries)) ≡ i = simp (length-reverse, length-take) (omega arith) in
     rw (take_more entries i d within, reverse-append (take i entries) (slice_index_or entries i d ∷ []), e) refl
 
-found_or_later : (term entry : List ℕ) (idx : ℕ) (other : Option Hit) (hit : Hit) (begins : Bool) → starts_with eqb entry term ≡ begins
-    → hit_or (if begins then Some (length term) else None) entry idx other ≡ Some hit → (other ≡ Some hit → starts_with eqb hit.entry term ≡ true) → starts_with eqb hit.entry term ≡ true
-found_or_later term entry idx other hit true e h later =
-    let same : entry ≡ hit.entry = cc in
-    rw same at e
-found_or_later term entry idx other hit false e h later = later h
-
 back_begins : (term : List ℕ) (entries : List (List ℕ)) (hit : Hit) → first_back (hit_by true term) entries ≡ Some hit → starts_with eqb hit.entry term ≡ true
 back_begins term [] hit h = cc
 back_begins term (entry ∷ entries) hit h =
-    found_or_later term entry (length entries) (first_back (hit_by true term) entries) hit (starts_with eqb entry term) refl h (back_begins term entries hit)
+    cond_both (starts_with eqb entry term) (Some (length term)) None
+    (λ o. hit_or o entry (length entries) (first_back (hit_by true term) entries) ≡ Some hit → starts_with eqb hit.entry term ≡ true)
+    (λ e found. let same : entry ≡ hit.entry = cc in rw same at e) (λ _ later. back_begins term entries hit later) h
 
 pub unless_none : (none : Bool) (found : Option Hit) (hit : Hit) → (if none then None else found) ≡ Some hit → (none ≡ false) × (found ≡ Some hit)
 unless_none true found hit h = cc

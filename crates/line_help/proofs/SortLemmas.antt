@@ -1,6 +1,6 @@
 -- A list that is sorted and keeps the order of what ties is the one that placing its elements one by one gives.
 use Rattle.std.proofs.Common.{◌≡◌, ◌∙◌, ℕ, suc, ◌<◌, ◌≤◌, Bool, true, false, not, cond, List, [], ◌∷◌, length, get_or, refl, sym, ap, arith}
-use Rattle.std.proofs.lemmas.Bool.{and_parts, cond_both, not-true}
+use Rattle.std.proofs.lemmas.Bool.{and_parts, cond_both, false_from_ne_true, not-true, true_from_ne_false}
 use Rattle.std.specs.List.{filter}
 use Rattle.std.specs.List.Sorted.{IsSortedBy, IsStableBy, ties}
 use Rattle.std.specs.Cmp.{IsStrictWeakOrder}
@@ -27,17 +27,8 @@ up_from lt [] h = tt
 up_from lt (x ∷ xs) h =
     (none_before lt x xs (λ k l. h 0 (suc k) x (omega arith) (omega arith)), up_from lt xs (λ i j d le l. h (suc i) (suc j) d (omega arith) (omega arith)))
 
--- what is false once its truth leads there
-false_by : (b : Bool) → (b ≡ true → b ≡ false) → b ≡ false
-false_by true h = h refl
-false_by false h = refl
-
-true_by : (b : Bool) → (b ≡ false → b ≡ true) → b ≡ true
-true_by true h = refl
-true_by false h = h refl
-
 irreflexive : {X : Type 0} (lt : X → X → Bool) → IsStrictWeakOrder lt → (x : X) → lt x x ≡ false
-irreflexive lt o x = false_by (lt x x) (λ e. o.one_way x x e)
+irreflexive lt o x = false_from_ne_true (lt x x) (λ e. let never : lt x x ≡ false = o.one_way x x e in absurd cc)
 
 ties_itself : {X : Type 0} (lt : X → X → Bool) → IsStrictWeakOrder lt → (x : X) → ties lt x x ≡ true
 ties_itself lt o x = rw (irreflexive lt o x) refl
@@ -80,7 +71,7 @@ tied_placed lt o w x [] = refl
 tied_placed lt o w x (y ∷ ys) = go (lt y x) refl (tied_placed lt o w x ys)
   where
     apart : lt y x ≡ true → ties lt w x ≡ true → ties lt w y ≡ false
-    apart e t = false_by (ties lt w y) (λ s. let never : lt y x ≡ false = o.chain y w x (not-true (lt y w) (and_parts (not (lt w y)) (not (lt y w)) s).1) (not-true (lt w x) (and_parts (not (lt w x)) (not (lt x w)) t).0) in cc)
+    apart e t = false_from_ne_true (ties lt w y) (λ s. let never : lt y x ≡ false = o.chain y w x (not-true (lt y w) (and_parts (not (lt w y)) (not (lt y w)) s).1) (not-true (lt w x) (and_parts (not (lt w x)) (not (lt x w)) t).0) in absurd cc)
 
     go : (b : Bool) → lt y x ≡ b → filter (ties lt w) (insert_in_order_by lt x ys) ≡ filter (ties lt w) (x ∷ ys) → filter (ties lt w) (cond b (y ∷ insert_in_order_by lt x ys) (x ∷ (y ∷ ys))) ≡ filter (ties lt w) (x ∷ (y ∷ ys))
     go true e rest =
@@ -97,15 +88,15 @@ none_tie : {X : Type 0} (lt : X → X → Bool) → IsStrictWeakOrder lt → (y 
 unfolding NoneBefore
 none_tie lt o y z [] e h = refl
 none_tie lt o y z (w ∷ ws) e h =
-    let less : lt y w ≡ true = true_by (lt y w) (λ f. let never : lt y z ≡ false = o.chain y w z f h.0 in cc) in
+    let less : lt y w ≡ true = true_from_ne_false (lt y w) (λ f. let never : lt y z ≡ false = o.chain y w z f h.0 in absurd cc) in
     rw (no_tie lt y w less) (none_tie lt o y z ws e h.1)
 
 -- of two sorted lists in which the same ties, neither begins with less
 not_less : {X : Type 0} (lt : X → X → Bool) → IsStrictWeakOrder lt → (y z : X) (ys zs : List X) → NoneBefore lt z zs → filter (ties lt y) (y ∷ ys) ≡ filter (ties lt y) (z ∷ zs) → lt y z ≡ false
-not_less lt o y z ys zs h same = false_by (lt y z) (λ e.
+not_less lt o y z ys zs h same = false_from_ne_true (lt y z) (λ e.
     let there : filter (ties lt y) (y ∷ ys) ≡ y ∷ filter (ties lt y) ys = rw (ties_itself lt o y) refl in
     let none : filter (ties lt y) (z ∷ zs) ≡ [] = rw (no_tie lt y z e) (none_tie lt o y z zs e h) in
-    let never : y ∷ filter (ties lt y) ys ≡ [] = sym there ∙ same ∙ none in cc)
+    let never : y ∷ filter (ties lt y) ys ≡ [] = sym there ∙ same ∙ none in absurd cc)
 
 tail_same : {X : Type 0} (b : Bool) (y : X) (xs ys : List X) → cond b (y ∷ xs) xs ≡ cond b (y ∷ ys) ys → xs ≡ ys
 tail_same true y xs ys e = cc

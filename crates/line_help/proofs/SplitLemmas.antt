@@ -1,23 +1,22 @@
 -- Splitting a text with control sequences: what each step of its loops leaves.
-use Rattle.std.proofs.Common.{◌≡◌, ◌≢◌, ◌<◌, ◌≤◌, ℕ, zero, suc, ◌+◌, ◌-◌, ◌==◌, Bool, true, false, List, [], ◌∷◌, ◌++◌, length, length-append, get_or, drop, add-one, drop-cons, map, replicate, Option, None, Some, option_map, refl, sym, ap, ◌∙◌, append_assoc, arith, ne_eqb, subst}
+use Rattle.std.proofs.Common.{cond, ◌≡◌, ◌≢◌, ◌<◌, ◌≤◌, ℕ, zero, suc, ◌+◌, ◌-◌, ◌==◌, true, false, List, [], ◌∷◌, ◌++◌, length, length-append, get_or, map, replicate, Option, None, Some, option_map, refl, sym, ap, ◌∙◌, append_assoc, arith, ne_eqb, subst}
 use Rattle.std.proofs.Math.Seq.{take-append_seam}
 use Rattle.std.specs.Str.{IsUtf8, IsCharBoundary}
+use Rattle.std.proofs.lemmas.Bool.{cond_both}
 use Rattle.std.proofs.lemmas.Str.{IsCharBoundary-after_ascii}
 use Rattle.std.proofs.lemmas.Grind.{common_steps}
 use Rattle.std.proofs.lemmas.List.{append-nil, length-replicate, replicate-append-replicate}
 use Rattle.std.proofs.lemmas.List.Sums.{sum_by-cons}
-use Rattle.std.specs.Prelude.{IfErr, Result, Ok, Err, sum_by}
+use Rattle.std.specs.Prelude.{sum_by}
 use Rattle.std.specs.Int.{is_in_range}
 use Rattle.line_help.specs.declared.helpers.style.Span.{Span}
 use Rattle.line_help.specs.declared.helpers.style.Style.{Style}
 use Rattle.line_help.specs.declared.helpers.style_split.Open.{Open}
-use Rattle.line_help.specs.declared.helpers.style_split.Open.TheVariants.{Nothing, Kind, Index, Parts, OnePart, TwoParts, Dropped}
+use Rattle.line_help.specs.declared.helpers.style_split.Open.TheVariants.{Kind, Index, Parts, OnePart, TwoParts}
 use Rattle.line_help.specs.Paints.{plain, span_styles}
 use Rattle.line_help.specs.SplitStyles.{Piece, TextStays, SpansFit, final_len, sequence_len, pieces_after, style_after_numbers, numbers_in, style_after, text_of, styles_of, Differ, open_numbers, styles_so_far}
 use Rattle.line_help.specs.SplitStyles.Piece.{Byte, Sequence}
-
-pub at_place : (text : List ℕ) (place : ℕ) → place < length text → drop place text ≡ get_or text place 0 ∷ drop (place + 1) text
-at_place text place within = rw (add-one, drop-cons text place 0)
+use Rattle.line_help.proofs.FoundLemmas.{mapped}
 
 -- ---- the end of a control sequence
 
@@ -40,22 +39,14 @@ one_more b bs m n ends e =
 below : (b : ℕ) → is_in_range 0x40 0x7E b ≡ true → b < 128
 below b is = grind (arith, common_steps)
 
-counts_on : (b : ℕ) (bs : List ℕ) (found : Option ℕ) (n : ℕ) → ((m : ℕ) → found ≡ Some m → EndsAt bs m) → option_map suc found ≡ Some n
-    → EndsAt (b ∷ bs) n
-counts_on b bs None n later e = cc
-counts_on b bs (Some m) n later e = one_more b bs m n (later m refl) (cc)
-
-ends_by : (b : ℕ) (bs : List ℕ) (n : ℕ) (final inner : Bool) → is_in_range 0x40 0x7E b ≡ final → is_in_range 0x20 0x3F b ≡ inner
-    → ((m : ℕ) → final_len bs ≡ Some m → EndsAt bs m) → final_len (b ∷ bs) ≡ Some n → EndsAt (b ∷ bs) n
-ends_by b bs n true inner f i later e =
-    let one : n ≡ 1 = let s : Some 1 ≡ Some n = rw f at e in cc in
-    rw one (record { some = omega arith; within = omega arith; ascii = below b f })
-ends_by b bs n false true f i later e = counts_on b bs (final_len bs) n later (rw (f, i) at e)
-ends_by b bs n false false f i later e = let none : None ≡ Some n = rw (f, i) at e in cc
-
 ends_at : (bs : List ℕ) (n : ℕ) → final_len bs ≡ Some n → EndsAt bs n
 ends_at [] n e = cc
-ends_at (b ∷ bs) n e = ends_by b bs n (is_in_range 0x40 0x7E b) (is_in_range 0x20 0x3F b) refl refl (ends_at bs) e
+ends_at (b ∷ bs) n e =
+    cond_both (is_in_range 0x40 0x7E b) (Some 1) (cond (is_in_range 0x20 0x3F b) (option_map suc (final_len bs)) None)
+    (λ found. found ≡ Some n → EndsAt (b ∷ bs) n)
+    (λ final same. let one : n ≡ 1 = cc in rw one (record { some = omega arith; within = omega arith; ascii = below b final }))
+    (λ _. cond_both (is_in_range 0x20 0x3F b) (option_map suc (final_len bs)) None (λ found. found ≡ Some n → EndsAt (b ∷ bs) n)
+    (λ _ more. let found = mapped suc (final_len bs) n more in one_more b bs found.0 n (ends_at bs found.0 found.1) found.2) (λ _ none. absurd cc)) e
 
 pub final_boundary : (bs : List ℕ) (n : ℕ) → IsUtf8 bs → final_len bs ≡ Some n → IsCharBoundary bs n
 final_boundary bs n utf8 e =
@@ -86,18 +77,12 @@ Takes changed begun n after left = (ns : List ℕ)
 
 -- a colour that has begun and isn't whole changes nothing
 pub none_begun : (s : Style) (begun : Open) → style_after_numbers 0 (open_numbers begun ++ []) s ≡ s
-none_begun s Nothing = refl
 none_begun s (Kind true) = refl
-none_begun s (Kind false) = refl
 none_begun s (Index true) = refl
-none_begun s (Index false) = refl
 none_begun s (Parts true) = refl
-none_begun s (Parts false) = refl
 none_begun s (OnePart true r) = refl
-none_begun s (OnePart false r) = refl
 none_begun s (TwoParts true r g) = refl
-none_begun s (TwoParts false r g) = refl
-none_begun s Dropped = refl
+none_begun s begun = refl
 
 pub at_end : (s changed after : Style) (begun left : Open) (n : ℕ) (bs : List ℕ) → Takes changed begun n after left
     → reading s changed begun n (0x6D ∷ bs) ≡ after
@@ -112,17 +97,12 @@ differ_more (span ∷ []) n s t differ some other = (differ.0, differ.1, (some, 
 differ_more (span ∷ (next ∷ spans)) n s t differ some other =
     (differ.0, differ.1, differ_more (next ∷ spans) n s t differ.2 some other)
 
-pub grown : (len start n : ℕ) (spans : List Span) (s : Style) → start ≤ len
-    → styles_so_far (len + n) start spans s ≡ styles_so_far len start spans s ++ replicate n s
-grown len start n spans s within =
-    let e : (len + n) - start ≡ (len - start) + n = omega arith in
-    rw e (ap (λ styles. span_styles spans ++ styles) (sym (replicate-append-replicate (len - start) n s))
-    ∙ sym (append_assoc (span_styles spans) (replicate (len - start) s) (replicate n s)))
-
 pub put_styles : (len start n more : ℕ) (spans : List Span) (stands s : Style) (styles : List Style) → more ≡ len + n → start ≤ len → stands ≡ s
     → styles_so_far len start spans stands ≡ styles → styles_so_far more start spans stands ≡ styles ++ replicate n s
 put_styles len start n more spans stands s styles e within is so_far =
-    rw (e, ← is, ← so_far) (grown len start n spans stands within)
+    let grown : more - start ≡ (len - start) + n = omega arith in
+    rw (grown, ← is, ← so_far) (ap (λ later. span_styles spans ++ later) (sym (replicate-append-replicate (len - start) n stands))
+    ∙ sym (append_assoc (span_styles spans) (replicate (len - start) stands) (replicate n stands)))
 
 -- ---- pieces
 
@@ -154,15 +134,6 @@ passed_whole (b ∷ bs) behind = passed_whole bs behind
 abbrev pub NoEscape : List ℕ → Type 0
 NoEscape text = (i : ℕ) → i < length text → get_or text i 0 ≢ 0x1B
 
--- the pieces of what follows an ESC, if it begins a control sequence and if it doesn't
-sequence_piece : (after sequence behind : List ℕ) → after ≡ 0x5B ∷ (sequence ++ behind) → sequence_len 0x1B after ≡ suc (length sequence)
-    → pieces_after 0 (0x1B ∷ after) ≡ Sequence sequence ∷ pieces_after 0 behind
-sequence_piece after sequence behind cut found =
-    rw (found, cut, take-append_seam sequence behind) (ap (λ pieces. Sequence sequence ∷ pieces) (passed_whole sequence behind))
-
-lone_piece : (after : List ℕ) → sequence_len 0x1B after ≡ 0 → pieces_after 0 (0x1B ∷ after) ≡ Byte 0x1B ∷ pieces_after 0 after
-lone_piece after none = rw none refl
-
 -- what pieces give, byte by byte: the text, or the style of each byte
 pub record Bytewise {X : Type 0} (given : List Piece → List X) : Type 0 where
   of_bytes : List ℕ → List X
@@ -187,14 +158,14 @@ module _ {X : Type 0} {given : List Piece → List X} (by : Bytewise given) (old
   pub sequence_step : (after sequence behind : List ℕ) → rest ≡ front ++ (0x1B ∷ after) → NoEscape front → after ≡ 0x5B ∷ (sequence ++ behind)
       → sequence_len 0x1B after ≡ suc (length sequence) → old ++ given (pieces_after 0 rest) ≡ (old ++ by.of_bytes front) ++ given (Sequence sequence ∷ pieces_after 0 behind)
   sequence_step after sequence behind split none cut found =
-      step (0x1B ∷ after) split none ∙ ap (λ pieces. (old ++ by.of_bytes front) ++ given pieces) (sequence_piece after sequence behind cut found)
+      step (0x1B ∷ after) split none ∙ rw (found, cut, take-append_seam sequence behind, passed_whole sequence behind) refl
 
   pub escape_step : (after : List ℕ) → rest ≡ front ++ (0x1B ∷ after) → NoEscape front → sequence_len 0x1B after ≡ 0
       → old ++ given (pieces_after 0 rest) ≡ ((old ++ by.of_bytes front) ++ by.of_bytes (0x1B ∷ [])) ++ given (pieces_after 0 after)
   escape_step after split none lone =
-      step (0x1B ∷ after) split none ∙ ap (λ pieces. (old ++ by.of_bytes front) ++ given pieces) (lone_piece after lone)
-      ∙ ap (λ xs. (old ++ by.of_bytes front) ++ xs) (by.of_front (0x1B ∷ []) (pieces_after 0 after))
-      ∙ sym (append_assoc (old ++ by.of_bytes front) (by.of_bytes (0x1B ∷ [])) (given (pieces_after 0 after)))
+      step (0x1B ∷ after) split none
+      ∙ rw lone (ap (λ xs. (old ++ by.of_bytes front) ++ xs) (by.of_front (0x1B ∷ []) (pieces_after 0 after))
+      ∙ sym (append_assoc (old ++ by.of_bytes front) (by.of_bytes (0x1B ∷ [])) (given (pieces_after 0 after))))
 
 -- the last one
 pub last_step : {X : Type 0} {given : List Piece → List X} (by : Bytewise given) (old : List X) (rest : List ℕ) → NoEscape rest
@@ -203,10 +174,6 @@ last_step by old rest none =
     step by old rest rest [] (sym (append-nil rest)) none ∙ ap (λ xs. (old ++ by.of_bytes rest) ++ xs) by.of_none ∙ append-nil (old ++ by.of_bytes rest)
 
 -- ---- what is left of a text
-
-pub if_err : {A E P : Type 0} (result : Result A E) → P → IfErr result (λ e. P)
-if_err (Ok value) p = tt
-if_err (Err e) p = p
 
 length_first : (old front tail : List ℕ) → 0 < length front → 0 < length ((old ++ front) ++ tail)
 length_first old front tail some =

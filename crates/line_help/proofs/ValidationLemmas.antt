@@ -1,11 +1,11 @@
 -- Validation by brackets: the two steps at which a closing bracket doesn't fit, and a text with a bracket.
-use Rattle.std.proofs.Common.{◌≡◌, ℕ, suc, ◌+◌, ◌<◌, ◌≤◌, Bool, true, false, not, if◌then◌else◌, List, [], ◌∷◌, ◌++◌, length, drop, reverse, refl, sym, ap, ◌∙◌, ◌≢◌, Some, slice_index_or, arith}
+use Rattle.std.proofs.Common.{◌≡◌, ℕ, suc, ◌+◌, ◌<◌, ◌≤◌, true, false, not, List, [], ◌∷◌, ◌++◌, length, drop, reverse, refl, sym, ap, ◌∙◌, ◌≢◌, Some, slice_index_or, arith}
 use Rattle.std.specs.Prelude.{◌==◌, ◌||◌, Result, Ok, Err, IsErrAnd, IfErr}
 use Rattle.std.specs.List.{list_any, position_or_len}
 use Rattle.std.proofs.lemmas.List.Folds.{list_any_at}
 use Rattle.std.proofs.lemmas.List.Sums.{prefix_len-le-length}
 use Rattle.std.proofs.lemmas.List.{drop_more, drop-drop, length-drop, reverse-append, nil_from_length}
-use Rattle.std.proofs.lemmas.Bool.{ne_eqb, or_parts}
+use Rattle.std.proofs.lemmas.Bool.{cond_both, ne_eqb, not-true, or_parts}
 use Rattle.line_config.specs.declared.errors.HookFault.{HookFault, TheVariants.Memory}
 use Rattle.line_help.specs.Brackets.{is_opening, is_closing, is_bracket, partner}
 use Rattle.line_help.specs.Validation.{HasNoBracket, verdict_from, bracket_verdict, not_closed, message_of_unpaired}
@@ -29,22 +29,17 @@ unpaired_found input bytes items message i same so_far within none not_opening c
     ap (λ text. Invalid (Some text)) told ∙ sym (ap (λ text. verdict_from [] text) (sym same) ∙ so_far ∙ step)
 
 -- ---- bytes that are no brackets
-other_passed : (unclosed text : List ℕ) (byte : ℕ) → is_opening byte ≡ false → is_closing byte ≡ false → verdict_from unclosed (byte ∷ text) ≡ verdict_from unclosed text
-other_passed unclosed text byte h k = rw (h, k) refl
-
 -- what precedes the first bracket is passed
-passed_on : (unclosed text : List ℕ) (byte : ℕ) (b : Bool) → is_bracket byte ≡ b → verdict_from unclosed text ≡ verdict_from unclosed (drop (position_or_len is_bracket text) text)
-    → verdict_from unclosed (byte ∷ text) ≡ verdict_from unclosed (drop (if not b then 1 + position_or_len is_bracket text else 0) (byte ∷ text))
-passed_on unclosed text byte true e rest = refl
-passed_on unclosed text byte false e rest =
-    let n = position_or_len is_bracket text in
-    let none = or_parts (is_opening byte) (is_closing byte) e in
-    let more : suc n ≡ 1 + n = omega arith in
-    other_passed unclosed text byte none.0 none.1 ∙ rest ∙ ap (λ k. verdict_from unclosed (drop k (byte ∷ text))) more
-
 others_passed : (unclosed text : List ℕ) → verdict_from unclosed text ≡ verdict_from unclosed (drop (position_or_len is_bracket text) text)
 others_passed unclosed [] = refl
-others_passed unclosed (byte ∷ text) = passed_on unclosed text byte (is_bracket byte) refl (others_passed unclosed text)
+others_passed unclosed (byte ∷ text) =
+    let n = position_or_len is_bracket text in
+    let more : suc n ≡ 1 + n = omega arith in
+    cond_both (not (is_bracket byte)) (1 + n) 0 (λ k. verdict_from unclosed (byte ∷ text) ≡ verdict_from unclosed (drop k (byte ∷ text)))
+    (λ e.
+    let none = or_parts (is_opening byte) (is_closing byte) (not-true (is_bracket byte) e) in
+    rw (none.0, none.1) (others_passed unclosed text ∙ ap (λ k. verdict_from unclosed (drop k (byte ∷ text))) more))
+    (λ _. refl)
 
 pub bracket_next : (text : List ℕ) (from place : ℕ) → place ≡ from + position_or_len is_bracket (drop from text) → HasNoBracket text from place
 bracket_next text from place is unclosed =

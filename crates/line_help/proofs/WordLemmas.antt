@@ -5,7 +5,6 @@ use Rattle.std.specs.Char.{is_whitespace}
 use Rattle.std.specs.List.{starts_with}
 use Rattle.std.proofs.lemmas.List.{take_more, map-append, append-nil}
 use Rattle.std.proofs.lemmas.List.Elements.{filter-append}
-use Rattle.line_help.specs.HistoryText.{entries_of}
 use Rattle.std.proofs.lemmas.Simd.{map-map}
 use Rattle.line_help.specs.Completion.{text_offered, word_start, words_for, words_reply}
 
@@ -50,8 +49,3 @@ completed bytes words text start found at is =
     let both : map (λ w. text_offered (bytes w)) found ≡ map text_offered (words_for (drop (word_start None is_whitespace text) text) words) =
     sym (map-map text_offered bytes found) ∙ ap (map text_offered) (is ∙ ap (λ n. words_for (drop n text) words) at) in
     ap₂ (λ n ws. Some (record { start = n; candidates = ws })) (sym at) (sym both)
-
--- the words of a row and of the rows after it
-pub rows_more : (row : List ℕ) (rows : List (List ℕ)) → entries_of false (row ∷ rows) ≡ entries_of false (row ∷ []) ++ entries_of false rows
-rows_more [] rows = refl
-rows_more (b ∷ bs) rows = refl

@@ -1,5 +1,5 @@
-use Rattle.std.proofs.Common.{◌∙◌, sym, ap}
-use Rattle.line_help.proofs.FileNameLemmas.{taken_turn, skipped_turn}
+use Rattle.std.proofs.Common.{◌∙◌, ◌++◌, sym, ap}
+use Rattle.line_help.proofs.FileNameLemmas.{name_taken, name_skipped}
 use Rattle.line_help.proofs.completion.file_names.offered_names.Goals as goal
 use Rattle.line_help.proofs.completion.file_names.offered_names.Goals.{then-begins_with+in_ok-offered_name+in_ok-push, else-begins_with}
 
@@ -8,10 +8,13 @@ loop-listed-preserved c =
     elim c.if-begins_with.branch [
       | then-begins_with+in_ok-offered_name+in_ok-push w ↦
           let begins = sym c.begins_with.ensures ∙ w.if-begins_with.true in
-          taken_turn c.args.quote c.args.folder.now c.args.name.now c.args.all.now c.loop-listed.listed-index c.listed-item.result c.loop-listed.pairs.items c.if-begins_with.pairs.items w.in_ok-offered_name.field-0
-          c.loop-listed-test.true c.listed-item.is begins c.loop-listed.invariant (ap (λ v. v.items) w.pairs-is ∙ w.in_ok-push.ensures.items) w.in_ok-offered_name.ensures.pair
+          rw (w.pairs-is, w.in_ok-push.ensures.items, w.in_ok-offered_name.ensures.pair)
+          (sym (name_taken c.args.quote c.args.folder.now c.args.name.now c.args.all.now c.loop-listed.listed-index c.listed-item.result c.loop-listed.pairs.items
+          c.loop-listed-test.true c.listed-item.is begins) ∙ c.loop-listed.invariant)
       | else-begins_with w ↦
           let begins = sym c.begins_with.ensures ∙ w.if-begins_with.false in
-          skipped_turn c.args.quote c.args.folder.now c.args.name.now c.args.all.now c.loop-listed.listed-index c.listed-item.result c.loop-listed.pairs.items c.if-begins_with.pairs.items
-          c.loop-listed-test.true c.listed-item.is begins c.loop-listed.invariant (ap (λ v. v.items) w.pairs-is)
+          rw w.pairs-is
+          (ap (λ rest. c.loop-listed.pairs.items ++ rest)
+          (sym (name_skipped c.args.quote c.args.folder.now c.args.name.now c.args.all.now c.loop-listed.listed-index c.listed-item.result
+          c.loop-listed-test.true c.listed-item.is begins)) ∙ c.loop-listed.invariant)
     ]

@@ -3,26 +3,14 @@ use Rattle.std.proofs.lemmas.Str.Pattern.{rfind_char}
 use Rattle.line_help.proofs.FileNameLemmas.{folder_len, slash_last, no_slash}
 use Rattle.line_help.proofs.completion.file_names.split_path.Goals as goal
 
-pub returns-in-Some-clause-folder : goal.returns-in-Some-clause-folder
-returns-in-Some-clause-folder c =
+pub returns-in-Some : goal.returns-in-Some
+returns-in-Some c =
     let at = rfind_char 47 c.args.path.now (Some c.in-Some.place) c.in-Some.ensures.cases (omega arith) in
     let e : folder_len c.args.path.now ≡ c.in-Some.place + 1 = slash_last c.args.path.now c.in-Some.place at.0 at.1 at.2 in
-    rw e c.split_at.ensures.front
+    record { folder = rw e c.split_at.ensures.front; name = rw e c.split_at.ensures.back }
 
-pub returns-in-Some-clause-name : goal.returns-in-Some-clause-name
-returns-in-Some-clause-name c =
-    let at = rfind_char 47 c.args.path.now (Some c.in-Some.place) c.in-Some.ensures.cases (omega arith) in
-    let e : folder_len c.args.path.now ≡ c.in-Some.place + 1 = slash_last c.args.path.now c.in-Some.place at.0 at.1 at.2 in
-    rw e c.split_at.ensures.back
-
-pub returns-in-None-clause-folder : goal.returns-in-None-clause-folder
-returns-in-None-clause-folder c =
+pub returns-in-None : goal.returns-in-None
+returns-in-None c =
     let none = rfind_char 47 c.args.path.now None c.in-None.ensures.cases (omega arith) in
     let e : folder_len c.args.path.now ≡ 0 = no_slash c.args.path.now none in
-    rw e
-
-pub returns-in-None-clause-name : goal.returns-in-None-clause-name
-returns-in-None-clause-name c =
-    let none = rfind_char 47 c.args.path.now None c.in-None.ensures.cases (omega arith) in
-    let e : folder_len c.args.path.now ≡ 0 = no_slash c.args.path.now none in
-    rw e
+    record { folder = rw e; name = rw e }

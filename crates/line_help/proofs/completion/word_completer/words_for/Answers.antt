@@ -1,13 +1,10 @@
 use Rattle.std.proofs.Common.{◌∙◌, sym, ap, nat_eq}
-use Rattle.std.specs.Prelude.{Result, Ok, Err, IfErr, string_bytes}
+use Rattle.std.specs.Prelude.{string_bytes}
 use Rattle.std.specs.List.{starts_with}
+use Rattle.line_config.proofs.Taking.{on_err}
 use Rattle.line_help.proofs.WordLemmas.{word_taken, word_passed, word_found}
 use Rattle.line_help.proofs.completion.word_completer.words_for.Goals as goal
 use Rattle.line_help.proofs.completion.word_completer.words_for.Goals.{then-begins_with+in_ok-from_str+in_ok-push, else-begins_with}
-
-if_refused : {P X E : Type 0} (r : Result X E) → P → IfErr r (λ e. P)
-if_refused (Ok x) p = tt
-if_refused (Err e) p = p
 
 pub loop-word-preserved : goal.loop-word-preserved
 loop-word-preserved c =
@@ -25,11 +22,11 @@ loop-word-preserved c =
 pub returns-in_err-from_str-clause-memory : goal.returns-in_err-from_str-clause-memory
 returns-in_err-from_str-clause-memory c =
     let begins = ap (λ text. starts_with nat_eq text c.args.beginning.now) (sym c.as_str.ensures.value) ∙ (sym c.begins_with.ensures ∙ c.if-begins_with.true) in
-    if_refused c.from_residual.result
+    on_err c.from_residual.result
     (word_found string_bytes c.args.beginning.now c.args.words.now c.loop-word.word-index c.word-item.result c.loop-word-test.true c.word-item.is begins)
 
 pub returns-in_err-push-clause-memory : goal.returns-in_err-push-clause-memory
 returns-in_err-push-clause-memory c =
     let begins = ap (λ text. starts_with nat_eq text c.args.beginning.now) (sym c.as_str.ensures.value) ∙ (sym c.begins_with.ensures ∙ c.if-begins_with.true) in
-    if_refused c.from_residual-in_err-push.result
+    on_err c.from_residual-in_err-push.result
     (word_found string_bytes c.args.beginning.now c.args.words.now c.loop-word.word-index c.word-item.result c.loop-word-test.true c.word-item.is begins)

@@ -11,16 +11,15 @@ loop-place-preserved c = record {
       (omega (arith, c.if-count-lt-LANES.false)) c.loop-place.invariant.same;
 }
 
-pub returns-then-count-lt-LANES-clause-place : goal.returns-then-count-lt-LANES-clause-place
-returns-then-count-lt-LANES-clause-place c =
-    first_here is_bracket c.args.bytes.now c.args.from c.loop-place.place 16 _ (omega (arith, c.loop-place.invariant.bound, c.loop-place-test.true)) c.lanes_before_bracket-count.ensures.count
-    c.if-count-lt-LANES.true c.loop-place.invariant.same
-
-pub returns-then-count-lt-LANES-clause-skips : goal.returns-then-count-lt-LANES-clause-skips
-returns-then-count-lt-LANES-clause-skips c =
-    bracket_next c.args.bytes.now c.args.from _
-    (first_here is_bracket c.args.bytes.now c.args.from c.loop-place.place 16 _ (omega (arith, c.loop-place.invariant.bound, c.loop-place-test.true)) c.lanes_before_bracket-count.ensures.count
-    c.if-count-lt-LANES.true c.loop-place.invariant.same)
+pub returns-then-count-lt-LANES : goal.returns-then-count-lt-LANES
+returns-then-count-lt-LANES c =
+    let place = first_here is_bracket c.args.bytes.now c.args.from c.loop-place.place 16 _ (omega (arith, c.loop-place.invariant.bound, c.loop-place-test.true))
+    c.lanes_before_bracket-count.ensures.count c.if-count-lt-LANES.true c.loop-place.invariant.same in
+    record {
+      place = place;
+      bound = omega (arith, c.loop-place-test.true, c.loop-place.invariant.bound, c.if-count-lt-LANES.true);
+      skips = bracket_next c.args.bytes.now c.args.from _ place;
+    }
 
 pub returns-clause-bound : goal.returns-clause-bound
 returns-clause-bound c = bracket_within c.args.bytes.now c.loop-place.place _ c.loop-place.invariant.bound c.bracket_in_rest.ensures

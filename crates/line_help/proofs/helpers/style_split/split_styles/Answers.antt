@@ -1,7 +1,8 @@
 use Rattle.std.proofs.Common.{◌∙◌, ◌-◌, sym, ap, arith, rules, length, string_bytes}
 use Rattle.std.proofs.lemmas.Str.Pattern.{split_parts}
+use Rattle.line_config.proofs.Taking.{on_err}
 use Rattle.line_help.specs.SplitStyles.{style_after, styles_so_far}
-use Rattle.line_help.proofs.SplitLemmas.{as_styles, as_text, escape_left, escape_step, if_err, last_left, last_step, sequence_step, some_left}
+use Rattle.line_help.proofs.SplitLemmas.{as_styles, as_text, escape_left, escape_step, last_left, last_step, sequence_step, some_left}
 use Rattle.line_help.proofs.helpers.style_split.split_styles.Goals as goal
 
 pub loop-front-preserved-in-Some-sequence_in : goal.loop-front-preserved-in-Some-sequence_in
@@ -57,21 +58,21 @@ pub returns-in_err-put-clause-memory : goal.returns-in_err-put-clause-memory
 returns-in_err-put-clause-memory c =
     let rest = c.loop-front.rest.now in
     let parts = rw c.in-Some.is at (split_parts 0x1B rest c.split_once.result c.split_once.ensures.cases (omega arith)) in
-    if_err c.from_residual.result
+    on_err c.from_residual.result
     (some_left c.args.shown.now (string_bytes c.loop-front.split.text) rest c.in-Some.front.now _ c.loop-front.invariant.text parts.0 parts.1 c.in_err-put.ensures.memory)
 
 pub returns-in_err-put-in-None-clause-memory : goal.returns-in_err-put-in-None-clause-memory
 returns-in_err-put-in-None-clause-memory c =
     let rest = c.loop-front.rest.now in
     let parts = rw c.in-Some.is at (split_parts 0x1B rest c.split_once.result c.split_once.ensures.cases (omega arith)) in
-    if_err c.from_residual-in_err-put-in-None.result
+    on_err c.from_residual-in_err-put-in-None.result
     (escape_left c.args.shown.now (string_bytes c.loop-front.split.text) rest c.in-Some.front.now c.in-Some.after.now c.loop-front.invariant.text parts.0 parts.1 c.in-None.ensures)
 
 pub returns-in_err-put-2-clause-memory : goal.returns-in_err-put-2-clause-memory
 returns-in_err-put-2-clause-memory c =
     let rest = c.loop-front.rest.now in
     let none = rw c.in_default.is at (split_parts 0x1B rest c.split_once.result c.split_once.ensures.cases (omega arith)) in
-    if_err c.from_residual-in_err-put-2.result
+    on_err c.from_residual-in_err-put-2.result
     (last_left c.args.shown.now (string_bytes c.loop-front.split.text) rest c.loop-front.invariant.text none c.in_err-put-2.ensures.memory)
 
 pub returns-in_err-turn-clause-memory : goal.returns-in_err-turn-clause-memory
@@ -79,5 +80,5 @@ returns-in_err-turn-clause-memory c =
     let rest = c.loop-front.rest.now in
     let old = string_bytes c.loop-front.split.text in
     let none = rw c.in_default.is at (split_parts 0x1B rest c.split_once.result c.split_once.ensures.cases (omega arith)) in
-    if_err c.from_residual-in_err-turn.result
+    on_err c.from_residual-in_err-turn.result
     (rw (c.loop-front.invariant.text ∙ last_step as_text old rest none ∙ sym c.in_ok-put-2.ensures.text) c.in_err-turn.ensures.memory)

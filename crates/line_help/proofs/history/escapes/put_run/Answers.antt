@@ -1,5 +1,5 @@
 -- A run is sent as it is, and then an escape.
-use Rattle.std.proofs.Common.{rules, arith, length, sym, ap, ◌∙◌, ◌+◌, subst}
+use Rattle.std.proofs.Common.{rules, arith, length, sym, ap, ◌∙◌, subst}
 use Rattle.std.proofs.lemmas.List.{take_all}
 use Rattle.line_config.specs.Sending.{Takes, TakesSome}
 use Rattle.line_help.specs.HistoryText.{escaped_entry}
@@ -44,7 +44,7 @@ returns g c =
     let first = c.in-Some.ensures in
     record {
       count = (omega (arith, first.0.high), λ some. omega arith);
-      sent = run_sent g.S.Sink.held g.S.Sink.has_failed c.args.bytes.now c.in-Some.at (c.in-Some.at + 1) _ _ _ first.0.high (omega arith) first.0.before c.in_ok-put-2.ensures.sends.sent
+      sent = run_sent g.S.Sink.held g.S.Sink.has_failed c.args.bytes.now c.in-Some.at _ _ _ first.0.high first.0.before c.in_ok-put-2.ensures.sends.sent
           c.in_ok-put_escaped.ensures.sends.sent;
       works = c.in_ok-put_escaped.ensures.sends.works ∙ c.in_ok-put-2.ensures.sends.works;
       err = tt;

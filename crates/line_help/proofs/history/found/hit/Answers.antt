@@ -29,21 +29,19 @@ cuts_after term text begins term_utf8 text_utf8 =
     let few : length term ≤ length text = rw (ap length split ∙ length-append term (drop (length term) text)) (omega arith) in
     IsCharBoundary-from_take text (length term) text_utf8 few (subst IsUtf8 (sym front) term_utf8)
 
-pub returns-then-not-anchored-clause-place : goal.returns-then-not-anchored-clause-place
-returns-then-not-anchored-clause-place c = rw (c.if-not-anchored.true) (found_is c.args.term.now c.args.entry.now c.find.result c.find.ensures.cases)
+pub returns-then-not-anchored : goal.returns-then-not-anchored
+returns-then-not-anchored c = record {
+  place = rw (c.if-not-anchored.true) (found_is c.args.term.now c.args.entry.now c.find.result c.find.ensures.cases);
+  boundary = found_cuts c.args.term.now c.args.entry.now c.find.result c.find.ensures.cases;
+}
 
-pub returns-then-not-anchored-clause-boundary : goal.returns-then-not-anchored-clause-boundary
-returns-then-not-anchored-clause-boundary c = found_cuts c.args.term.now c.args.entry.now c.find.result c.find.ensures.cases
-
-pub returns-then-starts_with-clause-place : goal.returns-then-starts_with-clause-place
-returns-then-starts_with-clause-place c =
+pub returns-then-starts_with : goal.returns-then-starts_with
+returns-then-starts_with c =
     let e = starts_text c.starts_with.result c.args.term.now c.args.entry.now c.starts_with.ensures.cases in
-    rw (c.if-not-anchored.false, ← e, c.if-starts_with.true)
-
-pub returns-then-starts_with-clause-boundary : goal.returns-then-starts_with-clause-boundary
-returns-then-starts_with-clause-boundary c =
-    let e = starts_text c.starts_with.result c.args.term.now c.args.entry.now c.starts_with.ensures.cases in
-    cuts_after c.args.term.now c.args.entry.now (sym e ∙ c.if-starts_with.true) c.utf8.term c.utf8.entry
+    record {
+      place = rw (c.if-not-anchored.false, ← e, c.if-starts_with.true);
+      boundary = cuts_after c.args.term.now c.args.entry.now (sym e ∙ c.if-starts_with.true) c.utf8.term c.utf8.entry;
+    }
 
 pub returns-else-starts_with-clause-place : goal.returns-else-starts_with-clause-place
 returns-else-starts_with-clause-place c =

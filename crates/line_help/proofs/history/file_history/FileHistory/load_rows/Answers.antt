@@ -1,8 +1,8 @@
-use Rattle.std.proofs.Common.{◌≡◌, ◌≢◌, ◌∙◌, ◌≤◌, ◌&&◌, ℕ, List, Ok, Err, ap, arith, le_trans, take, rules, IsTrue}
+use Rattle.std.proofs.Common.{◌≡◌, ◌≢◌, ◌∙◌, ◌≤◌, ℕ, List, Ok, Err, ap, arith, le_trans, take, rules, IsTrue}
 use Rattle.line_config.specs.Feed.{Feed, GivesBytes}
 use Rattle.line_config.proofs.Taking.{on_err}
 use Rattle.line_config.specs.declared.errors.ReadlineError.TheVariants.{Memory}
-use Rattle.line_help.proofs.LoadLemmas.{EndsLoad, Underway, bad_row_ends, loads_some, memory_row, one_row_on, row_fault}
+use Rattle.line_help.proofs.LoadLemmas.{EndsLoad, bad_row_ends, loads_some, memory_row, one_row_on, row_fault}
 use Rattle.line_help.proofs.RowLemmas.{StandsWhole, none_read, stands_whole, still_met}
 use Rattle.line_help.proofs.history.file_history.FileHistory.load_rows.Goals as goal
 
@@ -17,26 +17,19 @@ loop-ready-preserved-then-count-ready g c =
     let here = (g.S.Source.feed c.loop-ready.source).coming in
     let onward = (g.S.Source.feed c.consume.new.self).coming in
     let i = c.loop-ready.invariant in
-    let utf8 = c.in_ok-taken.ensures.text in
-    let so : IsTrue (g.S.Source.feed c.consume.new.self).told → Underway c.args.escapes (c.loop-ready.whole && c.in_ok-taken.taken) last text onward c.args.self.now c.add_row-lent.new.self =
-    λ told.
-    let before = (c.consume.ensures.gives told).0 in
-    let w = stands_whole c.buffer-ready.result.now here onward _ c.row_len-count.result c.row_len-count.ensures c.if-count-ready.true
-    (rw (← c.buffer-ready.ensures) at (c.consume.ensures.gives told).1) c.row_end.ensures.value in
-    one_row_on c.args.escapes c.loop-ready.whole c.in_ok-taken.taken last text here onward _ c.args.self.now c.loop-ready.self c.add_row-lent.new.self utf8 (w.rows last) w.behind (w.good utf8)
-    c.in_ok-taken.ensures.added c.in_ok-taken.ensures.answer
-    (record { good = i.good before; part = i.part before; left = i.left before; history = i.history before; answer = i.answer before }) in
     record {
       told = λ told. i.told (c.consume.ensures.gives told).0;
       last = c.consume.ensures.last ∙ i.last;
       bound = le_trans (less_given _ _ _ c.consume.ensures) i.bound;
       ended = still_met c.loop-ready.rows.ended _ _ _ i.ended c.consume.ensures;
       works = c.consume.ensures.failed ∙ i.works;
-      good = λ told. (so told).good;
-      part = λ told. (so told).part;
-      left = λ told. (so told).left;
-      history = λ told. (so told).history;
-      answer = λ told. (so told).answer;
+      under = λ told.
+          let given = c.consume.ensures.gives told in
+          let w = stands_whole c.buffer-ready.result.now here onward _ c.row_len-count.result c.row_len-count.ensures c.if-count-ready.true
+          (rw (← c.buffer-ready.ensures) at given.1) c.row_end.ensures.value in
+          let utf8 = c.in_ok-taken.ensures.text in
+          one_row_on c.args.escapes c.loop-ready.whole c.in_ok-taken.taken last text here onward _ c.args.self.now c.loop-ready.self c.add_row-lent.new.self utf8 (w.rows last) w.behind (w.good utf8)
+          c.in_ok-taken.ensures.added c.in_ok-taken.ensures.answer (i.under given.0);
     }
 
 -- one that was read
@@ -47,27 +40,19 @@ loop-ready-preserved g c =
     let here = (g.S.Source.feed c.loop-ready.source).coming in
     let onward = (g.S.Source.feed c.read.new.source).coming in
     let i = c.loop-ready.invariant in
-    let utf8 = c.in_ok-added.ensures.text in
-    let so : IsTrue (g.S.Source.feed c.read.new.source).told → Underway c.args.escapes (c.loop-ready.whole && c.in_ok-added.added) last text onward c.args.self.now c.add_row.new.self =
-    λ told.
-    let before = c.read.ensures.told told in
-    let r = rw (c.if-not-branch.false, i.last, ← c.deref.ensures.value) at c.in_ok-read.ensures.row told in
-    let is = c.in_ok-read.ensures.behind told (ap (λ b. Ok b) c.if-not-branch.false) in
-    let good = c.in_ok-read.ensures.good told (ap (λ b. Ok b) c.if-not-branch.false) (rw c.deref.ensures.value at utf8) in
-    one_row_on c.args.escapes c.loop-ready.whole c.in_ok-added.added last text here onward c.deref.result.now c.args.self.now c.loop-ready.self c.add_row.new.self utf8 r is good
-    c.in_ok-added.ensures.added c.in_ok-added.ensures.answer
-    (record { good = i.good before; part = i.part before; left = i.left before; history = i.history before; answer = i.answer before }) in
     record {
       told = λ told. i.told (c.read.ensures.told told);
       last = c.read.ensures.last ∙ i.last;
       bound = le_trans c.read.ensures.keeps i.bound;
       ended = c.read.ensures.ended;
       works = c.in_ok-read.ensures.failure;
-      good = λ told. (so told).good;
-      part = λ told. (so told).part;
-      left = λ told. (so told).left;
-      history = λ told. (so told).history;
-      answer = λ told. (so told).answer;
+      under = λ told.
+          let utf8 = c.in_ok-added.ensures.text in
+          let r = rw (c.if-not-branch.false, i.last, ← c.deref.ensures.value) at c.in_ok-read.ensures.row told in
+          let is = c.in_ok-read.ensures.behind told (ap (λ b. Ok b) c.if-not-branch.false) in
+          let good = c.in_ok-read.ensures.good told (ap (λ b. Ok b) c.if-not-branch.false) (rw c.deref.ensures.value at utf8) in
+          one_row_on c.args.escapes c.loop-ready.whole c.in_ok-added.added last text here onward c.deref.result.now c.args.self.now c.loop-ready.self c.add_row.new.self utf8 r is good
+          c.in_ok-added.ensures.added c.in_ok-added.ensures.answer (i.under (c.read.ensures.told told));
     }
 
 pub returns-in_err-taken : goal.returns-in_err-taken
@@ -84,17 +69,16 @@ returns-in_err-taken g c =
     let fault : c.from_residual.result ≡ Err (row_fault row) = search rules in
     let ends : IsTrue (g.S.Source.feed c.consume.new.self).told → c.from_residual.result ≢ Err Memory → EndsLoad c.args.escapes last text onward c.args.self.now c.loop-ready.self c.from_residual.result =
     λ told f.
-    let before = (c.consume.ensures.gives told).0 in
     bad_row_ends c.args.escapes c.loop-ready.whole last text here onward row c.args.self.now c.loop-ready.self c.from_residual.result ((whole told).rows last) (whole told).behind fault f
-    (record { good = i.good before; part = i.part before; left = i.left before; history = i.history before; answer = i.answer before }) in
+    (i.under (c.consume.ensures.gives told).0) in
     record {
       answer = λ told f. (ends told f).answer;
       history = λ told f. c.in_err-taken.ensures.kept ∙ (ends told f).history;
       left = λ told f. (ends told f).left;
       part = λ told.
           rw c.in_err-taken.ensures.kept
-          (on_err c.from_residual.result (loads_some c.args.escapes _ _ _ _ c.args.self.now c.loop-ready.self (i.part (c.consume.ensures.gives told).0) (whole told).lost));
-      memory = λ told h. i.good (c.consume.ensures.gives told).0 onward ((whole told).good (memory_row row (search rules)) onward (none_read onward));
+          (on_err c.from_residual.result (loads_some c.args.escapes _ _ _ _ c.args.self.now c.loop-ready.self (i.under (c.consume.ensures.gives told).0).part (whole told).lost));
+      memory = λ told h. (i.under (c.consume.ensures.gives told).0).good onward ((whole told).good (memory_row row (search rules)) onward (none_read onward));
       fault = search rules;
       failure = search rules;
       told = λ told. i.told (c.consume.ensures.gives told).0;
@@ -109,9 +93,9 @@ returns-in_err-read g c = record {
   left = search rules;
   part = λ told.
       on_err c.from_residual-in_err-read.result
-      (loads_some c.args.escapes _ _ _ _ c.args.self.now c.loop-ready.self (c.loop-ready.invariant.part (c.read.ensures.told told)) (c.read.ensures.lost told));
+      (loads_some c.args.escapes _ _ _ _ c.args.self.now c.loop-ready.self (c.loop-ready.invariant.under (c.read.ensures.told told)).part (c.read.ensures.lost told));
   memory = λ told h.
-      c.loop-ready.invariant.good (c.read.ensures.told told) (g.S.Source.feed c.read.new.source).coming (c.in_err-read.ensures.memory told (search rules));
+      (c.loop-ready.invariant.under (c.read.ensures.told told)).good (g.S.Source.feed c.read.new.source).coming (c.in_err-read.ensures.memory told (search rules));
   fault = search rules;
   failure = search rules;
   told = λ told. c.loop-ready.invariant.told (c.read.ensures.told told);
@@ -127,11 +111,11 @@ returns-in_err-added g c = record {
   part = λ told.
       rw c.in_err-added.ensures.kept
       (on_err c.from_residual-in_err-added.result
-      (loads_some c.args.escapes _ _ _ _ c.args.self.now c.loop-ready.self (c.loop-ready.invariant.part (c.read.ensures.told told)) (c.read.ensures.lost told)));
+      (loads_some c.args.escapes _ _ _ _ c.args.self.now c.loop-ready.self (c.loop-ready.invariant.under (c.read.ensures.told told)).part (c.read.ensures.lost told)));
   memory = λ told h.
       let utf8 = memory_row c.deref.result.now (search rules) in
       let coming = (g.S.Source.feed c.read.new.source).coming in
-      c.loop-ready.invariant.good (c.read.ensures.told told) coming
+      (c.loop-ready.invariant.under (c.read.ensures.told told)).good coming
       (c.in_ok-read.ensures.good told (ap (λ b. Ok b) c.if-not-branch.false) (rw c.deref.ensures.value at utf8) coming (none_read coming));
   fault = search rules;
   failure = search rules;
