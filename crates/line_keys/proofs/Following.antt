@@ -17,7 +17,6 @@ use Rattle.line_keys.specs.Refreshing.{Shown, Ask, KnownDisplay, Draws, IsDrawFa
 use Rattle.line_keys.specs.PhraseScripts.{Input, KeyAsk, Answer, KeyScript, PhrasePart, Needs, Shows, Reads, Becomes, Refuses, Upto, steps, answer_part, memory_then, with_read, from_key, show_then, keep_then, error_script, reply_then, input_after_ask, shown_after_ask, after, and_then}
 use Rattle.script.proofs.ScriptLaws.{ok_not_err, value_or, fault_or, err_in}
 use Rattle.line_keys.specs.Replies.{Reply, fails, with_memory}
-use Rattle.line_keys.proofs.Raised.{raised}
 use Rattle.line_keys.specs.InputStates.{Stage, stage, KeyMade, key_world, Happens, Follows, Because, silent}
 
 err_same : {X Y : Type 0} (e f : ReadlineError) → err_in X e ≡ Err f → err_in Y e ≡ Err f
@@ -150,7 +149,11 @@ module _ {S X : Type 0} (d : KnownDisplay S) (custom : Custom) where
   pub as_follows : (s t : PhrasePart X) (w w' : S) (i i' : Input) (f f' : KeyFeed) (r : Result X ReadlineError) → Follows d custom t w i w' i' f f' r → s ≡ t → Follows d custom s w i w' i' f f' r
   as_follows s t w w' i i' f f' r follows is = rw is follows
 
--- the call of an exit by `?` fails as the call before it
+-- an exit by `?` gives the error of the call before it
+pub raised : {X : Type 0} (r : Result X ReadlineError) (e : ReadlineError) → IsErrAnd r (λ y. y ≡ e) → r ≡ Err e
+raised (Ok x) e is = absurd is
+raised (Err y) e is = ap Err is
+
 pub raised_follows : {S X : Type 0} {d : KnownDisplay S} {custom : Custom} {s : PhrasePart X} {w w' : S} {i i' : Input} {f f' : KeyFeed}
     {r : Result X ReadlineError} {e : ReadlineError} → IsErrAnd r (λ y. y ≡ e) → Follows d custom s w i w' i' f f' (Err e) → Follows d custom s w i w' i' f f' r
 raised_follows {r = r} {e = e} is follows = rw (raised r e is) follows

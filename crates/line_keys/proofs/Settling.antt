@@ -13,13 +13,11 @@ use Rattle.line_keys.specs.declared.keymap.common.CommonAction.{CommonAction as 
 use Rattle.line_keys.specs.declared.keymap.common.CommonAction.TheVariants as commons
 use Rattle.line_keys.specs.declared.keymap.emacs.EmacsAction.{EmacsAction as EmacsAction}
 use Rattle.line_keys.specs.declared.keymap.emacs.EmacsAction.TheVariants as emacs_actions
-use Rattle.line_keys.specs.declared.keymap.vi.motion.Motion.{Motion}
-use Rattle.line_keys.specs.declared.keymap.vi.motion.Motion.TheVariants as motions
+use Rattle.line_keys.specs.declared.keymap.vi.motion.Motion.{Motion, TheVariants.Seek}
 use Rattle.line_keys.specs.declared.keymap.vi.motion.Search.{Search}
 use Rattle.line_keys.specs.declared.keymap.vi.table.ViAction.{ViAction as CommandAction}
 use Rattle.line_keys.specs.declared.keymap.vi.table.ViAction.TheVariants as commands
-use Rattle.line_keys.specs.declared.keymap.vi.table.InsertAction.{InsertAction}
-use Rattle.line_keys.specs.declared.keymap.vi.table.InsertAction.TheVariants as inserts
+use Rattle.line_keys.specs.declared.keymap.vi.table.InsertAction.{InsertAction, TheVariants.Leave, TheVariants.Command as CommandKey}
 use Rattle.line_keys.specs.Common.{common, common_action, common_done, decision_of, terminal_command, is_paste_start, quote_of_paste, quote_of_key, quoted_command, quotes, quote_part}
 use Rattle.line_keys.specs.Counts.{Counted, count_and_key, rest_of_count, rest_of_count_in, rest_of_count_by, count_from_key, count_with_key, how_often, is_plus, count_times, typed_count}
 use Rattle.line_keys.specs.declared.keymap.custom.Followed.{Followed, TheVariants.Bound, TheVariants.Unbound}
@@ -195,7 +193,7 @@ sought_settles : (search : Search) (n : ℕ) (i : Input) → Settled (search_of_
 sought_settles search n i = read_settles Key (λ k. search_part search n i (char_with none k)) (λ k. found_settles search n i (char_with none k))
 
 motion_settles : (n : ℕ) (i : Input) (o : Option Motion) → Settled (motion_done n i o)
-motion_settles n i (Some (motions.Seek search)) = sought_settles search n i
+motion_settles n i (Some (Seek search)) = sought_settles search n i
 motion_settles n i o = answered_settles _
 
 motion_key_settles : (operator : KeyEvent) (n : ℕ) (i : Input) (w : Shown) (k : KeyEvent) → Settled (motion_after operator n i w k)
@@ -238,8 +236,8 @@ unfolding vi_command
 vi_command_settles custom k i w = then_settles (vi_counted custom) (counted_command_settles custom) (count_and_key i.mode k) i w (key_counted_settles i.mode k)
 
 insert_done_settles : (custom : Custom) (i : Input) (w : Shown) (k : KeyEvent) (o : Option InsertAction) → Settled (insert_done custom i w k o)
-insert_done_settles custom i w k (Some (inserts.Leave cmd)) = becoming_settles _ _ (shown_settles _ _ (λ v. answered_settles cmd))
-insert_done_settles custom i w k (Some (inserts.Command char)) = becoming_settles _ _ (shown_settles _ _ (vi_command_settles custom (key_with (Char char) none) (in_mode Command i)))
+insert_done_settles custom i w k (Some (Leave cmd)) = becoming_settles _ _ (shown_settles _ _ (λ v. answered_settles cmd))
+insert_done_settles custom i w k (Some (CommandKey char)) = becoming_settles _ _ (shown_settles _ _ (vi_command_settles custom (key_with (Char char) none) (in_mode Command i)))
 insert_done_settles custom i w k None = common_settles (situation custom i w 1 true) k
 insert_done_settles custom i w k o = answered_settles _
 

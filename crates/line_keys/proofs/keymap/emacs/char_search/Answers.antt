@@ -4,7 +4,7 @@ use Rattle.line_keys.specs.Emacs.{move_to_char}
 use Rattle.line_keys.specs.Keys.{char_with, none}
 use Rattle.line_keys.specs.ViMotions.{search_of}
 use Rattle.line_keys.proofs.KeyReads.{made_of_read, not_made}
-use Rattle.line_keys.proofs.Raised.{raised}
+use Rattle.line_keys.proofs.Following.{raised}
 use Rattle.line_keys.proofs.keymap.emacs.char_search.Goals as goal
 
 pub returns-in_err-key : goal.returns-in_err-key

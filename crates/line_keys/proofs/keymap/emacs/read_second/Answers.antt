@@ -2,7 +2,7 @@ use Rattle.std.proofs.Common.{◌≡◌}
 use Rattle.std.specs.Prelude.{Err}
 use Rattle.line_keys.specs.Emacs.{second_command}
 use Rattle.line_keys.proofs.KeyReads.{made_of_read, not_made}
-use Rattle.line_keys.proofs.Raised.{raised}
+use Rattle.line_keys.proofs.Following.{raised}
 use Rattle.line_keys.proofs.keymap.emacs.read_second.Goals as goal
 
 pub returns-in_err-second : goal.returns-in_err-second
