@@ -5,6 +5,7 @@ use Rattle.std.specs.Io.KnownBytes.{Keeps, Appends, WriteAppends}
 use Rattle.std.specs.declared.io.Error.{Error}
 use Rattle.line_config.specs.DeviceCalls.{DeviceCall}
 use Rattle.line_config.specs.Parts.{Notes, calls_of, took, inner_of}
+use Rattle.line_config.proofs.KnownLemmas.{keeps_same}
 use Rattle.line_config.proofs.TryLemmas.{since_same, since_then}
 use Rattle.line_config.specs.declared.recorded.Recorded.{Recorded}
 
@@ -12,10 +13,6 @@ appends_none : (a b : Option (List ℕ)) → Keeps a b → Appends a b []
 appends_none None b kept = tt
 appends_none (Some xs) None kept = absurd kept
 appends_none (Some xs) (Some ys) kept = kept ∙ sym (append-nil xs)
-
-appends_same : (a : Option (List ℕ)) → Appends a a []
-appends_same None = tt
-appends_same (Some xs) = sym (append-nil xs)
 
 appends_then : (a b c : Option (List ℕ)) (xs ys : List ℕ) → Appends a b xs → Appends b c ys → Appends a c (xs ++ ys)
 appends_then None b c xs ys first second = tt
@@ -25,33 +22,24 @@ appends_then (Some ws) (Some vs) (Some us) xs ys first second = second ∙ ap (�
 
 module _ {W : Type 0} (contents : W → Option (List ℕ)) where
   pub notes_same : (a : Recorded W) → Notes contents a a
-  notes_same a = record { more = []; noted = sym (append-nil (took a)); writer = appends_same (contents (inner_of a)); calls = since_same (calls_of a) }
-
-  pub notes_none : (a b : Recorded W) (call : DeviceCall) → took b ≡ took a → Keeps (contents (inner_of a)) (contents (inner_of b)) → calls_of b ≡ call ∷ calls_of a
-      → Notes contents a b
-  notes_none a b call same kept noted = record {
-    more = [];
-    noted = same ∙ sym (append-nil (took a));
-    writer = appends_none (contents (inner_of a)) (contents (inner_of b)) kept;
-    calls = record { others = call ∷ []; noted = noted };
-  }
+  notes_same a =
+      let own = contents (inner_of a) in
+      record { more = []; noted = sym (append-nil (took a)); writer = appends_none own own (keeps_same own); calls = since_same (calls_of a) }
 
   pub notes_some : (a b : Recorded W) (bytes : List ℕ) (call : DeviceCall) → took b ≡ took a ++ bytes → Appends (contents (inner_of a)) (contents (inner_of b)) bytes
       → calls_of b ≡ call ∷ calls_of a → Notes contents a b
-  notes_some a b bytes call took-more got noted = record {
-    more = bytes;
-    noted = took-more;
-    writer = got;
-    calls = record { others = call ∷ []; noted = noted };
-  }
+  notes_some a b bytes call took-more got noted =
+      record { more = bytes; noted = took-more; writer = got; calls = record { others = call ∷ []; noted = noted } }
+
+  pub notes_none : (a b : Recorded W) (call : DeviceCall) → took b ≡ took a → Keeps (contents (inner_of a)) (contents (inner_of b)) → calls_of b ≡ call ∷ calls_of a
+      → Notes contents a b
+  notes_none a b call same kept noted =
+      notes_some a b [] call (same ∙ sym (append-nil (took a))) (appends_none (contents (inner_of a)) (contents (inner_of b)) kept) noted
 
   pub notes_written : (a b : Recorded W) (result : Result ℕ Error) (n : ℕ) (bytes : List ℕ) (call : DeviceCall) → result ≡ Ok n
       → WriteAppends (Some (took a)) (Some (took b)) result bytes → WriteAppends (contents (inner_of a)) (contents (inner_of b)) result bytes
       → calls_of b ≡ call ∷ calls_of a → Notes contents a b
-  notes_written a b result n bytes call is took-more got noted =
-      let some : took b ≡ took a ++ take n bytes = rw is at took-more in
-      let same : Appends (contents (inner_of a)) (contents (inner_of b)) (take n bytes) = rw is at got in
-      notes_some a b (take n bytes) call some same noted
+  notes_written a b result n bytes call is took-more got noted = notes_some a b (take n bytes) call (rw is at took-more) (rw is at got) noted
 
   pub notes_then : (a b c : Recorded W) → Notes contents a b → Notes contents b c → Notes contents a c
   notes_then a b c first second = record {

@@ -27,15 +27,6 @@ begins_more before xs ys after some = record {
   held = some.held;
 }
 
--- all of some, and then some of others
-pub begins_behind : (before xs ys between after : List ℕ) → between ≡ before ++ xs → AppendsSome between ys after → AppendsSome before (xs ++ ys) after
-begins_behind before xs ys between after is some = record {
-  taken = xs ++ some.taken;
-  rest = some.rest;
-  split = ap (λ zs. xs ++ zs) some.split ∙ sym (append_assoc xs some.taken some.rest);
-  held = some.held ∙ ap (λ zs. zs ++ some.taken) is ∙ append_assoc before xs some.taken;
-}
-
 -- ---- a sink that took a beginning
 
 pub some_of_write : {D : Type 0} (held : D → List ℕ) (a b : D) (bytes xs : List ℕ) → bytes ≡ xs → AppendsSome (held a) bytes (held b)
@@ -48,8 +39,14 @@ some_of_more held a b xs ys some = begins_more (held a) xs ys (held b) some
 pub some_of_all : {D : Type 0} (held : D → List ℕ) (a b : D) (xs : List ℕ) → Takes held a b xs → TakesSome held a b xs
 some_of_all held a b xs taken = record { taken = xs; rest = []; split = sym (append-nil xs); held = taken }
 
+-- all of some, and then some of others
 pub some_then : {D : Type 0} (held : D → List ℕ) (a b c : D) (xs ys : List ℕ) → Takes held a b xs → TakesSome held b c ys → TakesSome held a c (xs ++ ys)
-some_then held a b c xs ys taken some = begins_behind (held a) xs ys (held b) (held c) taken some
+some_then held a b c xs ys taken some = record {
+  taken = xs ++ some.taken;
+  rest = some.rest;
+  split = ap (λ zs. xs ++ zs) some.split ∙ sym (append_assoc xs some.taken some.rest);
+  held = some.held ∙ ap (λ zs. zs ++ some.taken) taken ∙ append_assoc (held a) xs some.taken;
+}
 
 pub on_err : {T E P : Type 0} (r : Result T E) → P → OnErr r P
 on_err (Ok x) p = tt

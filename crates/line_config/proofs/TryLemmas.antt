@@ -59,17 +59,6 @@ since_then {a} {b} {c} first second = record {
   noted = second.noted ∙ ap (λ cs. second.others ++ cs) first.noted ∙ sym (append_assoc second.others first.others a);
 }
 
-pub ends_tries : (interrupted : DeviceCall) (a b c : List DeviceCall) (IsLast Is : DeviceCall → Type 0) → Since a b → Tries interrupted b c IsLast
-    → ((call : DeviceCall) → IsLast call → Is call) → EndsWithCall Is a c
-ends_tries interrupted a b c IsLast Is first t so =
-    let parts = again_parts t.tries interrupted b in
-    record {
-      call = t.call;
-      others = parts.0 ++ first.others;
-      noted = t.noted ∙ ap (λ cs. t.call ∷ cs) (parts.1 ∙ ap (λ cs. parts.0 ++ cs) first.noted ∙ sym (append_assoc parts.0 first.others a));
-      last = so t.call t.last;
-    }
-
 pub ends_since : (Is : DeviceCall → Type 0) (a b c : List DeviceCall) → Since a b → EndsWithCall Is b c → EndsWithCall Is a c
 ends_since Is a b c first second = record {
   call = second.call;
@@ -78,16 +67,18 @@ ends_since Is a b c first second = record {
   last = second.last;
 }
 
+pub ends_tries : (interrupted : DeviceCall) (a b c : List DeviceCall) (IsLast Is : DeviceCall → Type 0) → Since a b → Tries interrupted b c IsLast
+    → ((call : DeviceCall) → IsLast call → Is call) → EndsWithCall Is a c
+ends_tries interrupted a b c IsLast Is first t so =
+    let parts = again_parts t.tries interrupted b in
+    ends_since Is a b c first (record { call = t.call; others = parts.0; noted = t.noted ∙ ap (λ cs. t.call ∷ cs) parts.1; last = so t.call t.last })
+
 -- a write that failed has failed its writer
 pub write_fails : {A : Type 0} (bytes : List ℕ) (result : Result ℕ A) (e : A) → result ≡ Err e → (c : DeviceCall) → Answers (Moves (Ok (bytes_moved result bytes))) IsWriteFailure result c → IsWriteFailure c
 write_fails bytes result e is c answers = rw is at answers
 
 -- a flush after other calls
-pub flush_ends : {E : Type 0} (result : Result ⊤ E) (a b c : List DeviceCall) → Since a b → Tries flush_interrupted b c (Answers (Flushes (Ok tt)) IsWriteFailure result) → OnOk result (EndsWithCall IsFlush a c)
-flush_ends (Ok x) a b c first t = ends_tries flush_interrupted a b c IsFlush IsFlush first t (λ call is. is)
-flush_ends (Err e) a b c first t = tt
-
-pub flush_fails : {E : Type 0} (result : Result ⊤ E) (a b c : List DeviceCall) → Since a b → Tries flush_interrupted b c (Answers (Flushes (Ok tt)) IsWriteFailure result)
-    → OnErr result (EndsWithCall IsWriteFailure a c)
-flush_fails (Ok x) a b c first t = tt
-flush_fails (Err e) a b c first t = ends_tries flush_interrupted a b c IsWriteFailure IsWriteFailure first t (λ call is. is)
+pub flush_ends : {E : Type 0} (result : Result ⊤ E) (a b c : List DeviceCall) → Since a b → Tries flush_interrupted b c (Answers (Flushes (Ok tt)) IsWriteFailure result)
+    → OnOk result (EndsWithCall IsFlush a c) × OnErr result (EndsWithCall IsWriteFailure a c)
+flush_ends (Ok x) a b c first t = (ends_tries flush_interrupted a b c IsFlush IsFlush first t (λ call is. is), tt)
+flush_ends (Err e) a b c first t = (tt, ends_tries flush_interrupted a b c IsWriteFailure IsWriteFailure first t (λ call is. is))

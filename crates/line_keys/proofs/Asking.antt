@@ -11,12 +11,9 @@ module _ {S : Type 0} (asked : Asked S) where
   joined Is s t u before nothing = before
   joined Is s t u before (then r v w after is made) = then r v u (joined Is s t v before after) is made
 
-  key_is_later : (flag : Bool) (r : Request) → IsKey flag r → IsLater r
-  key_is_later flag r is = subst IsLater (sym is) tt
-
   pub keys_asked : (flag : Bool) (s t : S) → AsksInOrder asked (IsKey flag) s t → AsksInOrder asked IsLater s t
   keys_asked flag s t nothing = nothing
-  keys_asked flag s t (then r u v before is made) = then r u t (keys_asked flag s u before) (key_is_later flag r is) made
+  keys_asked flag s t (then r u v before is made) = then r u t (keys_asked flag s u before) (subst IsLater (sym is) tt) made
 
   pub key_asked : (flag : Bool) (s t : S) → asked s (NextKey flag) t → AsksInOrder asked IsLater s t
   key_asked flag s t made = then (NextKey flag) s t nothing tt made

@@ -31,28 +31,24 @@ module _ {X Y : Type 0} {f f' : KeyFeed} where
   refused_some : (e : ReadlineError) → SomeRead {X = X} f f' (Err e) → SomeRead {X = Y} f f' (Err e)
   refused_some e some = record { told = some.told; keeps = some.keeps; falls = tt; refused = some.refused; reason = some.reason }
 
+-- a read with another answer, from the same front of the input
+remade : {X Y : Type 0} {at : Coming → Result X ReadlineError} {at' : Coming → Result Y ReadlineError} (f f' : KeyFeed)
+    (r : Result X ReadlineError) (r' : Result Y ReadlineError) → SomeRead f f' r'
+    → (ReadAs Key (at f.coming) (behind Key f.coming) r f'.coming → ReadAs Key (at' f.coming) (behind Key f.coming) r' f'.coming)
+    → ReadsBy Key at f f' r → ReadsBy Key at' f f' r'
+remade f f' r r' some again reads = record { some = some; taken = λ told. again (reads.taken told) }
+
 module _ {X : Type 0} (g : KeyEvent → X) (f f' : KeyFeed) where
   pub made_of_read : (k : KeyEvent) → ReadsBy Key key_at f f' (Ok k) → ReadsBy Key (from_key_at g) f f' (Ok (g k))
-  made_of_read k reads = record {
-    some = given_some k (g k) reads.some;
-    taken = λ told. made_as g Key (key_at f.coming) (Ok k) (behind Key f.coming) f'.coming (reads.taken told);
-  }
+  made_of_read k reads = remade f f' (Ok k) (Ok (g k)) (given_some k (g k) reads.some) (made_as g Key (key_at f.coming) (Ok k) (behind Key f.coming) f'.coming) reads
 
   pub not_made : (e : ReadlineError) → ReadsBy Key key_at f f' (Err e) → ReadsBy Key (from_key_at g) f f' (Err e)
-  not_made e reads = record {
-    some = refused_some e reads.some;
-    taken = λ told. made_as g Key (key_at f.coming) (Err e) (behind Key f.coming) f'.coming (reads.taken told);
-  }
+  not_made e reads = remade f f' (Err e) (Err e) (refused_some e reads.some) (made_as g Key (key_at f.coming) (Err e) (behind Key f.coming) f'.coming) reads
 
 module _ (f f' : KeyFeed) where
   pub key_of_press : (k : KeyEvent) → ReadsBy Key (from_key_at KeyPress) f f' (Ok (KeyPress k)) → ReadsBy Key key_at f f' (Ok k)
-  key_of_press k reads = record {
-    some = given_some (KeyPress k) k reads.some;
-    taken = λ told. press_as (key_at f.coming) (Ok (KeyPress k)) (behind Key f.coming) f'.coming (reads.taken told);
-  }
+  key_of_press k reads =
+      remade f f' (Ok (KeyPress k)) (Ok k) (given_some (KeyPress k) k reads.some) (press_as (key_at f.coming) (Ok (KeyPress k)) (behind Key f.coming) f'.coming) reads
 
   pub no_press : (e : ReadlineError) → ReadsBy Key (from_key_at KeyPress) f f' (Err e) → ReadsBy Key key_at f f' (Err e)
-  no_press e reads = record {
-    some = refused_some e reads.some;
-    taken = λ told. press_as (key_at f.coming) (Err e) (behind Key f.coming) f'.coming (reads.taken told);
-  }
+  no_press e reads = remade f f' (Err e) (Err e) (refused_some e reads.some) (press_as (key_at f.coming) (Err e) (behind Key f.coming) f'.coming) reads

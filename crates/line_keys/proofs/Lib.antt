@@ -7,7 +7,6 @@ pub mod Normal
 pub mod Places
 mod Played
 pub mod QuotedKeys
-pub mod Raised
 pub mod Remembering
 pub mod RowActions
 pub mod SameEventsLemmas

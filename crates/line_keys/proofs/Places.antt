@@ -15,13 +15,9 @@ use Rattle.line_keys.proofs.SameEventsLemmas.{same_event-decides}
 
 -- ---- lists and tests of any kind
 
-failed : {B : Type 0} (b : Bool) (x : B) (rest : Option B) → cond b (Some x) rest ≡ None → b ≡ false
-failed true x rest e = cc
-failed false x rest e = refl
-
-passed_over : {B : Type 0} (b : Bool) (x : B) (rest : Option B) → cond b (Some x) rest ≡ None → rest ≡ None
-passed_over true x rest e = cc
-passed_over false x rest e = e
+passed_over : {B : Type 0} (b : Bool) (x : B) (rest : Option B) → cond b (Some x) rest ≡ None → (b ≡ false) × (rest ≡ None)
+passed_over true x rest e = (cc, cc)
+passed_over false x rest e = (refl, e)
 
 past : (n len : ℕ) (b : Bool) → ltb n len ≡ b → cond b (Some n) None ≡ None → len ≤ n
 past n len true e h = cc
@@ -41,8 +37,8 @@ module _ {B : Type 0} (p : B → Bool) where
 
   each_fails : (xs : List B) → first_passing p xs ≡ None → (k : ℕ) (d : B) → k < length xs → p (get_or xs k d) ≡ false
   each_fails [] none k d h = absurd (omega arith)
-  each_fails (x ∷ xs) none zero d h = failed (p x) x (first_passing p xs) none
-  each_fails (x ∷ xs) none (suc k) d h = each_fails xs (passed_over (p x) x (first_passing p xs) none) k d (omega arith)
+  each_fails (x ∷ xs) none zero d h = (passed_over (p x) x (first_passing p xs) none).0
+  each_fails (x ∷ xs) none (suc k) d h = each_fails xs (passed_over (p x) x (first_passing p xs) none).1 k d (omega arith)
 
   -- an element that fails is not missed
   find-remove : (xs : List B) (i : ℕ) (d : B) → i < length xs → p (get_or xs i d) ≡ false → first_passing p (remove xs i) ≡ first_passing p xs
@@ -84,6 +80,15 @@ other e o x at is = subst (λ (y : Event). same_event y o ≡ false) (sym at) is
 same_event-symm : (x y : Event) → same_event x y ≡ same_event y x
 same_event-symm = (decided same_event same_event-decides).symm
 
+-- a map that has this at the event, and at the others what the old one has
+decided_at : {H : Type 0} (e : Event) (value : Option H) (old new : Event → Option H) → new e ≡ value → ((o : Event) → same_event e o ≡ false → new o ≡ old o)
+    → (o : Event) → new o ≡ map_with e value old o
+decided_at {H} e value old new at kept o = by (same_event e o) refl
+  where
+    by : (same : Bool) → same_event e o ≡ same → new o ≡ cond same value (old o)
+    by true is = subst (λ (x : Event). new x ≡ value) ((same_event-decides e o).0 is) at
+    by false is = kept o is
+
 module _ {H : Type 0} (e : Event) (entries : List (Event × H)) where
   pub place_below : (i : ℕ) (d : Event × H) → position (has_event e) entries ≡ Some i → i < length entries
   place_below i d at = (position-Some (has_event e) entries i d at).0
@@ -102,88 +107,57 @@ module _ {H : Type 0} (e : Event) (entries : List (Event × H)) where
   found_nowhere at = sym (ap (option_map (λ (x : Event × H). x.1)) (nothing_passes (has_event e) entries at))
 
   -- another handler at the entry's place
-  set_by : (o : Event) (i : ℕ) (d b : Event × H) (same : Bool) → same_event e o ≡ same → position (has_event e) entries ≡ Some i → b.0 ≡ (get_or entries i d).0
-      → find o (set entries i b) ≡ cond same (Some b.1) (find o entries)
-  set_by o i d b true is at kept =
+  pub bound_at_place : (i : ℕ) (d b : Event × H) → position (has_event e) entries ≡ Some i → b.0 ≡ (get_or entries i d).0
+      → (o : Event) → find o (set entries i b) ≡ map_with e (Some b.1) (λ x. find x entries) o
+  bound_at_place i d b at kept =
       let w = position-Some (has_event e) entries i d at in
       let first : position_or_len (has_event e) entries ≡ i = position_or_len_is (has_event e) entries i d (omega arith) w.2 (λ _. w.1) in
       let passes : has_event e b ≡ true = (same_event-decides b.0 e).1 (kept ∙ here i d at) in
-      subst (λ (x : Event). find x (set entries i b) ≡ Some b.1) ((same_event-decides e o).0 is)
+      decided_at e (Some b.1) (λ x. find x entries) (λ x. find x (set entries i b))
       (ap (option_map (λ (x : Event × H). x.1)) (find-set (has_event e) entries i b (sym first) w.0 passes))
-  set_by o i d b false is at kept =
-      ap (option_map (λ (x : Event × H). x.1))
-      (find_past (has_event o) entries i b d (other e o (get_or entries i d).0 (here i d at) is) (other e o b.0 (kept ∙ here i d at) is))
-
-  pub bound_at_place : (i : ℕ) (d b : Event × H) → position (has_event e) entries ≡ Some i → b.0 ≡ (get_or entries i d).0
-      → (o : Event) → find o (set entries i b) ≡ map_with e (Some b.1) (λ x. find x entries) o
-  bound_at_place i d b at kept o = set_by o i d b (same_event e o) refl at kept
+      (λ o is. ap (option_map (λ (x : Event × H). x.1))
+      (find_past (has_event o) entries i b d (other e o (get_or entries i d).0 (here i d at) is) (other e o b.0 (kept ∙ here i d at) is)))
 
   -- a new entry after the others
-  pushed_by : (o : Event) (b : Event × H) (same : Bool) → same_event e o ≡ same → position (has_event e) entries ≡ None → b.0 ≡ e
-      → find o (entries ++ b ∷ []) ≡ cond same (Some b.1) (find o entries)
-  pushed_by o b true is at new =
+  pub bound_behind : (b : Event × H) → position (has_event e) entries ≡ None → b.0 ≡ e
+      → (o : Event) → find o (entries ++ b ∷ []) ≡ map_with e (Some b.1) (λ x. find x entries) o
+  bound_behind b at new =
       let passes : has_event e b ≡ true = (same_event-decides b.0 e).1 new in
       let found : first_passing (has_event e) (entries ++ b ∷ []) ≡ Some b =
       find-append (has_event e) entries (b ∷ []) ∙ rw (nothing_passes (has_event e) entries at, passes) refl in
-      subst (λ (x : Event). find x (entries ++ b ∷ []) ≡ Some b.1) ((same_event-decides e o).0 is) (ap (option_map (λ (x : Event × H). x.1)) found)
-  pushed_by o b false is at new =
-      let fails : has_event o b ≡ false = other e o b.0 new is in
-      ap (option_map (λ (x : Event × H). x.1)) (find-append (has_event o) entries (b ∷ []) ∙ rw fails (or_nothing (first_passing (has_event o) entries)))
-
-  pub bound_behind : (b : Event × H) → position (has_event e) entries ≡ None → b.0 ≡ e
-      → (o : Event) → find o (entries ++ b ∷ []) ≡ map_with e (Some b.1) (λ x. find x entries) o
-  bound_behind b at new o = pushed_by o b (same_event e o) refl at new
+      decided_at e (Some b.1) (λ x. find x entries) (λ x. find x (entries ++ b ∷ [])) (ap (option_map (λ (x : Event × H). x.1)) found)
+      (λ o is. ap (option_map (λ (x : Event × H). x.1)) (find-append (has_event o) entries (b ∷ [])
+      ∙ rw (other e o b.0 new is) (or_nothing (first_passing (has_event o) entries))))
 
   -- the entry taken out
-  removed_by : (o : Event) (i : ℕ) (d : Event × H) (same : Bool) → same_event e o ≡ same → position (has_event e) entries ≡ Some i → AreDistinct entries
-      → find o (remove entries i) ≡ cond same None (find o entries)
-  removed_by o i d true is at distinct =
+  pub unbound_at_place : (i : ℕ) (d : Event × H) → position (has_event e) entries ≡ Some i → AreDistinct entries
+      → (o : Event) → find o (remove entries i) ≡ map_with e None (λ x. find x entries) o
+  unbound_at_place i d at distinct =
       let w = position-Some (has_event e) entries i d at in
       let apart : (k : ℕ) → i < k → k < length entries → has_event e (get_or entries k d) ≡ false =
       λ k l m. same_event-symm (get_or entries k d).0 e ∙ subst (λ (x : Event). same_event x (get_or entries k d).0 ≡ false) (here i d at) (distinct i k d l m) in
-      subst (λ (x : Event). find x (remove entries i) ≡ None) ((same_event-decides e o).0 is)
+      decided_at e None (λ x. find x entries) (λ x. find x (remove entries i))
       (ap (option_map (λ (x : Event × H). x.1)) (find-removed (has_event e) entries i d w.0 w.2 apart))
-  removed_by o i d false is at distinct =
-      let w = position-Some (has_event e) entries i d at in
-      ap (option_map (λ (x : Event × H). x.1)) (find-remove (has_event o) entries i d w.0 (other e o (get_or entries i d).0 (here i d at) is))
-
-  pub unbound_at_place : (i : ℕ) (d : Event × H) → position (has_event e) entries ≡ Some i → AreDistinct entries
-      → (o : Event) → find o (remove entries i) ≡ map_with e None (λ x. find x entries) o
-  unbound_at_place i d at distinct o = removed_by o i d (same_event e o) refl at distinct
-
-  kept_by : (o : Event) (same : Bool) → same_event e o ≡ same → position (has_event e) entries ≡ None → find o entries ≡ cond same None (find o entries)
-  kept_by o true is at = subst (λ (x : Event). find x entries ≡ None) ((same_event-decides e o).0 is) (sym (found_nowhere at))
-  kept_by o false is at = refl
+      (λ o is. ap (option_map (λ (x : Event × H). x.1)) (find-remove (has_event o) entries i d w.0 (other e o (get_or entries i d).0 (here i d at) is)))
 
   pub nothing_unbound : position (has_event e) entries ≡ None → (o : Event) → find o entries ≡ map_with e None (λ x. find x entries) o
-  nothing_unbound at o = kept_by o (same_event e o) refl at
+  nothing_unbound at = decided_at e None (λ x. find x entries) (λ x. find x entries) (sym (found_nowhere at)) (λ o is. refl)
 
 -- ---- no two entries have one event, after each edit
 
 event_kept : {H : Type 0} (entries : List (Event × H)) (i : ℕ) (d b : Event × H) → b.0 ≡ (get_or entries i d).0
     → (k : ℕ) (c : Event × H) → (get_or (set entries i b) k c).0 ≡ (get_or entries k c).0
-event_kept [] i d b kept k c = refl
 event_kept (x ∷ entries) zero d b kept zero c = kept
-event_kept (x ∷ entries) zero d b kept (suc k) c = refl
-event_kept (x ∷ entries) (suc i) d b kept zero c = refl
 event_kept (x ∷ entries) (suc i) d b kept (suc k) c = event_kept entries i d b kept k c
+event_kept entries i d b kept k c = refl
 
-pub distinct_set : {H : Type 0} (entries : List (Event × H)) (i : ℕ) (d b : Event × H) → b.0 ≡ (get_or entries i d).0 → AreDistinct entries → AreDistinct (set entries i b)
+distinct_set : {H : Type 0} (entries : List (Event × H)) (i : ℕ) (d b : Event × H) → b.0 ≡ (get_or entries i d).0 → AreDistinct entries → AreDistinct (set entries i b)
 distinct_set {H} entries i d b kept distinct j k c l m =
     let first = event_kept entries i d b kept j c in
     let second = event_kept entries i d b kept k c in
     let unchanged : same_event (get_or (set entries i b) j c).0 (get_or (set entries i b) k c).0 ≡ same_event (get_or entries j c).0 (get_or entries k c).0 =
     λ t. same_event (first t) (second t) in
     unchanged ∙ distinct j k c l (omega (arith, length-set {A = Event × H}))
-
-pub distinct_push : {H : Type 0} (e : Event) (entries : List (Event × H)) (b : Event × H) → position (has_event e) entries ≡ None → b.0 ≡ e
-    → AreDistinct entries → AreDistinct (entries ++ b ∷ [])
-distinct_push {H} e entries b at new distinct =
-    all_pairs_push (λ (x y : Event × H). IsFalse (same_event x.0 y.0)) entries b distinct
-    (λ k d h. subst (λ (x : Event). same_event (get_or entries k d).0 x ≡ false) (sym new) (each_fails (has_event e) entries (nothing_passes (has_event e) entries at) k d h))
-
-pub distinct_remove : {H : Type 0} (entries : List (Event × H)) (i : ℕ) → i < length entries → AreDistinct entries → AreDistinct (remove entries i)
-distinct_remove {H} entries i h distinct = all_pairs_remove (λ (x y : Event × H). IsFalse (same_event x.0 y.0)) entries i h distinct
 
 -- ---- each bound event is in its normal form, after each edit
 
@@ -206,25 +180,26 @@ pub map_set : {H : Type 0} (entries : List (Event × H)) (i : ℕ) (d b : Event 
 map_set entries i d b h kept is = record { distinct = distinct_set entries i d b kept is.distinct; normal = normal_set entries i d b h kept is.normal }
 
 pub map_push : {H : Type 0} (entries : List (Event × H)) (b : Event × H) → IsNormal b.0 → position (has_event b.0) entries ≡ None → IsMap entries → IsMap (entries ++ b ∷ [])
-map_push entries b normal at is = record { distinct = distinct_push b.0 entries b at refl is.distinct; normal = normal_push entries b normal is.normal }
+map_push entries b normal at is = record {
+  distinct = all_pairs_push (λ x y. IsFalse (same_event x.0 y.0)) entries b is.distinct (each_fails (has_event b.0) entries (nothing_passes (has_event b.0) entries at));
+  normal = normal_push entries b normal is.normal;
+}
 
 pub map_remove : {H : Type 0} (entries : List (Event × H)) (i : ℕ) → i < length entries → IsMap entries → IsMap (remove entries i)
-map_remove entries i h is = record { distinct = distinct_remove entries i h is.distinct; normal = normal_remove entries i is.normal }
+map_remove entries i h is = record {
+  distinct = all_pairs_remove (λ x y. IsFalse (same_event x.0 y.0)) entries i h is.distinct;
+  normal = normal_remove entries i is.normal;
+}
 
 -- only an event in its normal form is bound to something
-normal_by : {H : Type 0} (e : Event) (x b : Event × H) (later : Option (Event × H)) (t : Bool) → has_event e x ≡ t → IsNormal x.0 → (later ≡ Some b → IsNormal e)
-    → cond t (Some x) later ≡ Some b → IsNormal e
-normal_by e x b later true same normal tail is = subst (λ (o : Event). IsNormal o) ((same_event-decides x.0 e).0 same) normal
-normal_by e x b later false same normal tail is = tail is
-
-found_normal : {H : Type 0} (e : Event) (entries : List (Event × H)) (b : Event × H) → AreNormal entries → first_passing (has_event e) entries ≡ Some b → IsNormal e
-found_normal e [] b normal is = cc
-found_normal e (x ∷ entries) b normal is = normal_by e x b (first_passing (has_event e) entries) (has_event e x) refl normal.0 (found_normal e entries b normal.1) is
-
-some_found : {H : Type 0} (e : Event) (entries : List (Event × H)) (o : Option (Event × H)) → AreNormal entries → first_passing (has_event e) entries ≡ o
-    → IsSome (option_map (λ (x : Event × H). x.1) o) → IsNormal e
-some_found e entries (Some b) normal is some = found_normal e entries b normal is
-some_found e entries None normal is some = absurd (true≢false (sym some))
+found_normal : {H : Type 0} (e : Event) (entries : List (Event × H)) → AreNormal entries → IsSome (find e entries) → IsNormal e
+found_normal e [] normal some = absurd (true≢false (sym some))
+found_normal {H} e (x ∷ entries) normal some = by (has_event e x) refl (found_normal e entries normal.1) some
+  where
+    by : (same : Bool) → has_event e x ≡ same → (IsSome (find e entries) → IsNormal e)
+        → IsSome (option_map (λ (y : Event × H). y.1) (cond same (Some x) (first_passing (has_event e) entries))) → IsNormal e
+    by true is later found = subst (λ (o : Event). IsNormal o) ((same_event-decides x.0 e).0 is) normal.0
+    by false is later found = later found
 
 pub normal_if_found : {H : Type 0} (e : Event) (entries : List (Event × H)) → IsMap entries → IsSome (find e entries) → IsNormal e
-normal_if_found e entries is some = some_found e entries (first_passing (has_event e) entries) is.normal refl some
+normal_if_found e entries is some = found_normal e entries is.normal some

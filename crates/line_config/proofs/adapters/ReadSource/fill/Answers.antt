@@ -5,8 +5,7 @@ use Rattle.std.specs.Io.KnownBytes.{Consumes}
 use Rattle.std.proofs.lemmas.List.{length-take, length-drop}
 use Rattle.std.proofs.lemmas.Grind.{common_steps}
 use Rattle.line_config.specs.Adapters.{gave, reader_of, bytes_not_given}
-use Rattle.line_config.specs.Parts.{bytes_in}
-use Rattle.line_config.specs.Parts.{inner_of, took}
+use Rattle.line_config.specs.Parts.{bytes_in, inner_of, took}
 use Rattle.line_config.specs.declared.device.Last.TheVariants.{End, Failed}
 use Rattle.line_config.proofs.FeedLemmas.{fills_by}
 use Rattle.line_config.proofs.KnownLemmas.{keeps_same, consumes_none}

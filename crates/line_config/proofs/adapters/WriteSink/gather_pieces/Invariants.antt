@@ -2,8 +2,7 @@
 -- still there, except for them; so if all of them fit, none was sent.
 use Rattle.std.proofs.Common.{◌≡◌, ◌≤◌, ◌+◌, ◌++◌, List, ℕ, length}
 use Rattle.line_config.specs.Adapters.{bytes_taken}
-use Rattle.line_config.specs.Parts.{room_in}
-use Rattle.line_config.specs.Parts.{Notes}
+use Rattle.line_config.specs.Parts.{room_in, Notes}
 use Rattle.line_config.proofs.adapters.WriteSink.gather_pieces.Given as goal
 
 abbrev pub invariant-loop-rest : goal.invariant-loop-rest

@@ -1,5 +1,5 @@
 -- What is given goes from the front of what is held.
-use Rattle.std.proofs.Common.{◌≤◌, ◌+◌, ℕ, arith}
+use Rattle.std.proofs.Common.{ℕ, arith}
 use Rattle.std.proofs.lemmas.List.{length-take, length-drop}
 use Rattle.line_config.proofs.BufferLemmas.{slice_range-later}
 use Rattle.line_config.proofs.buffer.Buffer.consume.Goals as goal
@@ -7,13 +7,9 @@ use Rattle.line_config.proofs.buffer.Buffer.consume.Goals as goal
 pub invariant_of-self : goal.invariant_of-self
 invariant_of-self g c =
     let w = c.args.self.now in
-    let n = c.args.amount in
-    let inside : w.start + n ≤ w.end = omega (arith, c.requires, w.ordered, length-take {A = ℕ}, length-drop {A = ℕ}) in
-    record { ordered = inside; within = w.within }
+    record { ordered = omega (arith, c.requires, w.ordered, length-take {A = ℕ}, length-drop {A = ℕ}); within = w.within }
 
 pub returns : goal.returns
 returns g c =
     let w = c.args.self.now in
-    let n = c.args.amount in
-    let inside : w.start + n ≤ w.end = omega (arith, c.requires, w.ordered, length-take {A = ℕ}, length-drop {A = ℕ}) in
-    slice_range-later w.bytes w.start w.end n inside
+    slice_range-later w.bytes w.start w.end c.args.amount (omega (arith, c.requires, w.ordered, length-take {A = ℕ}, length-drop {A = ℕ}))

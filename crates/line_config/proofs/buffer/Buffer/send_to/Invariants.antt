@@ -1,7 +1,6 @@
 -- What was sent and what is still held are together what was there at first.
 use Rattle.std.proofs.Common.{◌-◌, ◌≡◌, ◌++◌}
-use Rattle.line_config.specs.Parts.{bytes_in}
-use Rattle.line_config.specs.Parts.{Notes, took}
+use Rattle.line_config.specs.Parts.{bytes_in, Notes, took}
 use Rattle.line_config.proofs.buffer.Buffer.send_to.Given as goal
 
 abbrev pub invariant-loop-self : goal.invariant-loop-self

@@ -4,17 +4,14 @@ use Rattle.line_keys.specs.Events.{single, has_event}
 use Rattle.line_keys.proofs.Places.{entry_at, found_at, found_nowhere}
 use Rattle.line_keys.proofs.binding.EventMap.entry_of.Goals as goal
 
-pub returns-in-Some-clause-found : goal.returns-in-Some-clause-found
-returns-in-Some-clause-found g c =
+pub returns-in-Some : goal.returns-in-Some
+returns-in-Some g c =
     let at : position (has_event (single c.args.key)) c.args.self.now ≡ Some c.in-Some.i = sym (rw (c.as_slice.ensures.value, c.self.view_is) at c.in-Some.ensures) in
     let entry : c.index.result.now ≡ get_or c.args.self.now c.in-Some.i c.index.result.now = rw c.self.view_is at c.index.ensures in
-    found_at (single c.args.key) c.args.self.now c.in-Some.i c.index.result.now c.index.result.now at entry
-
-pub returns-in-Some-clause-event : goal.returns-in-Some-clause-event
-returns-in-Some-clause-event g c =
-    let at : position (has_event (single c.args.key)) c.args.self.now ≡ Some c.in-Some.i = sym (rw (c.as_slice.ensures.value, c.self.view_is) at c.in-Some.ensures) in
-    let entry : c.index.result.now ≡ get_or c.args.self.now c.in-Some.i c.index.result.now = rw c.self.view_is at c.index.ensures in
-    entry_at (single c.args.key) c.args.self.now c.in-Some.i c.index.result.now c.index.result.now at entry
+    record {
+      found = found_at (single c.args.key) c.args.self.now c.in-Some.i c.index.result.now c.index.result.now at entry;
+      event = entry_at (single c.args.key) c.args.self.now c.in-Some.i c.index.result.now c.index.result.now at entry;
+    }
 
 pub returns-in-None-clause-found : goal.returns-in-None-clause-found
 returns-in-None-clause-found g c =

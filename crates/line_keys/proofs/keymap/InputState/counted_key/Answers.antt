@@ -6,8 +6,5 @@ use Rattle.line_keys.proofs.keymap.InputState.counted_key.Goals as goal
 pub returns-in-Some-clause-asks : goal.returns-in-Some-clause-asks
 returns-in-Some-clause-asks g c = c.digit_argument.ensures.asks
 
-pub returns-in-None-clause-phrase : goal.returns-in-None-clause-phrase
-returns-in-None-clause-phrase g c = rw (← c.begun_by.ensures, c.in-None.is) (ends_follow _ _ _ _ _ _ _ refl)
-
-pub returns-in-None-clause-asks : goal.returns-in-None-clause-asks
-returns-in-None-clause-asks g c = none_asked _ _ _
+pub returns-in-None : goal.returns-in-None
+returns-in-None g c = record { phrase = rw (← c.begun_by.ensures, c.in-None.is) (ends_follow _ _ _ _ _ _ _ refl); asks = none_asked _ _ _ }

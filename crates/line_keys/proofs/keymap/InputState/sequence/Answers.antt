@@ -5,12 +5,11 @@ use Rattle.line_keys.proofs.Asking.{keys_asked}
 use Rattle.line_keys.proofs.Following.{then_follows, ends_follow}
 use Rattle.line_keys.proofs.keymap.InputState.sequence.Goals as goal
 
-pub returns-clause-phrase : goal.returns-clause-phrase
-returns-clause-phrase g c =
-    then_follows _ _ _ _ _ _ _ _ _ _ _ _ _ _ _ c.in_ok-followed.ensures.phrase (ends_follow _ _ _ _ _ _ _ (ap (λ (y : Cmd). answer_part y) (sym c.bound_command.ensures)))
+pub returns : goal.returns
+returns g c = record {
+  phrase = then_follows _ _ _ _ _ _ _ _ _ _ _ _ _ _ _ c.in_ok-followed.ensures.phrase (ends_follow _ _ _ _ _ _ _ (ap (λ (y : Cmd). answer_part y) (sym c.bound_command.ensures)));
+  asks = keys_asked _ _ _ _ c.in_ok-followed.ensures.asks;
+}
 
 pub returns-in_err-followed-clause-asks : goal.returns-in_err-followed-clause-asks
 returns-in_err-followed-clause-asks g c = keys_asked _ _ _ _ c.in_err-followed.ensures.asks
-
-pub returns-clause-asks : goal.returns-clause-asks
-returns-clause-asks g c = keys_asked _ _ _ _ c.in_ok-followed.ensures.asks

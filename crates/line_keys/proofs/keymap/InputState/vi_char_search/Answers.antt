@@ -1,17 +1,15 @@
-use Rattle.std.proofs.Common.{◌≡◌, arith, refl}
-use Rattle.std.specs.Prelude.{Err}
-use Rattle.line_keys.proofs.Following.{as_follows, becomes_follows, ends_follow, no_key, key_follows}
+use Rattle.std.proofs.Common.{arith, refl}
+use Rattle.line_keys.proofs.Following.{as_follows, becomes_follows, ends_follow, raised_follows, read_stops, read_follows}
 use Rattle.line_keys.proofs.keymap.InputState.vi_char_search.Goals as goal
 
 pub returns-in_err-key-clause-sought : goal.returns-in_err-key-clause-sought
 returns-in_err-key-clause-sought g c =
-    let is : c.from_residual.result ≡ Err c.in_err-key.field-0.0 = grind arith in
-    rw is (no_key _ _ _ _ _ _ _ _ c.in_err-key.ensures.reads)
+    raised_follows c.from_residual.ensures.1 (read_stops _ c.in_err-key.ensures.reads)
 
 pub returns-in_default-clause-sought : goal.returns-in_default-clause-sought
 returns-in_default-clause-sought g c =
-    key_follows _ _ _ _ _ _ _ _ _ _ _ _ c.in_ok-key.ensures.reads (ends_follow _ _ _ _ _ _ _ (grind arith))
+    read_follows _ c.in_ok-key.ensures.reads (ends_follow _ _ _ _ _ _ _ (grind arith))
 
 pub returns-clause-sought : goal.returns-clause-sought
 returns-clause-sought g c =
-    key_follows _ _ _ _ _ _ _ _ _ _ _ _ c.in_ok-key.ensures.reads (as_follows _ _ _ _ _ _ _ _ _ _ _ (becomes_follows _ _ _ _ _ _ _ _ _ _ _ refl (ends_follow _ _ _ _ _ _ _ refl)) (grind arith))
+    read_follows _ c.in_ok-key.ensures.reads (as_follows _ _ _ _ _ _ _ _ _ _ _ (becomes_follows refl (ends_follow _ _ _ _ _ _ _ refl)) (grind arith))

@@ -1,152 +1,102 @@
-use Rattle.std.proofs.Common.{◌≡◌, arith, refl}
-use Rattle.std.specs.Prelude.{Err}
+use Rattle.std.proofs.Common.{arith, refl}
 use Rattle.std.specs.Option.{option_map_or}
 use Rattle.line_keys.specs.declared.command.Cmd.TheVariants.{Move, Unknown}
 use Rattle.line_keys.specs.PhraseScripts.{answer_part}
 use Rattle.line_keys.specs.Vi.{command_table}
 use Rattle.line_keys.proofs.Asking.{key_asked, none_asked}
-use Rattle.line_keys.proofs.Following.{ask_stops, ask_follows, becomes_follows, ends_follow, granted_follows, then_stops, then_follows, silent_follows, whole_read}
-use Rattle.line_keys.proofs.Raised.{raised}
+use Rattle.line_keys.proofs.Following.{ask_stops, ask_follows, becomes_follows, ends_follow, granted_follows, then_stops, then_follows, silent_follows, whole_read, raised_follows}
 use Rattle.line_keys.proofs.keymap.InputState.vi_done.Goals as goal
 
-pub returns-in-Some-Repeat-clause-phrase : goal.returns-in-Some-Repeat-clause-phrase
+pub returns-in-Some-Repeat : goal.returns-in-Some-Repeat
 unfolding command_table
-returns-in-Some-Repeat-clause-phrase g c =
+returns-in-Some-Repeat g c =
     let is = rw (c.in-Some-Repeat.field-0-is) at c.in-Some-Repeat.ensures in
-    rw (← c.times-n.ensures, ← is, ← c.typed_count.ensures) (granted_follows _ _ _ _ _ _ _ c.repeated.ensures)
+    record {
+      phrase = rw (← c.times-n.ensures, ← is, ← c.typed_count.ensures) (granted_follows _ _ c.repeated.ensures);
+      asks = none_asked _ _ _;
+      bindings = refl;
+    }
 
-pub returns-in-Some-Give-clause-phrase : goal.returns-in-Some-Give-clause-phrase
+pub returns-in-Some-Give : goal.returns-in-Some-Give
 unfolding command_table
-returns-in-Some-Give-clause-phrase g c =
+returns-in-Some-Give g c =
     let is = rw (c.in-Some-Give.field-0-is) at c.in-Some-Give.ensures in
-    rw (← c.times-n.ensures, ← is) (ends_follow _ _ _ _ _ _ _ refl)
+    record { phrase = rw (← c.times-n.ensures, ← is) (ends_follow _ _ _ _ _ _ _ refl); asks = none_asked _ _ _; bindings = refl }
 
-pub returns-in-Some-Again-clause-phrase : goal.returns-in-Some-Again-clause-phrase
+pub returns-in-Some-Again : goal.returns-in-Some-Again
 unfolding command_table
-returns-in-Some-Again-clause-phrase g c =
-    ends_follow _ _ _ _ _ _ _ (grind arith)
+returns-in-Some-Again g c = record { phrase = ends_follow _ _ _ _ _ _ _ (grind arith); asks = none_asked _ _ _; bindings = refl }
 
-pub returns-in-Some-Back-clause-phrase : goal.returns-in-Some-Back-clause-phrase
+pub returns-in-Some-Back : goal.returns-in-Some-Back
 unfolding command_table
-returns-in-Some-Back-clause-phrase g c =
-    ends_follow _ _ _ _ _ _ _ (grind arith)
+returns-in-Some-Back g c = record { phrase = ends_follow _ _ _ _ _ _ _ (grind arith); asks = none_asked _ _ _; bindings = refl }
 
-pub returns-in-Some-Turn-clause-phrase : goal.returns-in-Some-Turn-clause-phrase
+pub returns-in-Some-Turn : goal.returns-in-Some-Turn
 unfolding command_table
-returns-in-Some-Turn-clause-phrase g c =
+returns-in-Some-Turn g c =
     let is = rw (c.in-Some-Turn.field-0-is) at c.in-Some-Turn.ensures in
-    rw (← c.times-n.ensures, ← is) (becomes_follows _ _ _ _ _ _ _ _ _ _ _ refl (ends_follow _ _ _ _ _ _ _ refl))
+    record { phrase = rw (← c.times-n.ensures, ← is) (becomes_follows refl (ends_follow _ _ _ _ _ _ _ refl)); asks = none_asked _ _ _; bindings = refl }
 
-pub returns-in-Some-Replace-clause-phrase : goal.returns-in-Some-Replace-clause-phrase
+pub returns-in-Some-Replace : goal.returns-in-Some-Replace
 unfolding command_table
-returns-in-Some-Replace-clause-phrase g c =
+returns-in-Some-Replace g c =
     let is = rw (c.in-Some-Replace.field-0-is) at c.in-Some-Replace.ensures in
-    rw (← c.times-n.ensures, ← is) (whole_read _ _ _ _ _ _ _ _ c.replacement.ensures.reads)
+    record {
+      phrase = rw (← c.times-n.ensures, ← is) (whole_read _ c.replacement.ensures.reads);
+      asks = key_asked _ _ _ _ c.replacement.ensures.asks;
+      bindings = refl;
+    }
 
-pub returns-in_err-doing_insert-in-Some-Insert-clause-phrase : goal.returns-in_err-doing_insert-in-Some-Insert-clause-phrase
+pub returns-in_err-doing_insert-in-Some-Insert : goal.returns-in_err-doing_insert-in-Some-Insert
 unfolding command_table
-returns-in_err-doing_insert-in-Some-Insert-clause-phrase g c =
+returns-in_err-doing_insert-in-Some-Insert g c =
     let is = rw (c.in-Some-Insert.field-0-is) at c.in-Some-Insert.ensures in
-    let failed : c.from_residual.result ≡ Err c.in_err-doing_insert-in-Some-Insert.field-0.0 = raised _ _ c.from_residual.ensures.1 in
-    rw (← c.times-n.ensures, ← is, failed) (becomes_follows _ _ _ _ _ _ _ _ _ _ _ refl (ask_stops _ _ _ (λ shown. answer_part c.in-Some-Insert.cmd) _ _ _ _ _ c.in_err-doing_insert-in-Some-Insert.ensures))
+    record {
+      phrase = rw (← c.times-n.ensures, ← is) (raised_follows c.from_residual.ensures.1 (becomes_follows refl (ask_stops _ _ _ (λ shown. answer_part c.in-Some-Insert.cmd) _ _ _ _ _ c.in_err-doing_insert-in-Some-Insert.ensures)));
+      asks = none_asked _ _ _;
+      bindings = refl;
+    }
 
-pub returns-in_ok-doing_insert-in-Some-Insert-clause-phrase : goal.returns-in_ok-doing_insert-in-Some-Insert-clause-phrase
+pub returns-in_ok-doing_insert-in-Some-Insert : goal.returns-in_ok-doing_insert-in-Some-Insert
 unfolding command_table
-returns-in_ok-doing_insert-in-Some-Insert-clause-phrase g c =
+returns-in_ok-doing_insert-in-Some-Insert g c =
     let is = rw (c.in-Some-Insert.field-0-is) at c.in-Some-Insert.ensures in
-    rw (← c.times-n.ensures, ← is) (becomes_follows _ _ _ _ _ _ _ _ _ _ _ refl (ask_follows _ _ _ (λ shown. answer_part c.in-Some-Insert.cmd) _ _ _ _ _ _ _ _ _ c.in_ok-doing_insert-in-Some-Insert.ensures (ends_follow _ _ _ _ _ _ _ refl)))
+    record {
+      phrase = rw (← c.times-n.ensures, ← is) (becomes_follows refl (ask_follows _ _ _ (λ shown. answer_part c.in-Some-Insert.cmd) _ _ _ _ _ _ _ _ _ c.in_ok-doing_insert-in-Some-Insert.ensures (ends_follow _ _ _ _ _ _ _ refl)));
+      asks = none_asked _ _ _;
+      bindings = refl;
+    }
 
-pub returns-in_err-movement-in-Some-Search-clause-phrase : goal.returns-in_err-movement-in-Some-Search-clause-phrase
+pub returns-in_err-movement-in-Some-Search : goal.returns-in_err-movement-in-Some-Search
 unfolding command_table
-returns-in_err-movement-in-Some-Search-clause-phrase g c =
+returns-in_err-movement-in-Some-Search g c =
     let is = rw (c.in-Some-Search.field-0-is) at c.in-Some-Search.ensures in
-    let failed : c.from_residual-in_err-movement-in-Some-Search.result ≡ Err c.in_err-movement-in-Some-Search.field-0.0 = raised _ _ c.from_residual-in_err-movement-in-Some-Search.ensures.1 in
-    rw (← c.times-n.ensures, ← is, failed) (then_stops _ _ _ (λ m input shown. answer_part (option_map_or Move m Unknown)) _ _ _ _ _ _ _ (silent_follows _ _ _ _ _ _ _ _ _ c.in_err-movement-in-Some-Search.ensures.sought))
+    record {
+      phrase = rw (← c.times-n.ensures, ← is) (raised_follows c.from_residual-in_err-movement-in-Some-Search.ensures.1 (then_stops _ _ _ (λ m input shown. answer_part (option_map_or Move m Unknown)) _ _ _ _ _ _ _ (silent_follows c.in_err-movement-in-Some-Search.ensures.sought)));
+      asks = key_asked _ _ _ _ c.in_err-movement-in-Some-Search.ensures.asks;
+      bindings = c.in_err-movement-in-Some-Search.ensures.bindings;
+    }
 
-pub returns-in_ok-movement-in-Some-Search-clause-phrase : goal.returns-in_ok-movement-in-Some-Search-clause-phrase
+pub returns-in_ok-movement-in-Some-Search : goal.returns-in_ok-movement-in-Some-Search
 unfolding command_table
-returns-in_ok-movement-in-Some-Search-clause-phrase g c =
+returns-in_ok-movement-in-Some-Search g c =
     let is = rw (c.in-Some-Search.field-0-is) at c.in-Some-Search.ensures in
-    rw (← c.times-n.ensures, ← is) (then_follows _ _ _ (λ m input shown. answer_part (option_map_or Move m Unknown)) _ _ _ _ _ _ _ _ _ _ _ (silent_follows _ _ _ _ _ _ _ _ _ c.in_ok-movement-in-Some-Search.ensures.sought) (ends_follow _ _ _ _ _ _ _ (grind arith)))
+    record {
+      phrase = rw (← c.times-n.ensures, ← is) (then_follows _ _ _ (λ m input shown. answer_part (option_map_or Move m Unknown)) _ _ _ _ _ _ _ _ _ _ _ (silent_follows c.in_ok-movement-in-Some-Search.ensures.sought) (ends_follow _ _ _ _ _ _ _ (grind arith)));
+      asks = key_asked _ _ _ _ c.in_ok-movement-in-Some-Search.ensures.asks;
+      bindings = c.in_ok-movement-in-Some-Search.ensures.bindings;
+    }
 
-pub returns-in-Some-Replace-clause-asks : goal.returns-in-Some-Replace-clause-asks
-returns-in-Some-Replace-clause-asks g c = key_asked _ _ _ _ c.replacement.ensures.asks
-
-pub returns-in_err-movement-in-Some-Search-clause-asks : goal.returns-in_err-movement-in-Some-Search-clause-asks
-returns-in_err-movement-in-Some-Search-clause-asks g c = key_asked _ _ _ _ c.in_err-movement-in-Some-Search.ensures.asks
-
-pub returns-in_ok-movement-in-Some-Search-clause-asks : goal.returns-in_ok-movement-in-Some-Search-clause-asks
-returns-in_ok-movement-in-Some-Search-clause-asks g c = key_asked _ _ _ _ c.in_ok-movement-in-Some-Search.ensures.asks
-
-pub returns-in-Some-Give-clause-asks : goal.returns-in-Some-Give-clause-asks
-returns-in-Some-Give-clause-asks g c = none_asked _ _ _
-
-pub returns-in-Some-Give-clause-bindings : goal.returns-in-Some-Give-clause-bindings
-returns-in-Some-Give-clause-bindings g c = refl
-
-pub returns-in_err-doing_insert-in-Some-Insert-clause-asks : goal.returns-in_err-doing_insert-in-Some-Insert-clause-asks
-returns-in_err-doing_insert-in-Some-Insert-clause-asks g c = none_asked _ _ _
-
-pub returns-in_err-doing_insert-in-Some-Insert-clause-bindings : goal.returns-in_err-doing_insert-in-Some-Insert-clause-bindings
-returns-in_err-doing_insert-in-Some-Insert-clause-bindings g c = refl
-
-pub returns-in_ok-doing_insert-in-Some-Insert-clause-asks : goal.returns-in_ok-doing_insert-in-Some-Insert-clause-asks
-returns-in_ok-doing_insert-in-Some-Insert-clause-asks g c = none_asked _ _ _
-
-pub returns-in_ok-doing_insert-in-Some-Insert-clause-bindings : goal.returns-in_ok-doing_insert-in-Some-Insert-clause-bindings
-returns-in_ok-doing_insert-in-Some-Insert-clause-bindings g c = refl
-
-pub returns-in-Some-Turn-clause-asks : goal.returns-in-Some-Turn-clause-asks
-returns-in-Some-Turn-clause-asks g c = none_asked _ _ _
-
-pub returns-in-Some-Turn-clause-bindings : goal.returns-in-Some-Turn-clause-bindings
-returns-in-Some-Turn-clause-bindings g c = refl
-
-pub returns-in-Some-Again-clause-asks : goal.returns-in-Some-Again-clause-asks
-returns-in-Some-Again-clause-asks g c = none_asked _ _ _
-
-pub returns-in-Some-Again-clause-bindings : goal.returns-in-Some-Again-clause-bindings
-returns-in-Some-Again-clause-bindings g c = refl
-
-pub returns-in-Some-Back-clause-asks : goal.returns-in-Some-Back-clause-asks
-returns-in-Some-Back-clause-asks g c = none_asked _ _ _
-
-pub returns-in-Some-Back-clause-bindings : goal.returns-in-Some-Back-clause-bindings
-returns-in-Some-Back-clause-bindings g c = refl
-
-pub returns-in-Some-Repeat-clause-asks : goal.returns-in-Some-Repeat-clause-asks
-returns-in-Some-Repeat-clause-asks g c = none_asked _ _ _
-
-pub returns-in-Some-Repeat-clause-bindings : goal.returns-in-Some-Repeat-clause-bindings
-returns-in-Some-Repeat-clause-bindings g c = refl
-
-pub returns-in-Some-Operate-clause-asks : goal.returns-in-Some-Operate-clause-asks
-returns-in-Some-Operate-clause-asks g c = c.vi_operation.ensures.asks
-
-pub returns-in-Some-Operate-clause-bindings : goal.returns-in-Some-Operate-clause-bindings
-returns-in-Some-Operate-clause-bindings g c = c.vi_operation.ensures.bindings
-
-pub returns-in_err-movement-in-Some-Search-clause-bindings : goal.returns-in_err-movement-in-Some-Search-clause-bindings
-returns-in_err-movement-in-Some-Search-clause-bindings g c = c.in_err-movement-in-Some-Search.ensures.bindings
-
-pub returns-in_ok-movement-in-Some-Search-clause-bindings : goal.returns-in_ok-movement-in-Some-Search-clause-bindings
-returns-in_ok-movement-in-Some-Search-clause-bindings g c = c.in_ok-movement-in-Some-Search.ensures.bindings
-
-pub returns-in-Some-Replace-clause-bindings : goal.returns-in-Some-Replace-clause-bindings
-returns-in-Some-Replace-clause-bindings g c = refl
-
-pub returns-in-None-clause-asks : goal.returns-in-None-clause-asks
-returns-in-None-clause-asks g c = c.common.ensures.asks
-
-pub returns-in-None-clause-bindings : goal.returns-in-None-clause-bindings
-returns-in-None-clause-bindings g c = refl
-
-pub returns-in-Some-Operate-clause-phrase : goal.returns-in-Some-Operate-clause-phrase
+pub returns-in-Some-Operate : goal.returns-in-Some-Operate
 unfolding command_table
-returns-in-Some-Operate-clause-phrase g c =
+returns-in-Some-Operate g c =
     let is = rw (c.in-Some-Operate.field-0-is) at c.in-Some-Operate.ensures in
-    rw (← c.times-n.ensures, ← is) c.vi_operation.ensures.phrase
+    record {
+      phrase = rw (← c.times-n.ensures, ← is) c.vi_operation.ensures.phrase;
+      asks = c.vi_operation.ensures.asks;
+      bindings = c.vi_operation.ensures.bindings;
+    }
 
-pub returns-in-None-clause-phrase : goal.returns-in-None-clause-phrase
+pub returns-in-None : goal.returns-in-None
 unfolding command_table
-returns-in-None-clause-phrase g c = rw (← c.times-n.ensures, ← c.in-None.ensures) c.common.ensures.phrase
+returns-in-None g c = record { phrase = rw (← c.times-n.ensures, ← c.in-None.ensures) c.common.ensures.phrase; asks = c.common.ensures.asks; bindings = refl }

@@ -2,19 +2,14 @@ use Rattle.std.proofs.Common.{◌≡◌}
 use Rattle.std.specs.Prelude.{Err}
 use Rattle.line_keys.specs.Vi.{key_replacement}
 use Rattle.line_keys.proofs.KeyReads.{made_of_read, not_made}
-use Rattle.line_keys.proofs.Raised.{raised}
+use Rattle.line_keys.proofs.Following.{raised}
 use Rattle.line_keys.proofs.keymap.vi.replacement.Goals as goal
 
-pub returns-in_err-key-clause-reads : goal.returns-in_err-key-clause-reads
-returns-in_err-key-clause-reads g c =
+pub returns-in_err-key : goal.returns-in_err-key
+returns-in_err-key g c =
     let is : c.from_residual.result ≡ Err c.in_err-key.field-0.0 = raised _ _ c.from_residual.ensures.1 in
-    rw is (not_made _ _ _ _ c.in_err-key.ensures.reads)
+    record { reads = rw is (not_made _ _ _ _ c.in_err-key.ensures.reads); asks = c.in_err-key.ensures.asks }
 
-pub returns-in_err-key-clause-asks : goal.returns-in_err-key-clause-asks
-returns-in_err-key-clause-asks g c = c.in_err-key.ensures.asks
-
-pub returns-clause-reads : goal.returns-clause-reads
-returns-clause-reads g c = rw c.replaced_by.ensures (made_of_read (key_replacement c.args.n) _ _ _ c.in_ok-key.ensures.reads)
-
-pub returns-clause-asks : goal.returns-clause-asks
-returns-clause-asks g c = c.in_ok-key.ensures.asks
+pub returns : goal.returns
+returns g c =
+    record { reads = rw c.replaced_by.ensures (made_of_read (key_replacement c.args.n) _ _ _ c.in_ok-key.ensures.reads); asks = c.in_ok-key.ensures.asks }
