@@ -21,16 +21,9 @@ along_before [] more w v h = absurd h
 along_before (step ∷ steps) more w v (inl h) = inl (along_before steps more (effect_of_step step w) v h)
 along_before (step ∷ steps) more w v (inr h) = inr h
 
-along_behind : (steps more : List WriteStep) (w v : Written) → CutAlong more (effect_of_steps steps w) v → CutAlong (steps ++ more) w v
+pub along_behind : (steps more : List WriteStep) (w v : Written) → CutAlong more (effect_of_steps steps w) v → CutAlong (steps ++ more) w v
 along_behind [] more w v h = h
 along_behind (step ∷ steps) more w v h = inl (along_behind steps more (effect_of_step step w) v h)
-
-module _ {A B : Type 0} (first : WriteSteps A) (second : WriteSteps B) where
-  pub stops_before : (w v : Written) → CutAlong first.steps w v → CutAlong (in_turn first second).steps w v
-  stops_before = along_before first.steps second.steps
-
-  pub stops_behind : (w v : Written) → CutAlong second.steps (effect_of_steps first.steps w) v → CutAlong (in_turn first second).steps w v
-  stops_behind = along_behind first.steps second.steps
 
 -- the cluster that ends at a place overwritten
 abbrev pub overwrite_steps_to : ℕ → Option ℕ → Line → WriteSteps Bool

@@ -1,19 +1,30 @@
 -- Groups that are closed.
-use Rattle.std.proofs.Common.{◌≡◌, ℕ, ◌||◌, Bool, true, false, List, [], ◌∷◌, ◌++◌, reverse, refl, sym, ap, subst, ◌∙◌, None, append_assoc, if◌then◌else◌, is_some, slice_get}
-use Rattle.std.proofs.lemmas.List.{append-nil, reverse-append}
+use Rattle.std.proofs.Common.{◌≡◌, ℕ, Bool, true, false, List, [], ◌∷◌, ◌++◌, reverse, refl, sym, ap, subst, ◌∙◌, None, is_some, slice_get, arith}
+use Rattle.std.proofs.Math.Bool.{or-true}
+use Rattle.std.proofs.lemmas.List.{append-nil, reverse-append, length-append}
+use Rattle.std.proofs.lemmas.List.Folds.{list_any-append}
+use Rattle.std.proofs.lemmas.Grind.{flat_map-append}
+use Rattle.std.proofs.lemmas.Option.{slice_get-get_or}
+use Rattle.std.specs.List.{list_any}
 use Rattle.line_record.specs.Change.{Change, newest_of, all_taken_back, AllStandIn, undo_place, text_after_undo, StandsIn}
-use Rattle.line_record.specs.Held.{HeldItem, has_mark, closes, group_with_change, record_after_close, HeldItem.Stepped}
-use Rattle.line_record.specs.Items.{Item, changes_of, before_item, items_with_texts, DoneStand, changes_of_all, group_of, EndedBy, Item.Open, Item.Lone, Item.Group}
+use Rattle.line_record.specs.Held.{HeldItem, has_mark, closes, record_after_close, HeldItem.Stepped}
+use Rattle.line_record.specs.Items.{Item, changes_of, before_item, items_with_texts, DoneStand, changes_of_all, group_of, Item.Open, Item.Lone, Item.Group}
 use Rattle.line_record.specs.Log.{oldest_mark, is_open, item_from}
+use Rattle.line_record.proofs.RecordLaws.{no_mark}
+use Rattle.line_record.proofs.StepLemmas.{newest_of-append}
 
-pub has_open : List Item → Bool
-has_open [] = false
-has_open (x ∷ items) = is_open x || has_open items
+abbrev pub has_open : List Item → Bool
+has_open items = list_any is_open items
 
 -- the changes of items, the newest item first, in the order in which they were made
-pub gather : List Item → List Change
+abbrev pub gather : List Item → List Change
 gather [] = []
 gather (x ∷ items) = gather items ++ changes_of x
+
+pub gather_is : (items : List Item) → changes_of_all (reverse items) ≡ gather items
+gather_is [] = refl
+gather_is (x ∷ items) =
+    ap changes_of_all (reverse-append (x ∷ []) items) ∙ flat_map-append changes_of (reverse items) (x ∷ []) ∙ cc (gather_is items, append-nil (changes_of x))
 
 all_taken_back-append : (cs ds : List Change) (text : List ℕ) → all_taken_back (cs ++ ds) text ≡ all_taken_back cs (all_taken_back ds text)
 all_taken_back-append [] ds text = refl
@@ -23,75 +34,36 @@ AllStandIn-append : (cs ds : List Change) (text : List ℕ) → AllStandIn cs (a
 AllStandIn-append [] ds text h k = k
 AllStandIn-append (c ∷ cs) ds text h k = (subst (StandsIn c) (sym (all_taken_back-append cs ds text)) h.0, AllStandIn-append cs ds text h.1 k)
 
-pub newest_of-append : (g c : Change) (gs cs : List Change) → newest_of g (gs ++ (c ∷ cs)) ≡ newest_of c cs
-newest_of-append g c [] cs = refl
-newest_of-append g c (h ∷ gs) cs = newest_of-append h c gs cs
+-- what closing a group leaves of these texts, whose changes stand
+pub record Closed (texts : List HeldItem) (Stands : Type 0) (group : List Change) (after : List Item) (text : List ℕ) : Type 0 where
+  pub held : items_with_texts after text ≡ record_after_close texts
+  pub closes : is_some (slice_get group 0) ≡ closes texts
+  pub stand : Stands → DoneStand after text
 
--- what closing a group leaves
-pub record EndedAs (items : List Item) (group : List Change) (after : List Item) (text : List ℕ) : Type 0 where
-  pub held : items_with_texts after text ≡ record_after_close (items_with_texts items text)
-  pub closes : is_some (slice_get group 0) ≡ closes (items_with_texts items text)
-  pub stand : DoneStand items text → DoneStand after text
+abbrev pub EndedAs : List Item → List Change → List Item → List ℕ → Type 0
+EndedAs items group after text = Closed (items_with_texts items text) (DoneStand items text) group after text
 
-free_mark : (items : List Item) (text : List ℕ) → has_open items ≡ false → has_mark (items_with_texts items text) ≡ false
-unfolding has_open
-free_mark [] text h = refl
-free_mark (Open ∷ items) text h = cc
-free_mark (x ∷ items) text h = free_mark items (before_item x text) h
-
-marked : (newer older : List Item) (text : List ℕ) → has_mark (items_with_texts (newer ++ (Open ∷ older)) text) ≡ true
-marked [] older text = refl
-marked (Open ∷ newer) older text = refl
-marked (x ∷ newer) older text = marked newer older (before_item x text)
-
--- a step ends by what is held below it
-ended_step : Bool → Bool → List ℕ → ℕ → Change → Bool → List HeldItem → List HeldItem → List HeldItem
-ended_step a b text place newest joinable held below =
-    if a then group_with_change newest below else if b then Stepped text place newest false ∷ below else Stepped text place newest joinable ∷ held
-
-ended_step_is : (text : List ℕ) (place : ℕ) (newest : Change) (joinable : Bool) (held below : List HeldItem) (a b : Bool) → closes held ≡ a → has_mark held ≡ b → record_after_close held ≡ below
-    → record_after_close (Stepped text place newest joinable ∷ held) ≡ ended_step a b text place newest joinable held below
-unfolding ended_step
-ended_step_is text place newest joinable held below a b x y z =
-    ap (λ k. ended_step k (has_mark held) text place newest joinable held (record_after_close held)) x
-    ∙ ap (λ k. ended_step a k text place newest joinable held (record_after_close held)) y
-    ∙ ap (ended_step a b text place newest joinable held) z
-
-free_closes : (items : List Item) (text : List ℕ) → has_open items ≡ false → closes (items_with_texts items text) ≡ false
-unfolding has_open
-free_closes [] text h = refl
-free_closes (Open ∷ items) text h = cc
-free_closes (x ∷ items) text h = free_mark items (before_item x text) h
-
-free_ended : (items : List Item) (text : List ℕ) → has_open items ≡ false → record_after_close (items_with_texts items text) ≡ items_with_texts items text
-unfolding has_open ended_step
-free_ended [] text h = refl
-free_ended (Open ∷ items) text h = cc
-free_ended (Lone c ∷ items) text h =
-    let t = before_item (Lone c) text in
-    ended_step_is t (undo_place c) c true (items_with_texts items t) _ false false (free_closes items t h) (free_mark items t h) refl
-free_ended (Group c cs ∷ items) text h =
-    let t = before_item (Group c cs) text in
-    ended_step_is t (undo_place c) (newest_of c cs) false (items_with_texts items t) _ false false (free_closes items t h) (free_mark items t h) refl
+mark_same : (items : List Item) (text : List ℕ) → has_mark (items_with_texts items text) ≡ has_open items
+mark_same [] text = refl
+mark_same (Open ∷ items) text = refl
+mark_same (x ∷ items) text = mark_same items (before_item x text)
 
 pub unmarked : (items : List Item) (text : List ℕ) → has_open items ≡ false → EndedAs items [] items text
-unmarked items text h = record { held = sym (free_ended items text h); closes = sym (free_closes items text h); stand = λ k. k }
+unmarked items text h =
+    let same = no_mark (items_with_texts items text) (mark_same items text ∙ h) in
+    record { held = sym same.0; closes = sym same.1; stand = λ k. k }
 
 -- one more step of the group, on the changes that were gathered below it
 closing_step : (c : Change) (cs group : List Change) (joinable : Bool) (rest older : List Item) (text : List ℕ) → has_mark (items_with_texts rest (all_taken_back (c ∷ cs) text)) ≡ true
     → EndedAs rest group (group_of group older) (all_taken_back (c ∷ cs) text)
     → items_with_texts (group_of (group ++ (c ∷ cs)) older) text
     ≡ record_after_close (Stepped (all_taken_back (c ∷ cs) text) (undo_place c) (newest_of c cs) joinable ∷ items_with_texts rest (all_taken_back (c ∷ cs) text))
-unfolding ended_step
 closing_step c cs [] joinable rest older text m e =
-    let t = all_taken_back (c ∷ cs) text in
-    sym (ended_step_is t (undo_place c) (newest_of c cs) joinable (items_with_texts rest t) _ false true (sym e.closes) m (sym e.held))
+    let none : closes (items_with_texts rest (all_taken_back (c ∷ cs) text)) ≡ false = sym e.closes in
+    rw (none, m, ← e.held)
 closing_step c cs (g ∷ gs) joinable rest older text m e =
-    let t = all_taken_back (c ∷ cs) text in
-    let below : all_taken_back (gs ++ (c ∷ cs)) text ≡ all_taken_back gs t = all_taken_back-append gs (c ∷ cs) text in
-    ap (λ u. Stepped (text_after_undo g u) (undo_place g) (newest_of g (gs ++ (c ∷ cs))) false ∷ items_with_texts older (text_after_undo g u)) below
-    ∙ ap (λ n. Stepped (text_after_undo g (all_taken_back gs t)) (undo_place g) n false ∷ items_with_texts older (text_after_undo g (all_taken_back gs t))) (newest_of-append g c gs cs)
-    ∙ sym (ended_step_is t (undo_place c) (newest_of c cs) joinable (items_with_texts rest t) _ true true (sym e.closes) m (sym e.held))
+    let some : closes (items_with_texts rest (all_taken_back (c ∷ cs) text)) ≡ true = sym e.closes in
+    rw (some, ← e.held, all_taken_back-append gs (c ∷ cs) text, newest_of-append g c gs cs)
 
 closing_stand : (c : Change) (cs group : List Change) (rest older : List Item) (text : List ℕ) → EndedAs rest group (group_of group older) (all_taken_back (c ∷ cs) text)
     → AllStandIn (c ∷ cs) text → DoneStand rest (all_taken_back (c ∷ cs) text) → DoneStand (group_of (group ++ (c ∷ cs)) older) text
@@ -100,70 +72,40 @@ closing_stand c cs (g ∷ gs) rest older text e h k =
     let i = e.stand k in
     (AllStandIn-append (g ∷ gs) (c ∷ cs) text i.0 h, subst (DoneStand older) (sym (all_taken_back-append (g ∷ gs) (c ∷ cs) text)) i.1)
 
-nonempty : {A : Type 0} (xs : List A) (x : A) (ys : List A) → is_some (slice_get (xs ++ (x ∷ ys)) 0) ≡ true
-nonempty [] x ys = refl
-nonempty (z ∷ xs) x ys = refl
+closing_more : (c : Change) (cs : List Change) (joinable : Bool) (newer older : List Item) (text : List ℕ) → let t = all_taken_back (c ∷ cs) text in
+    EndedAs (newer ++ (Open ∷ older)) (gather newer) (group_of (gather newer) older) t
+    → Closed (Stepped t (undo_place c) (newest_of c cs) joinable ∷ items_with_texts (newer ++ (Open ∷ older)) t)
+    (AllStandIn (c ∷ cs) text × DoneStand (newer ++ (Open ∷ older)) t)
+    (gather newer ++ (c ∷ cs)) (group_of (gather newer ++ (c ∷ cs)) older) text
+closing_more c cs joinable newer older text e =
+    let rest = newer ++ (Open ∷ older) in
+    let marked : has_mark (items_with_texts rest (all_taken_back (c ∷ cs) text)) ≡ true =
+    mark_same rest (all_taken_back (c ∷ cs) text) ∙ list_any-append is_open newer (Open ∷ older) ∙ or-true (has_open newer) in
+    record {
+      held = closing_step c cs (gather newer) joinable rest older text marked e;
+      closes = ap is_some (slice_get-get_or (gather newer ++ (c ∷ cs)) 0 c (omega (arith, length-append (gather newer) (c ∷ cs)))) ∙ sym marked;
+      stand = λ k. closing_stand c cs (gather newer) rest older text e k.0 k.1;
+    }
 
 pub closing : (newer older : List Item) (text : List ℕ) → has_open older ≡ false → EndedAs (newer ++ (Open ∷ older)) (gather newer) (group_of (gather newer) older) text
-unfolding gather
-closing [] older text h = record { held = sym (free_ended older text h); closes = sym (free_closes older text h); stand = λ k. k.1 }
+closing [] older text h =
+    let e = unmarked older text h in
+    record { held = e.held; closes = e.closes; stand = λ k. k.1 }
 closing (Open ∷ newer) older text h =
     let e = closing newer older text h in
-    subst (λ group. EndedAs (Open ∷ (newer ++ (Open ∷ older))) group (group_of group older) text) (sym (append-nil (gather newer)))
-    (record { held = e.held; closes = e.closes; stand = λ k. e.stand k.1 })
-closing (Lone c ∷ newer) older text h =
-    let t = before_item (Lone c) text in
-    let e = closing newer older t h in
-    record {
-      held = closing_step c [] (gather newer) true (newer ++ (Open ∷ older)) older text (marked newer older t) e;
-      closes = nonempty (gather newer) c [] ∙ sym (marked newer older t);
-      stand = λ k. closing_stand c [] (gather newer) (newer ++ (Open ∷ older)) older text e k.0 k.1;
-    }
-closing (Group c cs ∷ newer) older text h =
-    let t = before_item (Group c cs) text in
-    let e = closing newer older t h in
-    record {
-      held = closing_step c cs (gather newer) false (newer ++ (Open ∷ older)) older text (marked newer older t) e;
-      closes = nonempty (gather newer) c cs ∙ sym (marked newer older t);
-      stand = λ k. closing_stand c cs (gather newer) (newer ++ (Open ∷ older)) older text e k.0 k.1;
-    }
-
-gather-push : (items : List Item) (x : Item) → gather (items ++ (x ∷ [])) ≡ changes_of x ++ gather items
-unfolding gather
-gather-push [] x = sym (append-nil (changes_of x))
-gather-push (y ∷ items) x = ap (λ cs. cs ++ changes_of y) (gather-push items x) ∙ append_assoc (changes_of x) (gather items) (changes_of y)
-
-pub gather-reverse : (items : List Item) → gather (reverse items) ≡ changes_of_all items
-unfolding gather
-gather-reverse [] = refl
-gather-reverse (x ∷ items) = ap gather (reverse-append (x ∷ []) items) ∙ gather-push (reverse items) x ∙ ap (λ cs. changes_of x ++ cs) (gather-reverse items)
+    rw (append-nil (gather newer)) (record { held = e.held; closes = e.closes; stand = λ k. e.stand k.1 })
+closing (Lone c ∷ newer) older text h = closing_more c [] true newer older text (closing newer older (before_item (Lone c) text) h)
+closing (Group c cs ∷ newer) older text h = closing_more c cs false newer older text (closing newer older (before_item (Group c cs) text) h)
 
 pub changes_of-item_from : (closed : Bool) (cs : List Change) → changes_of (item_from closed cs) ≡ cs
-changes_of-item_from true (c ∷ (d ∷ cs)) = refl
-changes_of-item_from false (c ∷ (d ∷ cs)) = refl
-changes_of-item_from _ _ = refl
-
-item_from_closed : (c : Change) (cs : List Change) → item_from true (c ∷ cs) ≡ Group c cs
-item_from_closed c [] = refl
-item_from_closed c (d ∷ cs) = refl
+changes_of-item_from closed cs = grind arith
 
 -- the group after what was there
 pub group_pushed : (cs : List Change) (older : List Item) → is_some (slice_get cs 0) ≡ true → item_from true cs ∷ older ≡ group_of cs older
-group_pushed [] older h = cc
-group_pushed (c ∷ cs) older h = ap (λ x. x ∷ older) (item_from_closed c cs)
-
-pub ended_nothing : (items : List Item) (text : List ℕ) → EndedAs items [] items text → EndedBy false items items text
-ended_nothing items text e = record { answer = e.closes; held = e.held; stand = e.stand }
+group_pushed cs older h = grind arith
 
 -- no mark stands if none is the oldest
 pub mark_none : (items : List Item) → oldest_mark items ≡ None → has_open items ≡ false
-unfolding has_open
 mark_none [] e = refl
 mark_none (Open ∷ items) e = cc
 mark_none (x ∷ items) e = mark_none items e
-
-pub none_marked : (items : List Item) → has_open items ≡ false → oldest_mark items ≡ None
-unfolding has_open
-none_marked [] h = refl
-none_marked (Open ∷ items) h = cc
-none_marked (x ∷ items) h = none_marked items h

@@ -1,10 +1,10 @@
 -- One text at a place exchanged for another: it can be exchanged back, and one exchange right after another is one.
-use Rattle.std.proofs.Common.{◌≡◌, ℕ, ◌+◌, ◌-◌, List, [], ◌++◌, length, take, drop, refl, sym, ap, subst, ◌∙◌, append_assoc, arith, length-append, IsUtf8, IsCharBoundary}
+use Rattle.std.proofs.Common.{◌≡◌, ℕ, ◌+◌, ◌-◌, List, [], ◌++◌, length, take, drop, refl, sym, ap, subst, subst₂, ◌∙◌, append_assoc, arith, length-append, IsUtf8, IsCharBoundary}
 use Rattle.std.proofs.Math.Seq.{take-append_seam, drop-append_seam, drop-append-add}
 use Rattle.std.proofs.lemmas.List.{take-append-drop, length-take-le, drop-drop}
 use Rattle.std.proofs.lemmas.Str.{IsUtf8-nil, IsUtf8-append, IsUtf8-take, IsUtf8-drop, IsUtf8-between, IsCharBoundary-at_seam}
 use Rattle.line_record.specs.Change.{text_with_exchange}
-use Rattle.line_buffer.specs.Event.{StandsAt}
+use Rattle.line_buffer.specs.Event.{StandsAt, Swaps}
 
 -- a text in three parts, the first two of which end between characters
 pub record Parts (at : ℕ) (part text : List ℕ) : Type 0 where
@@ -89,23 +89,23 @@ after_part at part text p =
 at_part : (at : ℕ) (part text : List ℕ) → (p : Parts at part text) → drop at text ≡ part ++ p.rest
 at_part at part text p = ap (λ k. drop k text) (sym p.place) ∙ ap (drop (length p.front)) p.whole ∙ drop-append_seam p.front (part ++ p.rest)
 
-pub joined_right : (at : ℕ) (was now other more before : List ℕ) → StandsAt at now was before → IsUtf8 before → StandsAt (at + length now) other more before
-    → Joined at was now (was ++ other) (now ++ more) before (text_with_exchange (at + length now) other more before) at
-joined_right at was now other more before s u t =
+pub joined_right : (from at : ℕ) (was now other more before after : List ℕ) → StandsAt at now was before → IsUtf8 before → Swaps from other more before after
+    → from ≡ at + length now
+    → Joined at was now (was ++ other) (now ++ more) before after at
+joined_right from at was now other more before after s u w is =
     let p = parts_of at now was before s u in
-    let q = parts_of (at + length now) other more before t u in
-    let behind : p.rest ≡ other ++ q.rest = sym (after_part at now before p) ∙ at_part (at + length now) other before q in
+    let q = parts_of from other more before w.stands u in
+    let behind : p.rest ≡ other ++ q.rest = sym (after_part at now before p) ∙ ap (λ k. drop k before) (sym is) ∙ at_part from other before q in
     let whole : before ≡ p.front ++ (now ++ (other ++ q.rest)) = p.whole ∙ ap (λ r. p.front ++ (now ++ r)) behind in
-    let seam : at + length now ≡ length (p.front ++ now) = sym (length-append p.front now ∙ ap (λ k. k + length now) p.place) in
-    let after : text_with_exchange (at + length now) other more before ≡ p.front ++ (now ++ (more ++ q.rest)) =
-    ap (text_with_exchange (at + length now) other more) (whole ∙ sym (append_assoc p.front now (other ++ q.rest)))
+    let seam : from ≡ length (p.front ++ now) = is ∙ sym (length-append p.front now ∙ ap (λ k. k + length now) p.place) in
+    let made : after ≡ p.front ++ (now ++ (more ++ q.rest)) =
+    w.becomes ∙ ap (text_with_exchange from other more) (whole ∙ sym (append_assoc p.front now (other ++ q.rest)))
     ∙ ap (λ k. text_with_exchange k other more ((p.front ++ now) ++ (other ++ q.rest))) seam
     ∙ exchanged_parts (p.front ++ now) other q.rest more
     ∙ append_assoc p.front now (more ++ q.rest) in
-    subst (λ b. Joined at was now (was ++ other) (now ++ more) b (text_with_exchange (at + length now) other more before) at) (sym whole)
-    (subst (λ a. Joined at was now (was ++ other) (now ++ more) (p.front ++ (now ++ (other ++ q.rest))) a at) (sym after)
+    subst₂ (λ b a. Joined at was now (was ++ other) (now ++ more) b a at) (sym whole) (sym made)
     (subst (λ k. Joined k was now (was ++ other) (now ++ more) (p.front ++ (now ++ (other ++ q.rest))) (p.front ++ (now ++ (more ++ q.rest))) k) p.place
-    (joined_parts p.front now other q.rest was more p.part_utf8 q.rest_utf8 s.utf8 q.part_utf8 t.utf8)))
+    (joined_parts p.front now other q.rest was more p.part_utf8 q.rest_utf8 s.utf8 q.part_utf8 w.stands.utf8))
 
 -- a text that goes from right before the place where `was` went
 joined_left_parts : (front other rest was : List ℕ) → IsUtf8 rest → IsUtf8 was → IsUtf8 other
@@ -119,15 +119,15 @@ joined_left_parts front other rest was ur uw uo = record {
       ∙ ap (text_with_exchange (length (front ++ other)) [] was) (append_assoc front other rest);
 }
 
-pub joined_left : (at place : ℕ) (was other before : List ℕ) → StandsAt place [] was before → IsUtf8 before → StandsAt at other [] before → at + length other ≡ place
-    → Joined place was [] (other ++ was) [] before (text_with_exchange at other [] before) at
-joined_left at place was other before s u t e =
-    let q = parts_of at other [] before t u in
+pub joined_left : (at place : ℕ) (was other before after : List ℕ) → StandsAt place [] was before → IsUtf8 before → Swaps at other [] before after
+    → at + length other ≡ place
+    → Joined place was [] (other ++ was) [] before after at
+joined_left at place was other before after s u w e =
+    let q = parts_of at other [] before w.stands u in
     let seam : length (q.front ++ other) ≡ place = length-append q.front other ∙ ap (λ k. k + length other) q.place ∙ e in
-    let after : text_with_exchange at other [] before ≡ q.front ++ q.rest =
-    ap (text_with_exchange at other []) q.whole ∙ ap (λ k. text_with_exchange k other [] (q.front ++ (other ++ q.rest))) (sym q.place) ∙ exchanged_parts q.front other q.rest [] in
-    subst (λ b. Joined place was [] (other ++ was) [] b (text_with_exchange at other [] before) at) (sym q.whole)
-    (subst (λ a. Joined place was [] (other ++ was) [] (q.front ++ (other ++ q.rest)) a at) (sym after)
-    (subst (λ k. Joined place was [] (other ++ was) [] (q.front ++ (other ++ q.rest)) (q.front ++ q.rest) k) q.place
-    (subst (λ k. Joined k was [] (other ++ was) [] (q.front ++ (other ++ q.rest)) (q.front ++ q.rest) (length q.front)) seam
-    (joined_left_parts q.front other q.rest was q.rest_utf8 s.utf8 q.part_utf8))))
+    let made : after ≡ q.front ++ q.rest =
+    w.becomes ∙ ap (text_with_exchange at other []) q.whole ∙ ap (λ k. text_with_exchange k other [] (q.front ++ (other ++ q.rest))) (sym q.place)
+    ∙ exchanged_parts q.front other q.rest [] in
+    subst₂ (λ b a. Joined place was [] (other ++ was) [] b a at) (sym q.whole) (sym made)
+    (subst₂ (λ k j. Joined k was [] (other ++ was) [] (q.front ++ (other ++ q.rest)) (q.front ++ q.rest) j) seam q.place
+    (joined_left_parts q.front other q.rest was q.rest_utf8 s.utf8 q.part_utf8))

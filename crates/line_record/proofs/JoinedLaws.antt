@@ -39,23 +39,19 @@ joined_stand_refused first first_refuses {closing} {events} {s} {t} {before} {af
 
 -- they stay the same two
 module _ {A B : Type 0} (first first_refuses : A → ChangeEvent → A → Type 0) (second second_refuses : B → ChangeEvent → B → Type 0) where
-  Same : Joined A B → Joined A B → Type 0
+  abbrev Same : Joined A B → Joined A B → Type 0
   Same s t = SameNames s.first s.second t.first t.second
 
   same : (s : Joined A B) → Same s s
-  unfolding Same
   same s = record { first_same = refl; second_same = refl }
 
   chained : (s t u : Joined A B) → Same s t → Same t u → Same s u
-  unfolding Same
   chained s t u h k = record { first_same = k.first_same ∙ h.first_same; second_same = k.second_same ∙ h.second_same }
 
   pub joined_names : {events : List ChangeEvent} {s t : Joined A B} {before after : List ℕ} → Reports (joined_takes first second) events s t before after
       → SameNames s.first s.second t.first t.second
-  unfolding Same
   joined_names {events} {s} {t} r = kept_by_all (joined_takes first second) Same same chained (λ x e y k. k.0) events s t r.told
 
   pub joined_names_refused : {closing events : List ChangeEvent} {s t : Joined A B} {before after : List ℕ}
       → StopsAmong (joined_takes first second) (joined_refuses first first_refuses second_refuses) closing events s t before after → SameNames s.first s.second t.first t.second
-  unfolding Same
   joined_names_refused {closing} {events} {s} {t} call = chained s call.between t (joined_names call.reported) (chained call.between call.left t call.stopped.0 (joined_names call.closed))

@@ -1,31 +1,28 @@
 -- A run of kills comes back by one yank.
-use Rattle.std.proofs.Common.{◌≡◌, ◌≢◌, ℕ, ◌+◌, ◌-◌, ◌<◌, ◌≤◌, ◌==◌, inl, inr, ◌||◌, Bool, true, false, List, [], ◌∷◌, ◌++◌, length, take, drop, Option, None, Some, refl, sym, ap, subst, ◌∙◌, arith, add-zero, IsUtf8, IsCharBoundary, IfSome, is_some, slice_range, slice_set, slice_index_or, if◌then◌else◌, nat_lt, nat_le}
+use Rattle.std.proofs.Common.{◌≡◌, ◌≢◌, ℕ, ◌+◌, ◌-◌, ◌<◌, ◌≤◌, ◌==◌, inl, inr, ◌||◌, Bool, true, false, List, [], ◌∷◌, ◌++◌, length, take, drop, Option, None, Some, refl, sym, ap, subst, ◌∙◌, arith, add-zero, IsUtf8, IsCharBoundary, IfSome, is_some, slice_range, slice_index_or, if◌then◌else◌, nat_le}
 use Rattle.std.specs.List.{AllByRecursion, replace_range, fold}
-use Rattle.std.proofs.lemmas.List.{append-nil, length-drop, length-take-le, length-set, get_or-set_same, length-append}
-use Rattle.std.proofs.Math.Bool.{or_assoc, or-false}
-use Rattle.std.proofs.Math.Seq.{get_or-append_seam}
+use Rattle.std.proofs.lemmas.List.{append-nil, length-drop, length-take-le, length-set, get_or-set_same}
+use Rattle.std.proofs.Math.Bool.{or_assoc, or-false, or-true}
 use Rattle.std.proofs.lemmas.Str.{IsUtf8-nil, IsUtf8-append, IsUtf8-between}
 use Rattle.std.proofs.lemmas.Option.{slice_get-get_or}
-use Rattle.std.proofs.lemmas.Bool.{ltb-true, ltb-false}
 use Rattle.std.proofs.lemmas.Bool.Decides.{nat_tests}
 use Rattle.line_buffer.specs.declared.range.TextSpan.{TextSpan}
 use Rattle.line_buffer.specs.declared.types.Mode.{Mode, TheVariants.Append, TheVariants.Prepend}
 use Rattle.line_buffer.specs.declared.types.Movement.{Movement}
-use Rattle.line_buffer.specs.declared.types.Movement.TheVariants.{BeginningOfLine, EndOfLine, BackwardWord, ForwardWord, ViCharSearch, BeginningOfBuffer, EndOfBuffer}
 use Rattle.line_buffer.specs.Event.ChangeEvent.{StartKilling, StopKilling}
 use Rattle.line_buffer.specs.Insertions.{yank, insertion_of, no_insertion, with_text_at_cursor}
 use Rattle.line_buffer.specs.Line.{Line, without_range}
 use Rattle.line_buffer.specs.Range.{range_of, deletion_events, deletion_line, kill_events, kill as killed_in}
 use Rattle.line_buffer.specs.Event.{StandsAt, InsertStr}
 use Rattle.line_buffer.proofs.InsertionLemmas.{one_insertion}
-use Rattle.line_record.specs.declared.kill_ring.Action.{Action, TheVariants.Other, TheVariants.Kill, TheVariants.Yank}
+use Rattle.line_record.specs.declared.kill_ring.Action.{Action, TheVariants.Kill}
 use Rattle.line_record.specs.Change.{text_with_exchange}
 use Rattle.line_record.specs.Laws.{is_directed, some_taken, KillsComeBack, after_kill}
-use Rattle.line_record.specs.Ring.{Ring, IsRing, joined_text, slot_after, slots_with_text, ring_with_kill, ring_with_kill_after, mode_of, ring_all}
-use Rattle.line_record.proofs.DirectedLemmas.{Onward, Back, IsDirected, directed}
-use Rattle.line_record.proofs.Exchange.{exchanged, joined_right, joined_left}
-use Rattle.line_record.proofs.NotedLemmas.{none_there, nothing_put}
-use Rattle.line_record.proofs.RingLemmas.{ring_with_new_kill}
+use Rattle.line_record.specs.Ring.{Ring, IsRing, joined_text, slot_after, ring_with_kill, ring_with_kill_after, mode_of, ring_all}
+use Rattle.line_record.proofs.DirectedLemmas.{IsDirected, directed}
+use Rattle.line_record.proofs.Exchange.{Joined, exchanged, joined_right, joined_left}
+use Rattle.line_record.proofs.GroupLaws.{none_there, nothing_put}
+use Rattle.line_record.proofs.RingLemmas.{has_size, killed_anew, put_in}
 
 -- the text put in at the cursor gives the first text
 record Restores (first : List ℕ) (l : Line) (text : List ℕ) : Type 0 where
@@ -58,57 +55,45 @@ part_stands text from upto order b e =
     )
 
 -- the line after a part of it was taken
-taken : TextSpan → Line → Line
+abbrev taken : TextSpan → Line → Line
 taken span l = without_range span.from span.upto l
 
-mode_text : TextSpan → Line → List ℕ → List ℕ
+abbrev mode_text : TextSpan → Line → List ℕ → List ℕ
 mode_text span l text = joined_text (mode_of span.direction) (slice_range l.text span.from span.upto) text
 
-restores_onward : (first : List ℕ) (l : Line) (text : List ℕ) (span : TextSpan) → Restores first l text → Onward l span → Restores first (taken span l) (mode_text span l text)
-unfolding taken mode_text
-restores_onward first l text span r h =
-    let part : List ℕ = slice_range l.text l.place span.upto in
-    let p = part_stands l.text l.place span.upto h.later r.cursor h.end in
-    let cut : replace_range l.text l.place span.upto [] ≡ text_with_exchange l.place part [] l.text = ap (λ k. replace_range l.text l.place k []) (sym p.0) in
-    let x = exchanged l.place part [] l.text p.1 r.utf8 in
-    let at : l.place + 0 ≡ l.place = add-zero l.place in
-    let stands : StandsAt (l.place + 0) part [] l.text = subst (λ k. StandsAt k part [] l.text) (sym at) p.1 in
-    let j = joined_right l.place text [] part [] l.text (stands_at_cursor l.text l.place text r.cursor r.text_utf8) r.utf8 stands in
-    let part_utf8 : IsUtf8 part = IsUtf8-between l.text l.place span.upto r.utf8 h.later r.cursor h.end in
-    let after : List ℕ = replace_range l.text l.place span.upto [] in
-    let same : Restores first (record l { text = after; place = l.place }) (text ++ part) = record {
+-- a part was taken, and its exchange is one with that which puts the text in
+restores_longer : (first : List ℕ) (l : Line) (text longer : List ℕ) (from upto : ℕ) → Restores first l text → from ≤ upto → IsCharBoundary l.text from
+    → IsCharBoundary l.text upto
+    → (IsUtf8 (slice_range l.text from upto) → IsUtf8 longer)
+    → (from + length (slice_range l.text from upto) ≡ upto → StandsAt from (slice_range l.text from upto) [] l.text
+    → Joined l.place text [] longer [] l.text (text_with_exchange from (slice_range l.text from upto) [] l.text) from)
+    → Restores first (without_range from upto l) longer
+restores_longer first l text longer from upto r order b e u joins =
+    let part : List ℕ = slice_range l.text from upto in
+    let p = part_stands l.text from upto order b e in
+    let cut : replace_range l.text from upto [] ≡ text_with_exchange from part [] l.text = ap (λ k. replace_range l.text from k []) (sym p.0) in
+    let x = exchanged from part [] l.text p.1 r.utf8 in
+    record {
       utf8 = subst IsUtf8 (sym cut) x.utf8;
-      cursor = subst (λ t. IsCharBoundary t l.place) (sym cut) x.stand.start;
-      text_utf8 = IsUtf8-append text part r.text_utf8 part_utf8;
-      restored = ap (text_with_exchange l.place [] (text ++ part)) (cut ∙ ap (λ k. text_with_exchange k part [] l.text) (sym at)) ∙ j.back ∙ r.restored;
+      cursor = subst (λ t. IsCharBoundary t from) (sym cut) x.stand.start;
+      text_utf8 = u (IsUtf8-between l.text from upto r.utf8 order b e);
+      restored = ap (text_with_exchange from [] longer) cut ∙ (joins p.0 p.1).back ∙ r.restored;
       growth = r.growth;
-    } in
-    subst (λ k. Restores first (without_range k span.upto l) (joined_text (mode_of span.direction) (slice_range l.text k span.upto) text)) (sym h.from)
-    (subst (λ d. Restores first (without_range l.place span.upto l) (joined_text (mode_of d) part text)) (sym h.direction) same)
-
-restores_back : (first : List ℕ) (l : Line) (text : List ℕ) (span : TextSpan) → Restores first l text → Back l span → Restores first (taken span l) (mode_text span l text)
-unfolding taken mode_text
-restores_back first l text span r h =
-    let part : List ℕ = slice_range l.text span.from l.place in
-    let p = part_stands l.text span.from l.place h.earlier h.start r.cursor in
-    let cut : replace_range l.text span.from l.place [] ≡ text_with_exchange span.from part [] l.text = ap (λ k. replace_range l.text span.from k []) (sym p.0) in
-    let x = exchanged span.from part [] l.text p.1 r.utf8 in
-    let j = joined_left span.from l.place text part l.text (stands_at_cursor l.text l.place text r.cursor r.text_utf8) r.utf8 p.1 p.0 in
-    let part_utf8 : IsUtf8 part = IsUtf8-between l.text span.from l.place r.utf8 h.earlier h.start r.cursor in
-    let after : List ℕ = replace_range l.text span.from l.place [] in
-    let same : Restores first (record l { text = after; place = span.from }) (part ++ text) = record {
-      utf8 = subst IsUtf8 (sym cut) x.utf8;
-      cursor = subst (λ t. IsCharBoundary t span.from) (sym cut) x.stand.start;
-      text_utf8 = IsUtf8-append part text part_utf8 r.text_utf8;
-      restored = ap (text_with_exchange span.from [] (part ++ text)) cut ∙ j.back ∙ r.restored;
-      growth = r.growth;
-    } in
-    subst (λ k. Restores first (without_range span.from k l) (joined_text (mode_of span.direction) (slice_range l.text span.from k) text)) (sym h.upto)
-    (subst (λ d. Restores first (without_range span.from l.place l) (joined_text (mode_of d) part text)) (sym h.direction) same)
+    }
 
 restores_more : (first : List ℕ) (l : Line) (text : List ℕ) (span : TextSpan) → Restores first l text → IsDirected l span → Restores first (taken span l) (mode_text span l text)
-restores_more first l text span r (inl h) = restores_onward first l text span r h
-restores_more first l text span r (inr h) = restores_back first l text span r h
+restores_more first l text span r (inl h) =
+    let part : List ℕ = slice_range l.text l.place span.upto in
+    let put = stands_at_cursor l.text l.place text r.cursor r.text_utf8 in
+    rw (h.from, h.direction) (restores_longer first l text (text ++ part) l.place span.upto r h.later r.cursor h.end
+    (λ u. IsUtf8-append text part r.text_utf8 u)
+    (λ n s. joined_right l.place l.place text [] part [] l.text _ put r.utf8 (record { stands = s; becomes = refl }) (sym (add-zero l.place))))
+restores_more first l text span r (inr h) =
+    let part : List ℕ = slice_range l.text span.from l.place in
+    let put = stands_at_cursor l.text l.place text r.cursor r.text_utf8 in
+    rw (h.upto, h.direction) (restores_longer first l text (part ++ text) span.from l.place r h.earlier h.start r.cursor
+    (λ u. IsUtf8-append part text u r.text_utf8)
+    (λ n s. joined_left span.from l.place text part l.text _ put r.utf8 (record { stands = s; becomes = refl }) n))
 
 -- the ring holds the text that was killed, if any was
 record Killed (r : Ring) (text : List ℕ) : Type 0 where
@@ -123,103 +108,57 @@ record Fresh (r : Ring) (text : List ℕ) : Type 0 where
   ring : IsRing (length r.slots) r.size r.place r.last
   none : text ≡ []
 
-RingHolds : Bool → Ring → List ℕ → Type 0
+abbrev RingHolds : Bool → Ring → List ℕ → Type 0
 RingHolds true r text = Killed r text
 RingHolds false r text = Fresh r text
 
 -- a kill between its marks
-marked_kill : List ℕ → Mode → Ring → Ring
+abbrev marked_kill : List ℕ → Mode → Ring → Ring
 marked_kill text mode r = record (ring_with_kill text mode (record r { killing = true })) { killing = false }
 
-not_zero : (n : ℕ) → 0 < n → (n == 0) ≡ false
-not_zero n h = grind (arith, nat_tests)
-
-has_size : (text : List ℕ) (mode : Mode) (r : Ring) → 0 < r.size → ring_with_kill text mode r ≡ ring_with_kill_after r.last text mode r
-has_size text mode r h = ap (λ b. if b then record r { last = Kill } else ring_with_kill_after r.last text mode r) (not_zero r.size h)
-
 killed_more : (r : Ring) (text more : List ℕ) (mode : Mode) → Killed r text → Killed (marked_kill more mode r) (joined_text mode more text)
-unfolding marked_kill
 killed_more r text more mode k =
     let s : Ring = record r { killing = true } in
-    let e : ring_with_kill more mode s ≡ record s { slots = slice_set r.slots r.place (joined_text mode more (slice_index_or r.slots r.place [])) } =
-    has_size more mode s k.size ∙ ap (λ a. ring_with_kill_after a more mode s) k.last in
-    let made : Killed (record s { slots = slice_set r.slots r.place (joined_text mode more (slice_index_or r.slots r.place [])); killing = false }) (joined_text mode more text) = record {
+    let longer : List ℕ = joined_text mode more (slice_index_or r.slots r.place []) in
+    subst (λ q. Killed (record q { killing = false }) (joined_text mode more text))
+    (sym (has_size more mode s k.size ∙ ap (λ a. ring_with_kill_after a more mode s) k.last)) (record {
       last = k.last;
       size = k.size;
-      inside = omega (arith, k.inside, length-set r.slots r.place (joined_text mode more (slice_index_or r.slots r.place [])));
-      slot = get_or-set_same r.slots r.place (joined_text mode more (slice_index_or r.slots r.place [])) [] k.inside ∙ ap (joined_text mode more) k.slot;
-    } in
-    subst (λ q. Killed (record q { killing = false }) (joined_text mode more text)) (sym e) made
+      inside = simp length-set k.inside;
+      slot = get_or-set_same r.slots r.place longer [] k.inside ∙ ap (joined_text mode more) k.slot;
+    })
 
 -- the next slot is one of those there, or the one after them
 next_inside : (count size place : ℕ) (last : Action) → IsRing count size place last → slot_after count size place ≤ count
-next_inside count size place last r = by_tests (count == 0) (place + 1 == size) refl
-  where
-    by_tests : (a b : Bool) → (count == 0) ≡ a → (if a then 0 else (if b then 0 else place + 1)) ≤ count
-    by_tests true b e = omega arith
-    by_tests false true e = omega arith
-    by_tests false false e = let some : 0 < count = grind (arith, e, nat_tests) in let i : place < count = r.inside some in omega (arith, i)
-
-put_length : (i : ℕ) (text : List ℕ) (slots : List (List ℕ)) → i ≤ length slots → i < length (slots_with_text i text slots)
-put_length i text slots h = by_test (nat_lt i (length slots)) refl
-  where
-    by_test : (b : Bool) → nat_lt i (length slots) ≡ b → i < length (if b then slice_set slots i text else slots ++ text ∷ [])
-    by_test true e = let k : i < length slots = ltb-true i (length slots) e in omega (arith, k, length-set slots i text)
-    by_test false e = omega (arith, h, length-append slots (text ∷ []))
-
-put_slot : (i : ℕ) (text : List ℕ) (slots : List (List ℕ)) → i ≤ length slots → slice_index_or (slots_with_text i text slots) i [] ≡ text
-put_slot i text slots h = by_test (nat_lt i (length slots)) refl
-  where
-    by_test : (b : Bool) → nat_lt i (length slots) ≡ b → slice_index_or (if b then slice_set slots i text else slots ++ text ∷ []) i [] ≡ text
-    by_test true e = get_or-set_same slots i text [] (ltb-true i (length slots) e)
-    by_test false e =
-        let k : i ≡ length slots = omega (arith, h, ltb-false i (length slots) e) in
-        ap (λ j. slice_index_or (slots ++ text ∷ []) j []) k ∙ get_or-append_seam slots text [] []
-
-anew : (a : Action) (r : Ring) (text : List ℕ) (mode : Mode) → a ≢ Kill → ring_with_kill_after a text mode r ≡ ring_with_new_kill text r
-anew Other r text mode h = refl
-anew (Yank n) r text mode h = refl
-anew Kill r text mode h = absurd (h refl)
+next_inside count size place last r = grind (arith, nat_tests, r.inside)
 
 joined_nothing : (mode : Mode) (text : List ℕ) → joined_text mode text [] ≡ text
 joined_nothing Append text = refl
 joined_nothing Prepend text = append-nil text
 
 killed_first : (r : Ring) (text more : List ℕ) (mode : Mode) → Fresh r text → Killed (marked_kill more mode r) (joined_text mode more text)
-unfolding marked_kill
 killed_first r text more mode f =
     let s : Ring = record r { killing = true } in
-    let next : ℕ = slot_after (length r.slots) r.size r.place in
-    let e : ring_with_kill more mode s ≡ ring_with_new_kill more s = has_size more mode s f.size ∙ anew r.last s more mode f.last in
-    let within = next_inside (length r.slots) r.size r.place r.last f.ring in
-    let made : Killed (record (ring_with_new_kill more s) { killing = false }) (joined_text mode more text) = record {
+    let p = put_in (slot_after (length r.slots) r.size r.place) more r.slots (next_inside (length r.slots) r.size r.place r.last f.ring) in
+    subst (λ q. Killed (record q { killing = false }) (joined_text mode more text)) (sym (has_size more mode s f.size ∙ killed_anew r.last s more mode f.last))
+    (record {
       last = refl;
       size = f.size;
-      inside = put_length next more r.slots within;
-      slot = put_slot next more r.slots within ∙ sym (joined_nothing mode more) ∙ ap (joined_text mode more) (sym f.none);
-    } in
-    subst (λ q. Killed (record q { killing = false }) (joined_text mode more text)) (sym e) made
+      inside = omega (arith, p.count);
+      slot = p.here ∙ sym (joined_nothing mode more) ∙ ap (joined_text mode more) (sym f.none);
+    })
 
 killed_any : (some : Bool) (r : Ring) (text more : List ℕ) (mode : Mode) → RingHolds some r text → Killed (marked_kill more mode r) (joined_text mode more text)
-unfolding RingHolds
 killed_any true r text more mode h = killed_more r text more mode h
 killed_any false r text more mode h = killed_first r text more mode h
 
 -- the marks of killing alone
 only_marked : (some : Bool) (r : Ring) (text : List ℕ) → RingHolds some r text → RingHolds some (record r { killing = false }) text
-unfolding RingHolds
 only_marked true r text k = record { last = k.last; size = k.size; inside = k.inside; slot = k.slot }
 only_marked false r text f = record { last = f.last; size = f.size; ring = f.ring; none = f.none }
 
 directed_events : (m : Movement) (l : Line) → is_directed m ≡ true → kill_events m l ≡ StartKilling ∷ (deletion_events (range_of m l) l ++ (StopKilling ∷ []))
-directed_events EndOfLine l d = refl
-directed_events BeginningOfLine l d = refl
-directed_events EndOfBuffer l d = refl
-directed_events BeginningOfBuffer l d = refl
-directed_events (BackwardWord n word) l d = refl
-directed_events (ForwardWord n at word) l d = refl
-directed_events (ViCharSearch n search) l d = refl
-directed_events _ l d = cc
+directed_events m l d = grind arith
 
 record Run (some : Bool) (first : List ℕ) (l : Line) (r : Ring) : Type 0 where
   text : List ℕ
@@ -229,19 +168,12 @@ record Run (some : Bool) (first : List ℕ) (l : Line) (r : Ring) : Type 0 where
 -- one kill
 one_kill : (o : Option TextSpan) (some : Bool) (first : List ℕ) (l : Line) (r : Ring) → IfSome o (IsDirected l) → Run some first l r
     → Run (some || is_some o) first (deletion_line o l) (ring_all (StartKilling ∷ (deletion_events o l ++ (StopKilling ∷ []))) r)
-unfolding RingHolds taken mode_text marked_kill
-one_kill None true first l r h run = record { text = run.text; line = run.line; ring = only_marked true r run.text run.ring }
-one_kill None false first l r h run = record { text = run.text; line = run.line; ring = only_marked false r run.text run.ring }
-one_kill (Some span) true first l r h run = record {
-  text = joined_text (mode_of span.direction) (slice_range l.text span.from span.upto) run.text;
+one_kill None some first l r h run = rw or-false (record { text = run.text; line = run.line; ring = only_marked some r run.text run.ring })
+one_kill (Some span) some first l r h run = rw or-true (record {
+  text = mode_text span l run.text;
   line = restores_more first l run.text span run.line h;
-  ring = killed_any true r run.text (slice_range l.text span.from span.upto) (mode_of span.direction) run.ring;
-}
-one_kill (Some span) false first l r h run = record {
-  text = joined_text (mode_of span.direction) (slice_range l.text span.from span.upto) run.text;
-  line = restores_more first l run.text span run.line h;
-  ring = killed_any false r run.text (slice_range l.text span.from span.upto) (mode_of span.direction) run.ring;
-}
+  ring = killed_any some r run.text (slice_range l.text span.from span.upto) (mode_of span.direction) run.ring;
+})
 
 all_kills : (ms : List Movement) (some : Bool) (first : List ℕ) (l : Line) (r : Ring) → AllByRecursion (λ m. is_directed m ≡ true) ms → Run some first l r
     → Run (some || some_taken ms l) first (fold after_kill (l, r) ms).0 (fold after_kill (l, r) ms).1
@@ -269,7 +201,6 @@ yanked_back first l text r = by_test (length text == 0) refl
     by_test false e = sym (ap (λ x. x.line.text) (one_insertion text 1 l refl)) ∙ put_in_room l.growth text l r.growth ∙ r.restored
 
 pub kills_come_back : KillsComeBack
-unfolding RingHolds
 kills_come_back ms l r d some u b g ring size last =
     let start : Run false l.text l r = record {
       text = [];

@@ -1,5 +1,5 @@
 -- What a log holds where changes are cut off, and one more is put in.
-use Rattle.std.proofs.Common.{◌≡◌, ℕ, zero, suc, ◌+◌, ◌-◌, ◌<◌, ◌≤◌, List, [], ◌∷◌, ◌++◌, length, take, drop, map, refl, sym, ap, subst, ◌∙◌, arith, get_or, append_assoc, Bool, true, false, if◌then◌else◌, All, Option, Some, None, option_map, slice_range, IsUtf8, IsCharBoundary}
+use Rattle.std.proofs.Common.{◌≡◌, ℕ, zero, suc, ◌+◌, ◌-◌, ◌<◌, ◌≤◌, List, [], ◌∷◌, ◌++◌, length, take, drop, map, refl, sym, ap, ap₂, subst, ◌∙◌, arith, get_or, append_assoc, Bool, true, false, if◌then◌else◌, All, Option, Some, None, option_map, slice_range, IsUtf8, IsCharBoundary}
 use Rattle.std.proofs.Math.Seq.{take-length}
 use Rattle.std.proofs.lemmas.List.{take-take, take_at, drop_at, take-map, drop-map, get_or-map, get_or_push, get_or_default, length_push, length-map, length-append, length-take, length-take-le}
 use Rattle.std.proofs.lemmas.List.Elements.{All-take, All-drop}
@@ -105,13 +105,16 @@ pub record EntryAt (text : List ℕ) (entries : List LoggedChange) (n : ℕ) (x 
   pub place : x.start ≡ place_of_span from_of entries n (length text)
   pub edit : (d : Change) → get_or (edits_in text entries) n d ≡ edit_in text x
 
-pub entry_at : (text : List ℕ) (entries : List LoggedChange) (n : ℕ) (x : LoggedChange) → IsLog text entries → n < length entries → x ≡ get_or entries n x → EntryAt text entries n x
-entry_at text entries n x h inside is =
-    let s = adjoin_at from_of to_of Spelt n text entries 0 (length text) x h inside in
+pub entry_at : (text : List ℕ) (entries : List LoggedChange) (edits : List Change) (n : ℕ) (x : LoggedChange) → IsLog text entries
+    → edits_in text entries ≡ edits → n < length edits → x ≡ get_or entries n x
+    → EntryAt text entries n x
+entry_at text entries edits n x h view inside is =
+    let within : n < length entries = omega (arith, inside, ap length view, length-map entries (edit_in text)) in
+    let s = adjoin_at from_of to_of Spelt n text entries 0 (length text) x h within in
     record {
       spelt = subst (Spelt text) (sym is) s.fits;
       place = sym (s.place ∙ ap from_of (sym is));
-      edit = λ d. get_or-map (edit_in text) entries n x d inside ∙ ap (edit_in text) (sym is);
+      edit = λ d. get_or-map (edit_in text) entries n x d within ∙ ap (edit_in text) (sym is);
     }
 
 -- where the texts of an entry begin and end
@@ -127,44 +130,29 @@ cuts_at text x u s = record {
   end = IsCharBoundary-from_take text x.end u s.inside s.after;
 }
 
--- a text put in before or after the old one, and one after all
-grown_before : (f o a r d : List ℕ) → ((f ++ r) ++ (o ++ a)) ++ d ≡ f ++ ((r ++ o) ++ (a ++ d))
-grown_before f o a r d =
-    append_assoc (f ++ r) (o ++ a) d ∙ append_assoc f r ((o ++ a) ++ d) ∙ ap (λ t. f ++ (r ++ t)) (append_assoc o a d) ∙ ap (λ t. f ++ t) (sym (append_assoc r o (a ++ d)))
-
-grown_after : (f o a r d : List ℕ) → (((f ++ o) ++ r) ++ a) ++ d ≡ f ++ ((o ++ r) ++ (a ++ d))
-grown_after f o a r d =
-    append_assoc ((f ++ o) ++ r) a d ∙ ap (λ t. t ++ (a ++ d)) (append_assoc f o r) ∙ append_assoc f (o ++ r) (a ++ d)
-
 pub grown_from : (at place : ℕ) (before : Bool) (kind : Kind) (r d o a : List ℕ) → edit_from kind at (old_text_with before r o) (a ++ d) ≡ change_with_text at before r d (edit_from kind place o a)
 grown_from at place before Insertion r d o a = refl
 grown_from at place before Deletion r d o a = refl
 grown_from at place before Replacement r d o a = refl
 
+-- a text put in before or after the old one, and one after all
+grown : (before : Bool) (f o a r d all : List ℕ) (place : ℕ) → all ≡ (f ++ o) ++ a → place ≡ (if before then length f else length (f ++ o))
+    → ((take place all ++ r) ++ drop place all) ++ d ≡ f ++ (old_text_with before r o ++ (a ++ d))
+grown true f o a r d all place whole is =
+    rw (whole ∙ append_assoc f o a, take_at f (o ++ a) place (sym is), drop_at f (o ++ a) place (sym is)) (simp append_assoc)
+grown false f o a r d all place whole is = rw (whole, take_at (f ++ o) a place (sym is), drop_at (f ++ o) a place (sym is)) (simp append_assoc)
+
 grown_text : (before : Bool) (text : List ℕ) (x : LoggedChange) (r d : List ℕ) (place : ℕ) → Spelt text x → place ≡ (if before then x.start else x.middle)
     → ((take place (take x.end text) ++ r) ++ drop place (take x.end text)) ++ d
     ≡ take x.start text ++ (old_text_with before r (slice_range text x.start x.middle) ++ (slice_range text x.middle x.end ++ d))
-grown_text true text x r d place s is =
-    let all = take x.end text in
-    let o = slice_range text x.start x.middle in
-    let a = slice_range text x.middle x.end in
-    let f = take x.start text in
-    let split : all ≡ f ++ (o ++ a) = take_split text x.middle x.end s.added ∙ ap (λ t. t ++ a) (take_split text x.start x.middle s.removed) ∙ append_assoc f o a in
-    let count : length f ≡ place = length-take-le x.start text (omega (arith, s.removed, s.added, s.inside)) ∙ sym is in
-    let front : take place all ≡ f = ap (take place) split ∙ take_at f (o ++ a) place count in
-    let rest : drop place all ≡ o ++ a = ap (drop place) split ∙ drop_at f (o ++ a) place count in
-    ap (λ t. ((t ++ r) ++ drop place all) ++ d) front ∙ ap (λ t. ((f ++ r) ++ t) ++ d) rest ∙ grown_before f o a r d
-grown_text false text x r d place s is =
-    let all = take x.end text in
-    let o = slice_range text x.start x.middle in
-    let a = slice_range text x.middle x.end in
-    let f = take x.start text in
-    let first : take x.middle text ≡ f ++ o = take_split text x.start x.middle s.removed in
-    let split : all ≡ (f ++ o) ++ a = take_split text x.middle x.end s.added ∙ ap (λ t. t ++ a) first in
-    let count : length (f ++ o) ≡ place = ap length (sym first) ∙ length-take-le x.middle text (omega (arith, s.added, s.inside)) ∙ sym is in
-    let front : take place all ≡ f ++ o = ap (take place) split ∙ take_at (f ++ o) a place count in
-    let rest : drop place all ≡ a = ap (drop place) split ∙ drop_at (f ++ o) a place count in
-    ap (λ t. ((t ++ r) ++ drop place all) ++ d) front ∙ ap (λ t. (((f ++ o) ++ r) ++ t) ++ d) rest ∙ grown_after f o a r d
+grown_text before text x r d place s is =
+    let upto : take x.middle text ≡ take x.start text ++ slice_range text x.start x.middle = take_split text x.start x.middle s.removed in
+    let first : length (take x.start text) ≡ x.start = length-take-le x.start text (omega (arith, s.removed, s.added, s.inside)) in
+    let second : length (take x.start text ++ slice_range text x.start x.middle) ≡ x.middle =
+    ap length (sym upto) ∙ length-take-le x.middle text (omega (arith, s.added, s.inside)) in
+    grown before (take x.start text) (slice_range text x.start x.middle) (slice_range text x.middle x.end) r d (take x.end text) place
+    (take_split text x.middle x.end s.added ∙ ap (λ t. t ++ slice_range text x.middle x.end) upto)
+    (is ∙ ap₂ (λ i j. if before then i else j) (sym first) (sym second))
 
 old_utf8 : (before : Bool) (r o : List ℕ) → IsUtf8 r → IsUtf8 o → IsUtf8 (old_text_with before r o)
 old_utf8 true r o u v = IsUtf8-append r o u v
@@ -173,9 +161,6 @@ old_utf8 false r o u v = IsUtf8-append o r v u
 old_length : (before : Bool) (r o : List ℕ) → length (old_text_with before r o) ≡ length o + length r
 old_length true r o = omega (arith, length-append r o)
 old_length false r o = length-append o r
-
-between_utf8 : (text : List ℕ) (i j : ℕ) → IsUtf8 text → IsCharBoundary text i → IsCharBoundary text j → i ≤ j → IsUtf8 (slice_range text i j)
-between_utf8 text i j u b c le = IsUtf8-between text i j u le b c
 
 -- the entry of an index takes more in
 pub log_grown : (text after r d : List ℕ) (entries entries_after : List LoggedChange) (n at place middle end : ℕ) (before : Bool) (x : LoggedChange) → IsLog text entries → IsUtf8 text
@@ -191,8 +176,8 @@ log_grown text after r d entries entries_after n at place middle end before x h 
     let count : length o ≡ x.middle - x.start = length-slice_range text x.start x.middle (omega (arith, e.spelt.added, e.spelt.inside)) in
     let old : middle ≡ x.start + length (old_text_with before r o) = omega (arith, mid, count, old_length before r o, e.spelt.removed) in
     let p = log_put text after (old_text_with before r o) (a ++ d) entries entries_after n y h u e.place (whole ∙ grown_text before text x r d place e.spelt is) old long
-    (old_utf8 before r o ru (between_utf8 text x.start x.middle u c.start c.middle e.spelt.removed))
-    (IsUtf8-append a d (between_utf8 text x.middle x.end u c.middle c.end e.spelt.added) du) new in
+    (old_utf8 before r o ru (IsUtf8-between text x.start x.middle u e.spelt.removed c.start c.middle))
+    (IsUtf8-append a d (IsUtf8-between text x.middle x.end u e.spelt.added c.middle c.end) du) new in
     subst (λ g. LogIs after entries_after (take n (edits_in text entries) ++ (g ∷ []))) (grown_from at x.at before x.kind r d o a) p
 
 pub mapped_twice : {A B C : Type 0} (f : A → B) (g : B → C) (o : Option A) → option_map g (option_map f o) ≡ option_map (λ x. g (f x)) o
@@ -214,11 +199,10 @@ all_last P all earlier x is h =
     subst P (get_or_push earlier x x (length earlier) refl) (subst (All P) is h (length earlier) x (omega (arith, length_push earlier x)))
 
 -- several entries
-pub all_spelt : (text : List ℕ) (entries : List LoggedChange) → IsLog text entries → All (Spelt text) entries
-all_spelt text entries h = λ k d l. (adjoin_at from_of to_of Spelt k text entries 0 (length text) d h l).fits
-
 pub range_spelt : (text : List ℕ) (entries : List LoggedChange) (first last : ℕ) → IsLog text entries → All (Spelt text) (slice_range entries first last)
-range_spelt text entries first last h = All-take (Spelt text) (last - first) (drop first entries) (All-drop (Spelt text) first entries (all_spelt text entries h))
+range_spelt text entries first last h =
+    All-take (Spelt text) (last - first) (drop first entries)
+    (All-drop (Spelt text) first entries (λ k d l. (adjoin_at from_of to_of Spelt k text entries 0 (length text) d h l).fits))
 
 pub range_edits : (text : List ℕ) (entries : List LoggedChange) (first last : ℕ) → edits_in text (slice_range entries first last) ≡ slice_range (edits_in text entries) first last
 range_edits text entries first last =
@@ -229,9 +213,6 @@ pub range_seen : (text seen_text : List ℕ) (entries seen : List LoggedChange) 
 range_seen text seen_text entries seen edits first last t e is =
     ap (λ (u : List ℕ). edits_in u (slice_range seen first last)) t ∙ ap (λ (es : List LoggedChange). edits_in text (slice_range es first last)) e
     ∙ range_edits text entries first last ∙ ap (λ (es : List Change). slice_range es first last) is
-
-pub entries_inside : (text : List ℕ) (entries : List LoggedChange) (edits : List Change) (n : ℕ) → edits_in text entries ≡ edits → n < length edits → n < length entries
-entries_inside text entries edits n is h = omega (arith, h, ap length is, length-map entries (edit_in text))
 
 -- a turn of making anew, where the change is read from its list
 pub ahead_entry : {A : Type 0} (f : A → Change) (xs : List A) (i : ℕ) (d : A) (first l : Line) → i < length xs → l ≡ lines_ahead (take i (map f xs)) first → AllFitIn (drop i (map f xs)) l.text
@@ -250,7 +231,7 @@ pub read : (e : ChangeEvent) (text : List ℕ) (entries : List LoggedChange) (ed
     → ((r a : List ℕ) → length a ≡ x.end - x.middle → join_of e (edit_from x.kind x.at r a) ≡ option_map (λ j. change_with_text j.0 j.1 (old_text_of (change_told e)) (new_text_of (change_told e)) (edit_from x.kind x.at r a)) o)
     → Read e text entries edits n x o
 read e text entries edits n x o h view inside is joins =
-    let here = entry_at text entries n x h (entries_inside text entries edits n view inside) is in
+    let here = entry_at text entries edits n x h view inside is in
     record {
       here = here;
       view = view;
@@ -278,10 +259,6 @@ join_made e text entries edits after n x o at before removed added r is new re a
     was_read e text entries edits n x o r ∙ ap (option_map (λ j. take n edits ++ (change_with_text j.0 j.1 (old_text_of (change_told e)) (new_text_of (change_told e)) d ∷ []))) is
     ∙ sym (ap Some (new d ∙ ap (λ y. take n edits ++ (change_with_text at before removed added y ∷ [])) now ∙ ap (λ t. take n edits ++ (change_with_text at before t added d ∷ [])) re
     ∙ ap (λ t. take n edits ++ (change_with_text at before (old_text_of (change_told e)) t d ∷ [])) ad))
-
-pub entry_seen : (text : List ℕ) (entries : List LoggedChange) (edits : List Change) (n : ℕ) (x : LoggedChange) → IsLog text entries → edits_in text entries ≡ edits → n < length edits → x ≡ get_or entries n x
-    → EntryAt text entries n x
-entry_seen text entries edits n x h view inside is = entry_at text entries n x h (entries_inside text entries edits n view inside) is
 
 -- where a text is put in
 pub place_in_cut : (text : List ℕ) (x : LoggedChange) (before : Bool) (place : ℕ) → IsUtf8 text → Spelt text x → place ≡ (if before then x.start else x.middle) → IsCharBoundary (take x.end text) place

@@ -40,10 +40,7 @@ module _ {A S : Type 0} (first last : S → ℕ) (Fits : List A → S → Type 0
   adjoin_drop (suc n) all (s ∷ spans) from to h = adjoin_drop n all spans (last s) to h.3
 
   pub place_le : (n : ℕ) (all : List A) (spans : List S) (from to : ℕ) → Adjoin first last Fits all from spans to → place_of_span first spans n to ≤ to
-  place_le zero all [] from to h = omega arith
-  place_le zero all (s ∷ spans) from to h = omega (arith, h.0, h.1, adjoin_le all spans (last s) to h.3)
-  place_le (suc n) all [] from to h = omega arith
-  place_le (suc n) all (s ∷ spans) from to h = place_le n all spans (last s) to h.3
+  place_le n all spans from to h = adjoin_le all (drop n spans) (place_of_span first spans n to) to (adjoin_drop n all spans from to h)
 
   -- where one of them begins, or all end
   pub place_fits : (P : ℕ → Type 0) → (all : List A) → ((s : S) → Fits all s → P (first s)) → (n : ℕ) (spans : List S) (from to : ℕ) → P to → Adjoin first last Fits all from spans to

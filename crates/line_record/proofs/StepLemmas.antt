@@ -1,14 +1,15 @@
 -- Several changes undone or redone, one after the other.
-use Rattle.std.proofs.Common.{◌≡◌, ℕ, zero, suc, ◌+◌, ◌<◌, List, [], ◌∷◌, ◌++◌, length, take, drop, map, refl, sym, ap, subst, ◌∙◌, arith, get_or, add-one, append_assoc, drop-cons}
+use Rattle.std.proofs.Common.{◌≡◌, ℕ, zero, suc, ◌+◌, ◌<◌, List, [], ◌∷◌, ◌++◌, length, take, drop, map, reverse, refl, sym, ap, subst, ◌∙◌, arith, get_or, add-one, append_assoc, drop-cons}
 use Rattle.std.proofs.Math.Seq.{take-append_seam, drop-append_seam, take-suc}
-use Rattle.std.proofs.lemmas.List.{take-append-drop, drop-map, map-append, length-map, get_or-map}
+use Rattle.std.proofs.lemmas.List.{reverse-append, take-append-drop, drop-map, map-append, length-map, get_or-map}
+use Rattle.std.proofs.lemmas.Grind.{fold-append}
 use Rattle.line_buffer.specs.Line.{Line}
-use Rattle.line_record.specs.Change.{Change, all_taken_back, all_made_anew, AllStandIn, AllFitIn, StandsIn, FitsIn}
-use Rattle.line_record.specs.Held.{HeldItem, step_of, join_of_steps}
+use Rattle.line_record.specs.Change.{Change, all_taken_back, all_made_anew, AllStandIn, AllFitIn, StandsIn, FitsIn, newest_of}
+use Rattle.line_record.specs.Held.{HeldItem, step_of, change_of, join_of, join_of_steps, HeldItem.Stepped}
 use Rattle.line_record.specs.Items.{Items, lines_back, lines_ahead, line_after_undo, line_after_redo}
 use Rattle.line_record.specs.Items.Item.{Open}
 use Rattle.line_buffer.specs.Event.{ChangeEvent}
-use Rattle.std.specs.Prelude.{◌-◌, Option, unwrap_or}
+use Rattle.std.specs.Prelude.{◌-◌, Option, Some, None, true, option_map, unwrap_or}
 use Rattle.std.specs.Option.{option_map_or}
 
 -- the record of texts after an event of a change, and of one that may have none
@@ -18,12 +19,39 @@ steps_with_change e c text held = unwrap_or (join_of_steps e held) (step_of c te
 abbrev pub steps_with_change_if : ChangeEvent → Option Change → List ℕ → List HeldItem → List HeldItem
 steps_with_change_if e o text held = option_map_or (λ c. steps_with_change e c text held) o held
 
+-- what holds of the record after an event: the event tells of no change, it adds a step, or its change is joined to the newest step
+module _ (e : ChangeEvent) (text : List ℕ) (P : List HeldItem → Type 0) where
+  joined_by : (o : Option Change) (held : List HeldItem) (f : Change → List HeldItem) → P held → ((j : Change) → P (f j)) → P (unwrap_or (option_map f o) held)
+  joined_by None held f added joined = added
+  joined_by (Some j) held f added joined = joined j
+
+  stepped_by : (c : Change) (held : List HeldItem) → P (step_of c text ∷ held)
+      → ((j d : Change) (earlier : List ℕ) (place : ℕ) (older : List HeldItem) → held ≡ Stepped earlier place d true ∷ older → P (step_of j earlier ∷ older))
+      → P (steps_with_change e c text held)
+  stepped_by c (Stepped earlier place d true ∷ older) added joined =
+      joined_by (join_of e d) (step_of c text ∷ (Stepped earlier place d true ∷ older)) (λ j. step_of j earlier ∷ older) added
+      (λ j. joined j d earlier place older refl)
+  stepped_by c _ added joined = added
+
+  pub recorded_by : (o : Option Change) (held : List HeldItem) → change_of e ≡ o → (change_of e ≡ None → P held) → ((c : Change) → P (step_of c text ∷ held))
+      → ((j d : Change) (earlier : List ℕ) (place : ℕ) (older : List HeldItem) → held ≡ Stepped earlier place d true ∷ older → P (step_of j earlier ∷ older))
+      → P (steps_with_change_if e o text held)
+  recorded_by None held is none added joined = none is
+  recorded_by (Some c) held is none added joined = stepped_by c held (added c) joined
+
 -- a mark set, and the first items kept
 abbrev pub items_with_mark : Items → Items
 items_with_mark s = record { done = Open ∷ s.done; undone = [] }
 
 abbrev pub first_items : ℕ → Items → Items
 first_items n s = record { done = drop (length s.done - n) s.done; undone = [] }
+
+-- the last one of the first some
+pub reverse_more : {A : Type 0} (xs : List A) (i : ℕ) (d : A) → i < length xs → reverse (take (suc i) xs) ≡ get_or xs i d ∷ reverse (take i xs)
+reverse_more xs i d h = ap reverse (take-suc xs i d h) ∙ reverse-append (take i xs) (get_or xs i d ∷ [])
+
+pub newest_of-append : (g c : Change) (gs cs : List Change) → newest_of g (gs ++ (c ∷ cs)) ≡ newest_of c cs
+newest_of-append g c gs cs = fold-append (λ d newer. newer) g gs (c ∷ cs)
 
 pub lines_back_text : (cs : List Change) (l : Line) → (lines_back cs l).text ≡ all_taken_back cs l.text
 lines_back_text [] l = refl
@@ -42,10 +70,6 @@ pub AllStandIn-drop : (n : ℕ) (cs : List Change) (text : List ℕ) → AllStan
 AllStandIn-drop zero cs text h = h
 AllStandIn-drop (suc n) [] text h = h
 AllStandIn-drop (suc n) (c ∷ cs) text h = AllStandIn-drop n cs text h.1
-
-pub lines_ahead-append : (cs ds : List Change) (l : Line) → lines_ahead (cs ++ ds) l ≡ lines_ahead ds (lines_ahead cs l)
-lines_ahead-append [] ds l = refl
-lines_ahead-append (c ∷ cs) ds l = lines_ahead-append cs ds (line_after_redo c l)
 
 -- the newest of the changes that are left is undone
 pub record BackTurn {A : Type 0} (f : A → Change) (xs earlier : List A) (x : A) (first l : Line) : Type 0 where
@@ -89,6 +113,7 @@ ahead_turn f xs i x first l inside is line fit =
     let both = subst (λ cs. AllFitIn cs l.text) from fit in
     record {
       fits = both.0;
-      line = ap (line_after_redo (f x)) line ∙ sym (lines_ahead-append (take i (map f xs)) (f x ∷ []) first) ∙ sym (ap (λ cs. lines_ahead cs first) upto);
+      line = ap (line_after_redo (f x)) line ∙ sym (fold-append (λ m c. line_after_redo c m) first (take i (map f xs)) (f x ∷ []))
+          ∙ sym (ap (λ cs. lines_ahead cs first) upto);
       fit = λ after e. subst (λ (m : Line). AllFitIn (drop (i + 1) (map f xs)) m.text) (sym e) both.1;
     }

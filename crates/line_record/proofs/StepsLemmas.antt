@@ -1,8 +1,9 @@
 -- What the steps over a log hold where some are cut off, put in, closed and read.
-use Rattle.std.proofs.Common.{◌≡◌, ℕ, suc, ◌+◌, ◌-◌, ◌<◌, ◌≤◌, Bool, true, false, List, [], ◌∷◌, ◌++◌, length, take, drop, reverse, refl, sym, ap, subst, ◌∙◌, arith, get_or, Some, None, Option, ◌==◌, not, ◌&&◌, add-one, eqb-true}
+use Rattle.std.proofs.Common.{◌≡◌, ℕ, suc, ◌+◌, ◌-◌, ◌<◌, ◌≤◌, Bool, true, false, List, [], ◌∷◌, ◌++◌, length, take, drop, reverse, refl, sym, ap, subst, ◌∙◌, arith, get_or, Some, None, Option, ◌==◌, not, ◌&&◌, add-one}
 use Rattle.std.proofs.Math.Seq.{take-add}
 use Rattle.std.specs.Prelude.{slice_range, is_some, slice_get, option_map, ⊤, unwrap_or, slice_set, min}
 use Rattle.std.proofs.lemmas.Bool.Decides.{nat_tests}
+use Rattle.std.proofs.lemmas.Option.{slice_get-get_or}
 use Rattle.std.proofs.lemmas.List.{take-take, take_min, take_at, drop_at, take-map, drop-map, get_or-map, get_or-take, get_or-drop, length-map, length-append, length-take, length-drop, length-take-le, reverse-append, take_more, take_more_set, drop-drop}
 use Rattle.line_record.specs.declared.steps.Step.{Step}
 use Rattle.line_record.specs.Change.{Change, Change.Inserted}
@@ -13,6 +14,7 @@ use Rattle.line_record.specs.Items.{Item, changes_of, changes_of_all, group_of, 
 use Rattle.line_record.proofs.EndLemmas.{changes_of-item_from, group_pushed}
 use Rattle.line_record.proofs.LogLemmas.{joined_at_is}
 use Rattle.line_record.proofs.StoredLemmas.{before_last, inserted_last}
+use Rattle.line_record.proofs.StepLemmas.{reverse_more}
 use Rattle.line_record.proofs.SpanLemmas.{take_lower, slice_same, adjoin_le, adjoin_cut, adjoin_drop, adjoin_at, SpansAre, place_inside, spans_cut, span_pushed, place_of_span}
 
 abbrev first_of : Step → ℕ
@@ -122,18 +124,8 @@ gathered_spans edits (s ∷ steps) from to h =
 pub slice_length : {A : Type 0} (xs : List A) (i j : ℕ) → j ≤ length xs → length (slice_range xs i j) ≡ j - i
 slice_length xs i j le = length-take-le (j - i) (drop i xs) (omega (arith, le, length-drop i xs))
 
-suc_zero : (n : ℕ) → false ≡ (suc n == 0)
-suc_zero n = grind (arith, nat_tests)
-
-suc_one : (n : ℕ) → (suc (suc n) == 1) ≡ false
-suc_one n = grind (arith, nat_tests)
-
 is_open-item_from : (closed : Bool) (cs : List Change) → is_open (item_from closed cs) ≡ (length cs == 0)
-is_open-item_from true (c ∷ []) = suc_zero 0
-is_open-item_from false (c ∷ []) = suc_zero 0
-is_open-item_from true (c ∷ (d ∷ cs)) = suc_zero (suc (length cs))
-is_open-item_from false (c ∷ (d ∷ cs)) = suc_zero (suc (length cs))
-is_open-item_from _ [] = refl
+is_open-item_from closed cs = grind (arith, nat_tests)
 
 same_zero : (i j : ℕ) → i ≤ j → (i == j) ≡ (j - i == 0)
 same_zero i j le = grind (arith, nat_tests)
@@ -155,29 +147,20 @@ step_inserted edits steps items n s d h some =
     ∙ ap text_inserted_by (get_or-take (s.last - s.first) (drop s.first edits) (length cs - 1) d (omega (arith, count, some)) ∙ get_or-drop s.first edits (length cs - 1) d ∙ ap (λ k. get_or edits k d) at)
 
 -- the newest of some items
-pub newest_item : (items : List Item) (n : ℕ) → n < length items → reverse (take (n + 1) items) ≡ get_or items n Open ∷ reverse (take n items)
-newest_item items n h = ap reverse (take_more items n Open h) ∙ reverse-append (take n items) (get_or items n Open ∷ [])
+newest_item : (items : List Item) (n : ℕ) → n < length items → reverse (take (n + 1) items) ≡ get_or items n Open ∷ reverse (take n items)
+newest_item items n h = ap (λ k. reverse (take k items)) (add-one n) ∙ reverse_more items n Open h
 
 not_lone : (e : ChangeEvent) (closed : Bool) (cs : List Change) (items : List Item) → (not closed && (length cs == 1)) ≡ false → join_of_items e (item_from closed cs ∷ items) ≡ None
-not_lone e true [] items h = refl
-not_lone e false [] items h = refl
-not_lone e true (c ∷ []) items h = refl
-not_lone e false (c ∷ []) items h = cc
-not_lone e _ (c ∷ (d ∷ cs)) items h = refl
+not_lone e closed cs items h = grind (arith, nat_tests)
 
 is_lone : (closed : Bool) (cs : List Change) (d : Change) → (not closed && (length cs == 1)) ≡ true → item_from closed cs ≡ Lone (get_or cs 0 d)
-is_lone true cs d h = cc
-is_lone false [] d h = cc
-is_lone false (c ∷ []) d h = refl
-is_lone false (c ∷ (b ∷ cs)) d h = cc (suc_one (length cs))
+is_lone closed cs d h = grind (arith, nat_tests)
 
 lone_count : (closed : Bool) (n : ℕ) → (not closed && (n == 1)) ≡ true → n ≡ 1
-lone_count true n h = cc
-lone_count false n h = eqb-true n 1 h
+lone_count closed n h = grind (arith, nat_tests)
 
 lone_from : (closed : Bool) (n : ℕ) (j : Change) → (not closed && (n == 1)) ≡ true → item_from closed (j ∷ []) ≡ Lone j
-lone_from true n j h = cc
-lone_from false n j h = refl
+lone_from closed n j h = grind (arith, nat_tests)
 
 pub joins_none : (e : ChangeEvent) (edits : List Change) (steps : List Step) (items : List Item) (n : ℕ) (s : Step) → StepAt edits steps items n s → n < length items
     → (not s.closed && (s.last - s.first == 1)) ≡ false → join_of_items e (reverse (take (n + 1) items)) ≡ None
@@ -210,18 +193,16 @@ a_join : (J : Option (List Change)) (f : Change → List Change) (g : Change →
 a_join J f g None e h = cc
 a_join J f g (Some j) e h = (j, e, refl)
 
-pub record LeftAlone (e : ChangeEvent) (edits after : List Change) (items : List Item) (n : ℕ) : Type 0 where
-  pub same : after ≡ edits
-  pub none : join_of_items e (reverse (take (n + 1) items)) ≡ None
-
+-- a change that isn't joined leaves the changes
 pub left_alone : (e : ChangeEvent) (edits after : List Change) (steps : List Step) (items : List Item) (n : ℕ) (s : Step) → StepAt edits steps items n s → n < length items
-    → (not s.closed && (s.last - s.first == 1)) ≡ true → false ≡ is_some (join_at e s.first edits) → after ≡ unwrap_or (join_at e s.first edits) edits → LeftAlone e edits after items n
+    → (not s.closed && (s.last - s.first == 1)) ≡ true → false ≡ is_some (join_at e s.first edits) → after ≡ unwrap_or (join_at e s.first edits) edits
+    → (after ≡ edits) × (join_of_items e (reverse (take (n + 1) items)) ≡ None)
 left_alone e edits after steps items n s h inside lone answer value =
     let d = Inserted 0 [] in
     let one : s.last - s.first ≡ 1 = lone_count s.closed (s.last - s.first) lone in
     let j = no_join (join_at e s.first edits) (λ j. take s.first edits ++ (j ∷ [])) (λ j. Lone j ∷ reverse (take n items)) (join_of e (get_or edits s.first d))
     (joined_at_is e s.first edits d (omega (arith, one, h.inside))) answer in
-    record { same = value ∙ ap (λ o. unwrap_or o edits) j.0; none = joins_lone e edits steps items n s d h inside lone ∙ j.1 }
+    (value ∙ ap (λ o. unwrap_or o edits) j.0, joins_lone e edits steps items n s d h inside lone ∙ j.1)
 
 pub record JoinedOn (e : ChangeEvent) (edits after : List Change) (steps left : List Step) (items : List Item) (n : ℕ) : Type 0 where
   pub are : AreSteps after left
@@ -250,74 +231,81 @@ joined_on e edits after steps left items n s are view h is inside lone answer va
 
 -- the steps from an index on as one
 pub record ClosedFrom (edits : List Change) (steps : List Step) (items : List Item) (n index : ℕ) (a b : Step) : Type 0 where
+  pub first : StepAt edits steps items index a
   pub group : changes_of_all (drop index (take n items)) ≡ slice_range edits a.first b.last
   pub order : a.first ≤ b.last
-  pub end : b.last ≡ place_of_span first_of steps n (length edits)
+  pub inside : b.last ≤ length edits
 
-pub closed_from : (edits : List Change) (steps : List Step) (items : List Item) (n index last : ℕ) (a b : Step) → AreSteps edits steps → items_in edits steps ≡ items → StepAt edits steps items index a
-    → StepAt edits steps items last b → suc last ≡ n → index < n → a ≡ get_or steps index a → ClosedFrom edits steps items n index a b
-closed_from edits steps items n index last a b are view ha hb next order is =
+pub closed_from : (edits : List Change) (steps : List Step) (items : List Item) (n index : ℕ) (a b : Step) → AreSteps edits steps → items_in edits steps ≡ items
+    → index < n → n ≤ length items
+    → a ≡ get_or steps index a → b ≡ get_or steps (n - 1) b → ClosedFrom edits steps items n index a b
+closed_from edits steps items n index a b are view order inside at_a at_b =
+    let hb = step_at edits steps items (n - 1) b are view (omega (arith, order, inside)) at_b in
+    let next : suc (n - 1) ≡ n = omega (arith, order) in
     let end : b.last ≡ place_of_span first_of steps n (length edits) = hb.next ∙ ap (λ k. place_of_span first_of steps k (length edits)) next in
     let front : Adjoin first_of last_of Any edits 0 (take n steps) b.last =
     subst (λ m. Adjoin first_of last_of Any edits 0 (take n steps) m) (sym end) (adjoin_cut first_of last_of Any n edits steps 0 (length edits) are) in
     let few : index < length (take n steps) = omega (arith, order, next, hb.within, length-take n steps) in
     let r = adjoin_at first_of last_of Any index edits (take n steps) 0 b.last a front few in
     let place : place_of_span first_of (take n steps) index b.last ≡ a.first =
-    r.place ∙ ap first_of (get_or-take n steps index a order ∙ sym is) in
+    r.place ∙ ap first_of (get_or-take n steps index a order ∙ sym at_a) in
     let back : Adjoin first_of last_of Any edits a.first (drop index (take n steps)) b.last =
     subst (λ m. Adjoin first_of last_of Any edits m (drop index (take n steps)) b.last) place (adjoin_drop first_of last_of Any index edits (take n steps) 0 b.last front) in
     record {
+      first = step_at edits steps items index a are view (omega (arith, order, inside)) at_a;
       group = ap (λ xs. changes_of_all (drop index (take n xs))) (sym view) ∙ ap (λ xs. changes_of_all (drop index xs)) (take-map (item_in edits) n steps)
           ∙ ap changes_of_all (drop-map (item_in edits) index (take n steps)) ∙ gathered_spans edits (drop index (take n steps)) a.first b.last back;
       order = adjoin_le first_of last_of Any edits (drop index (take n steps)) a.first b.last back;
-      end = end;
+      inside = hb.inside;
     }
 
 -- the number of their changes
 pub changes_counted : (edits : List Change) (steps : List Step) (items : List Item) (first end n : ℕ) (a b : Step) → AreSteps edits steps → items_in edits steps ≡ items → n ≡ min end (length items)
     → first < n → a ≡ get_or steps first a → b ≡ get_or steps (n - 1) b → (a.first ≤ b.last) × (b.last - a.first ≡ length (changes_of_all (drop first (take end items))))
 changes_counted edits steps items first end n a b are view is order at_a at_b =
-    let inside : n ≤ length items = omega (arith, is) in
-    let ha = step_at edits steps items first a are view (omega (arith, order, inside)) at_a in
-    let hb = step_at edits steps items (n - 1) b are view (omega (arith, order, inside)) at_b in
-    let c = closed_from edits steps items n first (n - 1) a b are view ha hb (omega (arith, order)) order at_a in
+    let c = closed_from edits steps items n first a b are view order (omega (arith, is)) at_a at_b in
     let same : take n items ≡ take end items = ap (λ k. take k items) is ∙ take_min end items in
-    (c.order, sym (ap (λ xs. length (changes_of_all (drop first xs))) (sym same) ∙ ap length c.group ∙ slice_length edits a.first b.last hb.inside))
+    (c.order, sym (ap (λ xs. length (changes_of_all (drop first xs))) (sym same) ∙ ap length c.group ∙ slice_length edits a.first b.last c.inside))
 
-pub group_none : (edits : List Change) (group : List Change) (i j : ℕ) → group ≡ slice_range edits i j → i ≡ j → group ≡ []
-group_none edits group i j is e = is ∙ ap (slice_range edits i) (sym e) ∙ no_slice edits i
-
-some_items : {A : Type 0} (xs : List A) → 0 < length xs → is_some (slice_get xs 0) ≡ true
-some_items [] h = absurd (omega (arith, h))
-some_items (x ∷ xs) h = refl
-
-pub group_some : (edits : List Change) (group : List Change) (i j : ℕ) → group ≡ slice_range edits i j → i < j → j ≤ length edits → is_some (slice_get group 0) ≡ true
-group_some edits group i j is less inside =
-    ap (λ cs. is_some (slice_get cs 0)) is ∙ some_items (slice_range edits i j) (omega (arith, slice_length edits i j inside, less))
+-- what stands after those from an index on were closed
+pub record Grouped (closed : Bool) (after : List Change) (new : List Step) (items : List Item) (n index : ℕ) : Type 0 where
+  pub are : AreSteps after new
+  pub answer : closed ≡ is_some (slice_get (changes_of_all (drop index (take n items))) 0)
+  pub grouped : reverse (items_in after new) ≡ group_of (changes_of_all (drop index (take n items))) (reverse (take index items))
 
 -- the group put in their place
-pub group_pushed_on : (edits after : List Change) (steps new : List Step) (items : List Item) (n index : ℕ) (a b : Step) → AreSteps edits steps → items_in edits steps ≡ items → StepAt edits steps items index a
-    → ClosedFrom edits steps items n index a b → a.first < b.last → b.last ≤ length edits → after ≡ take b.last edits
-    → new ≡ take index steps ++ ((record { closed = true; first = a.first; last = b.last }) ∷ [])
-    → AreSteps after new × (reverse (items_in after new) ≡ group_of (changes_of_all (drop index (take n items))) (reverse (take index items)))
-group_pushed_on edits after steps new items n index a b are view ha h less inside cut pushed =
+pub group_pushed_on : (edits after : List Change) (steps new : List Step) (items : List Item) (n index : ℕ) (a b : Step) → AreSteps edits steps
+    → items_in edits steps ≡ items
+    → ClosedFrom edits steps items n index a b → (a.first ≡ b.last → ⊥) → after ≡ take b.last edits
+    → new ≡ take (index + 1) (slice_set steps index (record { closed = true; first = a.first; last = b.last })) → Grouped true after new items n index
+group_pushed_on edits after steps new items n index a b are view h other cut pushed =
     let s : Step = record { closed = true; first = a.first; last = b.last } in
     let same : take b.last edits ≡ take b.last after = sym (ap (take b.last) cut ∙ take-take b.last b.last edits (omega arith)) in
     let cs = slice_range edits a.first b.last in
-    let p = step_pushed edits after steps index a.first are ha.place s new (item_from true cs) refl (take_lower a.first b.last edits after h.order same) h.order
-    (sym (ap length cut ∙ length-take-le b.last edits inside)) (ap (item_from true) (sym (slice_same a.first b.last edits after h.order same))) pushed in (
-      p.are,
-      ap reverse (p.items ∙ ap (λ xs. take index xs ++ (item_from true cs ∷ [])) view) ∙ reverse-append (take index items) (item_from true cs ∷ [])
-          ∙ group_pushed cs (reverse (take index items)) (group_some edits cs a.first b.last refl less inside)
-          ∙ sym (ap (λ g. group_of g (reverse (take index items))) h.group),
-    )
+    let some : is_some (slice_get cs 0) ≡ true =
+    ap is_some (slice_get-get_or cs 0 (Inserted 0 []) (omega (arith, other, h.order, slice_length edits a.first b.last h.inside))) in
+    let p = step_pushed edits after steps index a.first are h.first.place s new (item_from true cs) refl
+    (take_lower a.first b.last edits after h.order same) h.order
+    (sym (ap length cut ∙ length-take-le b.last edits h.inside)) (ap (item_from true) (sym (slice_same a.first b.last edits after h.order same)))
+    (pushed ∙ take_more_set steps index s h.first.within) in
+    record {
+      are = p.are;
+      answer = sym (ap (λ g. is_some (slice_get g 0)) h.group ∙ some);
+      grouped = ap reverse (p.items ∙ ap (λ xs. take index xs ++ (item_from true cs ∷ [])) view) ∙ reverse-append (take index items) (item_from true cs ∷ [])
+          ∙ group_pushed cs (reverse (take index items)) some ∙ sym (ap (λ g. group_of g (reverse (take index items))) h.group);
+    }
 
-pub group_gone : (edits after : List Change) (steps left : List Step) (items : List Item) (n index : ℕ) (a b : Step) → AreSteps edits steps → items_in edits steps ≡ items → StepAt edits steps items index a
-    → ClosedFrom edits steps items n index a b → a.first ≡ b.last → after ≡ take b.last edits → left ≡ take index steps
-    → AreSteps after left × (reverse (items_in after left) ≡ group_of (changes_of_all (drop index (take n items))) (reverse (take index items)))
-group_gone edits after steps left items n index a b are view ha h same cut kept =
-    let p = steps_cut edits after steps index a.first are ha.place left (cut ∙ ap (λ k. take k edits) (sym same)) kept in
-    (p.are, ap reverse (p.items ∙ ap (take index) view) ∙ sym (ap (λ g. group_of g (reverse (take index items))) (group_none edits _ a.first b.last h.group same)))
+pub group_gone : (edits after : List Change) (steps left : List Step) (items : List Item) (n index : ℕ) (a b : Step) → AreSteps edits steps
+    → items_in edits steps ≡ items
+    → ClosedFrom edits steps items n index a b → a.first ≡ b.last → after ≡ take b.last edits → left ≡ take index steps → Grouped false after left items n index
+group_gone edits after steps left items n index a b are view h same cut kept =
+    let p = steps_cut edits after steps index a.first are h.first.place left (cut ∙ ap (λ k. take k edits) (sym same)) kept in
+    let none : changes_of_all (drop index (take n items)) ≡ [] = h.group ∙ ap (slice_range edits a.first) (sym same) ∙ no_slice edits a.first in
+    record {
+      are = p.are;
+      answer = sym (ap (λ g. is_some (slice_get g 0)) none);
+      grouped = ap reverse (p.items ∙ ap (take index) view) ∙ sym (ap (λ g. group_of g (reverse (take index items))) none);
+    }
 
 pub lone_inside : (edits : List Change) (steps : List Step) (items : List Item) (n : ℕ) (s : Step) → StepAt edits steps items n s → (not s.closed && (s.last - s.first == 1)) ≡ true → s.first < length edits
 lone_inside edits steps items n s h lone =
@@ -326,15 +314,3 @@ lone_inside edits steps items n s h lone =
 
 pub less : (i j : ℕ) → i ≤ j → (i ≡ j → ⊥) → i < j
 less i j le ne = omega (arith, le, ne)
-
-pub first_inside : (index n : ℕ) (items : List Item) → index < n → n ≤ length items → index < length items
-first_inside index n items order inside = omega (arith, order, inside)
-
-pub last_inside : (index n : ℕ) (items : List Item) → index < n → n ≤ length items → n - 1 < length items
-last_inside index n items order inside = omega (arith, order, inside)
-
-pub last_next : (index n : ℕ) → index < n → suc (n - 1) ≡ n
-last_next index n order = omega (arith, order)
-
-pub set_kept : (steps : List Step) (index : ℕ) (s : Step) → index < length steps → take (index + 1) (slice_set steps index s) ≡ take index steps ++ (s ∷ [])
-set_kept steps index s h = take_more_set steps index s h

@@ -5,8 +5,7 @@ use Rattle.line_record.specs.Change.{Change}
 use Rattle.line_record.specs.Held.{text_of, text_back, text_inserted_by, HeldItem}
 use Rattle.line_record.specs.Items.{Item, before_item, item_with_text, items_with_texts, DoneStand, Items, ItemsStand, record_on, Item.Open}
 use Rattle.line_record.specs.Log.{item_from, item_inserted}
-use Rattle.line_record.proofs.EndLemmas.{newest_of-append}
-use Rattle.line_record.proofs.StepLemmas.{first_items}
+use Rattle.line_record.proofs.StepLemmas.{first_items, newest_of-append}
 
 pub before_last : {A : Type 0} (xs : List A) (d : A) → 0 < length xs → xs ≡ take (length xs - 1) xs ++ (get_or xs (length xs - 1) d ∷ [])
 before_last xs d h =
@@ -37,12 +36,9 @@ DoneStand-drop (suc k) (x ∷ items) text h =
 
 -- the newest change says what an item put in
 pub inserted_last : (closed : Bool) (cs : List Change) (d : Change) → item_inserted (item_from closed (cs ++ (d ∷ []))) ≡ text_inserted_by d
-inserted_last true [] d = refl
-inserted_last false [] d = refl
-inserted_last true (c ∷ []) d = refl
-inserted_last false (c ∷ []) d = refl
 inserted_last true (c ∷ (e ∷ cs)) d = ap text_inserted_by (newest_of-append e d cs [])
 inserted_last false (c ∷ (e ∷ cs)) d = ap text_inserted_by (newest_of-append e d cs [])
+inserted_last _ _ d = refl
 
 -- the first n items, and the last text that the last of them had
 abbrev pub first_held : ℕ → List HeldItem → List HeldItem

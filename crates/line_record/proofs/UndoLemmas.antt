@@ -1,18 +1,17 @@
 -- What undoing and making anew do to the record of texts.
 use Rattle.std.proofs.Common.{◌≡◌, ℕ, zero, suc, ◌+◌, ◌-◌, ◌<◌, ◌≤◌, ◌||◌, Bool, false, List, [], ◌∷◌, ◌++◌, length, take, drop, reverse, refl, sym, ap, subst, ◌∙◌, arith, append_assoc, Some, None, Ok, Err, Result, IsErrAnd, IsUtf8, ap₂}
-use Rattle.std.proofs.lemmas.List.{append-nil, take-append-drop, reverse-append, length-append, length-drop, length-reverse, length-take-le, take_at, take_all, drop-drop, drop_all, drop-append-le, reverse-reverse}
+use Rattle.std.proofs.lemmas.List.{append-nil, take-append-drop, reverse-append, length-append, length-drop, length-reverse, length-take-le, take_all, drop_at, drop-drop, drop_all, drop-append-le, reverse-reverse}
 use Rattle.std.proofs.Math.Bool.{or-false}
-use Rattle.std.proofs.Math.Seq.{take-add, drop-append-add}
+use Rattle.std.proofs.Math.Seq.{take-add, take-nil, drop-nil, drop-append-add}
 use Rattle.std.proofs.lemmas.Grind.{flat_map-append}
 use Rattle.std.proofs.lemmas.List.Folds.{list_any-append}
-use native.Mathlib.Decide.{dec_le}
 use Rattle.std.specs.Prelude.{option_map, slice_get}
 use Rattle.std.specs.List.{list_any}
 use Rattle.line_buffer.specs.Line.{Line}
 use Rattle.line_record.specs.Change.{Change, place_of, old_text_of, new_text_of, text_after_undo, text_after_redo, redo_place, StandsIn, all_taken_back, all_made_anew, AllStandIn, AllFitIn, newest_of}
 use Rattle.line_record.specs.Held.{HeldItem, is_step, line_before_item, line_back, has_step, ahead_back, line_ahead, record_ahead, Undone}
 use Rattle.line_record.specs.Items.{Item, Items, changes_of, before_item, after_item, item_with_text, items_with_texts, ahead_with_texts, DoneStand, UndoneFit, ItemsStand, record_on, ahead_on, line_after_undo, line_after_redo, lines_back, lines_ahead, nearest_changes, undo_some, is_step_item, UndoesItems, last_changes, CutUndo, changes_of_all}
-use Rattle.line_record.specs.Items.Item.{Open, Lone, Group}
+use Rattle.line_record.specs.Items.Item.{Open, Group}
 use Rattle.line_record.proofs.Exchange.{exchanged}
 use Rattle.line_record.proofs.StepLemmas.{lines_back_text, lines_ahead_text, lines_back_but_place}
 use Rattle.line_record.proofs.StoredLemmas.{text_of-holding}
@@ -29,31 +28,28 @@ last_changes-next n x items =
 
 -- ---- the changes of some items, as the code counts them
 
-last_reversed : (n : ℕ) (steps : List Item) → take n (reverse steps) ≡ reverse (drop (length steps - n) steps)
-last_reversed n steps = elim (dec_le n (length steps)) [
-  | yes le ↦
-      let older = take (length steps - n) steps in
-      let newer = drop (length steps - n) steps in
-      let count : length (reverse newer) ≡ n = omega (arith, le, length-reverse newer, length-drop (length steps - n) steps) in
-      ap (take n) (ap reverse (sym (take-append-drop (length steps - n) steps)) ∙ reverse-append older newer) ∙ take_at (reverse newer) (reverse older) n count
-  | no more ↦
-      let all : length steps - n ≡ 0 = omega (arith, more) in
-      take_all n (reverse steps) (omega (arith, more, length-reverse steps)) ∙ sym (ap (λ k. reverse (drop k steps)) all)
-]
+-- the first items kept
+pub kept_reverse : (xs : List Item) (n : ℕ) → reverse (take n xs) ≡ drop (length (reverse xs) - n) (reverse xs)
+kept_reverse xs n =
+    let newer = reverse (drop n xs) in
+    let older = reverse (take n xs) in
+    let split : reverse xs ≡ newer ++ older = ap reverse (sym (take-append-drop n xs)) ∙ reverse-append (take n xs) (drop n xs) in
+    let count : length newer ≡ length (reverse xs) - n = length-reverse (drop n xs) ∙ length-drop n xs ∙ ap (λ k. k - n) (sym (length-reverse xs)) in
+    sym (ap (drop (length (reverse xs) - n)) split ∙ drop_at newer older (length (reverse xs) - n) count)
 
 -- the last of the items that are done, among all items
 pub last_changes_of : (items : List Item) (done n first : ℕ) → done ≤ length items → first ≡ done - n → last_changes n (reverse (take done items)) ≡ changes_of_all (drop first (take done items))
 last_changes_of items done n first inside is =
     let steps = take done items in
     let from : length steps - n ≡ first = omega (arith, is, length-take-le done items inside) in
-    ap (λ xs. changes_of_all (reverse xs)) (last_reversed n steps) ∙ ap changes_of_all (reverse-reverse (drop (length steps - n) steps)) ∙ ap (λ k. changes_of_all (drop k steps)) from
+    ap changes_of_all (kept_reverse (reverse steps) n) ∙ ap (λ xs. changes_of_all (drop (length xs - n) xs)) (reverse-reverse steps)
+    ∙ ap (λ k. changes_of_all (drop k steps)) from
 
 -- the nearest item that is undone, among all items
 pub some_ahead : (items : List Item) (done end : ℕ) → end ≤ done + 1 → 0 < length (changes_of_all (drop done (take end items))) → 0 < length (nearest_changes (drop done items))
-some_ahead [] zero zero le some = some
-some_ahead [] zero (suc end) le some = some
-some_ahead [] (suc done) zero le some = some
-some_ahead [] (suc done) (suc end) le some = some
+some_ahead [] done end le some =
+    let none = rw (take-nil end, drop-nil done) at some in
+    omega (arith, none)
 some_ahead (x ∷ items) zero zero le some = absurd (omega (arith, some))
 some_ahead (x ∷ items) zero (suc zero) le some = omega (arith, some, ap length (append-nil (changes_of x)))
 some_ahead (x ∷ items) zero (suc (suc end)) le some = absurd (omega (arith, le))
@@ -93,18 +89,16 @@ was_made_anew (c ∷ cs) text h u =
     }
 
 item_back : (x : Item) (l : Line) → lines_back (changes_of x) l ≡ line_before_item (item_with_text x (before_item x l.text)) l
-item_back Open l = refl
-item_back (Lone c) l = refl
 item_back (Group c cs) l = ap (line_after_undo c) (lines_back_but_place cs l 0)
+item_back _ l = refl
 
 group_ahead : (c : Change) (cs : List Change) (l : Line) → lines_ahead (c ∷ cs) l ≡ record l { text = all_made_anew (c ∷ cs) l.text; place = redo_place (newest_of c cs) }
 group_ahead c [] l = refl
 group_ahead c (d ∷ cs) l = group_ahead d cs (line_after_redo c l)
 
 item_ahead : (x : Item) (l : Line) → lines_ahead (changes_of x) l ≡ line_ahead (record { held = item_with_text x l.text; text = after_item x l.text } ∷ []) l
-item_ahead Open l = refl
-item_ahead (Lone c) l = refl
 item_ahead (Group c cs) l = group_ahead c cs l
+item_ahead _ l = refl
 
 is_step-holding : (x : Item) (text : List ℕ) → is_step_item x ≡ is_step (item_with_text x text)
 is_step-holding Open text = refl
@@ -112,7 +106,7 @@ is_step-holding _ text = refl
 
 -- ---- the loop of an undo
 
-abbrev both : List Item → List Item → Items
+abbrev pub both : List Item → List Item → Items
 both done undone = record { done = done; undone = undone }
 
 -- what it has done after some items

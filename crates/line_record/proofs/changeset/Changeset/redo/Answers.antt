@@ -1,18 +1,9 @@
+use Rattle.std.proofs.Common.{rules}
 use Rattle.line_record.proofs.UndoLemmas.{redone_as}
 use Rattle.line_record.proofs.changeset.Changeset.redo.Goals as goal
 
-pub returns-in-Ok-clause-line : goal.returns-in-Ok-clause-line
-returns-in-Ok-clause-line c =
-    (redone_as c.args.self.now c.redo_next.new.self c.args.line.now c.redo_next.new.line c.in-Ok.ensures.items c.in-Ok.ensures.anew.line c.requires c.as_str-text.ensures.utf8).line_is
-
-pub returns-in-Ok-clause-held : goal.returns-in-Ok-clause-held
-returns-in-Ok-clause-held c =
-    (redone_as c.args.self.now c.redo_next.new.self c.args.line.now c.redo_next.new.line c.in-Ok.ensures.items c.in-Ok.ensures.anew.line c.requires c.as_str-text.ensures.utf8).held_is
-
-pub returns-in-Ok-clause-ahead : goal.returns-in-Ok-clause-ahead
-returns-in-Ok-clause-ahead c =
-    (redone_as c.args.self.now c.redo_next.new.self c.args.line.now c.redo_next.new.line c.in-Ok.ensures.items c.in-Ok.ensures.anew.line c.requires c.as_str-text.ensures.utf8).ahead_is
-
-pub returns-in-Ok-clause-stand : goal.returns-in-Ok-clause-stand
-returns-in-Ok-clause-stand c =
-    (redone_as c.args.self.now c.redo_next.new.self c.args.line.now c.redo_next.new.line c.in-Ok.ensures.items c.in-Ok.ensures.anew.line c.requires c.as_str-text.ensures.utf8).stand
+pub returns-in-Ok : goal.returns-in-Ok
+returns-in-Ok c =
+    let r = redone_as c.args.self.now c.redo_next.new.self c.args.line.now c.redo_next.new.line c.in-Ok.ensures.items c.in-Ok.ensures.anew.line c.requires
+    c.as_str-text.ensures.utf8 in
+    record { answer = search rules; line = r.line_is; held = r.held_is; ahead = r.ahead_is; stand = r.stand; refused = tt; part = tt }

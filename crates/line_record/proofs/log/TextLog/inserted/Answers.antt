@@ -2,11 +2,13 @@ use Rattle.std.proofs.Common.{List, ℕ, string_bytes, sym, ap, subst, ◌∙◌
 use Rattle.line_record.specs.Change.{Change}
 use Rattle.line_record.specs.Held.{text_inserted_by}
 use Rattle.line_record.specs.Log.{edit_in, Spelt}
-use Rattle.line_record.proofs.LogLemmas.{entry_at, entries_inside, EntryAt}
+use Rattle.line_record.proofs.LogLemmas.{entry_at, EntryAt}
 use Rattle.line_record.proofs.log.TextLog.inserted.Goals as goal
 
 here : (c : goal.After-deref) → EntryAt (string_bytes c.self.inside.text) c.self.inside.entries.items c.args.index c.index.result.now
-here c = entry_at (string_bytes c.self.inside.text) c.self.inside.entries.items c.args.index c.index.result.now c.self.invariant (entries_inside (string_bytes c.self.inside.text) c.self.inside.entries.items c.args.self.now c.args.index c.self.view_is c.requires) c.index.ensures
+here c =
+    entry_at (string_bytes c.self.inside.text) c.self.inside.entries.items c.args.self.now c.args.index c.index.result.now c.self.invariant c.self.view_is
+    c.requires c.index.ensures
 
 pub inserted-requires : goal.inserted-requires
 inserted-requires c = subst (λ (t : List ℕ). Spelt t c.index.result.now) (sym c.deref.ensures) (here c).spelt

@@ -6,14 +6,14 @@ use Rattle.line_record.specs.Log.{Spelt}
 use Rattle.line_record.proofs.LogLemmas.{range_spelt, range_seen}
 use Rattle.line_record.proofs.log.TextLog.make_anew.Goals as goal
 
-pub make_anew-requires-clause-spelt : goal.make_anew-requires-clause-spelt
-make_anew-requires-clause-spelt g c =
-    subst (λ (t : List ℕ). All (Spelt t) (slice_range c.deref-2.result.now c.args.first c.args.last)) (sym c.deref.ensures)
-    (subst (λ (es : List LoggedChange). All (Spelt (string_bytes c.self.inside.text)) (slice_range es c.args.first c.args.last)) (sym c.deref-2.ensures.value)
-    (range_spelt (string_bytes c.self.inside.text) c.self.inside.entries.items c.args.first c.args.last c.self.invariant))
-
-pub make_anew-requires-clause-fit : goal.make_anew-requires-clause-fit
-make_anew-requires-clause-fit g c = subst (λ (es : List Change). AllFitIn es (g.L.EditedLine.value c.args.line.now).text) (sym (range_seen _ _ _ _ _ c.args.first c.args.last c.deref.ensures c.deref-2.ensures.value c.self.view_is)) c.requires.fit
+pub make_anew-requires : goal.make_anew-requires
+make_anew-requires g c = record {
+  spelt = subst (λ (t : List ℕ). All (Spelt t) (slice_range c.deref-2.result.now c.args.first c.args.last)) (sym c.deref.ensures)
+      (subst (λ (es : List LoggedChange). All (Spelt (string_bytes c.self.inside.text)) (slice_range es c.args.first c.args.last)) (sym c.deref-2.ensures.value)
+      (range_spelt (string_bytes c.self.inside.text) c.self.inside.entries.items c.args.first c.args.last c.self.invariant));
+  fit = subst (λ (es : List Change). AllFitIn es (g.L.EditedLine.value c.args.line.now).text)
+      (sym (range_seen _ _ _ _ _ c.args.first c.args.last c.deref.ensures c.deref-2.ensures.value c.self.view_is)) c.requires.fit;
+}
 
 pub returns : goal.returns
 returns g c = subst (λ (es : List Change). MakesAnew es (g.L.EditedLine.value c.args.line.now) (g.L.EditedLine.value c.make_anew.new.line) c.make_anew.result)

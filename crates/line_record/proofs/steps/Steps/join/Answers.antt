@@ -13,39 +13,42 @@ join-requires c =
     lone_inside c.self.inside.log c.self.inside.steps.items c.args.self.now c.args.index c.index.result.now
     (step_at c.self.inside.log c.self.inside.steps.items c.args.self.now c.args.index c.index.result.now c.self.invariant c.self.view_is c.requires c.index.ensures) (sym c.is_lone.ensures ∙ c.if-not-is_lone.false)
 
-pub returns-then-not-is_lone-clause-answer : goal.returns-then-not-is_lone-clause-answer
-returns-then-not-is_lone-clause-answer c =
-    sym (ap is_some (joins_none (event_of c.args.report) c.self.inside.log c.self.inside.steps.items c.args.self.now c.args.index c.index.result.now
-    (step_at c.self.inside.log c.self.inside.steps.items c.args.self.now c.args.index c.index.result.now c.self.invariant c.self.view_is c.requires c.index.ensures) c.requires (sym c.is_lone.ensures ∙ c.if-not-is_lone.true)))
+pub returns-then-not-is_lone : goal.returns-then-not-is_lone
+returns-then-not-is_lone c =
+    let h = step_at c.self.inside.log c.self.inside.steps.items c.args.self.now c.args.index c.index.result.now c.self.invariant c.self.view_is c.requires
+    c.index.ensures in
+    let none = joins_none (event_of c.args.report) c.self.inside.log c.self.inside.steps.items c.args.self.now c.args.index c.index.result.now h c.requires
+    (sym c.is_lone.ensures ∙ c.if-not-is_lone.true) in
+    record { answer = sym (ap is_some none); value = subst (λ (o : Option (List Item)). JoinedIn o c.args.self.now c.args.self.now) (sym none) refl; kept = tt }
 
-pub returns-then-not-is_lone-clause-value : goal.returns-then-not-is_lone-clause-value
-returns-then-not-is_lone-clause-value c =
-    subst (λ (o : Option (List Item)). JoinedIn o c.args.self.now c.args.self.now)
-    (sym (joins_none (event_of c.args.report) c.self.inside.log c.self.inside.steps.items c.args.self.now c.args.index c.index.result.now
-    (step_at c.self.inside.log c.self.inside.steps.items c.args.self.now c.args.index c.index.result.now c.self.invariant c.self.view_is c.requires c.index.ensures) c.requires (sym c.is_lone.ensures ∙ c.if-not-is_lone.true))) refl
-
-pub returns-then-not-branch-clause-answer : goal.returns-then-not-branch-clause-answer
-returns-then-not-branch-clause-answer c = sym (ap is_some (left_alone (event_of c.args.report) c.self.inside.log c.join.new.self c.self.inside.steps.items c.args.self.now c.args.index c.index.result.now (step_at c.self.inside.log c.self.inside.steps.items c.args.self.now c.args.index c.index.result.now c.self.invariant c.self.view_is c.requires c.index.ensures) c.requires
-    (sym c.is_lone.ensures ∙ c.if-not-is_lone.false) (sym c.if-not-branch.true ∙ c.in_ok-join.ensures.answer) c.in_ok-join.ensures.value).none)
-
-pub returns-then-not-branch-clause-value : goal.returns-then-not-branch-clause-value
-returns-then-not-branch-clause-value c =
-    let l = (left_alone (event_of c.args.report) c.self.inside.log c.join.new.self c.self.inside.steps.items c.args.self.now c.args.index c.index.result.now (step_at c.self.inside.log c.self.inside.steps.items c.args.self.now c.args.index c.index.result.now c.self.invariant c.self.view_is c.requires c.index.ensures) c.requires
-    (sym c.is_lone.ensures ∙ c.if-not-is_lone.false) (sym c.if-not-branch.true ∙ c.in_ok-join.ensures.answer) c.in_ok-join.ensures.value) in
-    subst (λ (o : Option (List Item)). JoinedIn o c.args.self.now (items_in c.join.new.self c.self.inside.steps.items)) (sym l.none)
-    (ap (λ (es : List Change). items_in es c.self.inside.steps.items) l.same ∙ c.self.view_is)
+pub returns-then-not-branch : goal.returns-then-not-branch
+returns-then-not-branch c =
+    let h = step_at c.self.inside.log c.self.inside.steps.items c.args.self.now c.args.index c.index.result.now c.self.invariant c.self.view_is c.requires
+    c.index.ensures in
+    let l = left_alone (event_of c.args.report) c.self.inside.log c.join.new.self c.self.inside.steps.items c.args.self.now c.args.index c.index.result.now h
+    c.requires
+    (sym c.is_lone.ensures ∙ c.if-not-is_lone.false) (sym c.if-not-branch.true ∙ c.in_ok-join.ensures.answer) c.in_ok-join.ensures.value in
+    record {
+      answer = sym (ap is_some l.1);
+      value = subst (λ (o : Option (List Item)). JoinedIn o c.args.self.now (items_in c.join.new.self c.self.inside.steps.items)) (sym l.1)
+          (ap (λ (es : List Change). items_in es c.self.inside.steps.items) l.0 ∙ c.self.view_is);
+      kept = tt;
+    }
 
 joined : (c : goal.After-truncate) → JoinedOn (event_of c.args.report) c.self.inside.log c.join.new.self c.self.inside.steps.items c.truncate.new.self.items c.args.self.now c.args.index
 joined c =
+    let h = step_at c.self.inside.log c.self.inside.steps.items c.args.self.now c.args.index c.index.result.now c.self.invariant c.self.view_is c.requires
+    c.index.ensures in
     joined_on (event_of c.args.report) c.self.inside.log c.join.new.self c.self.inside.steps.items c.truncate.new.self.items c.args.self.now c.args.index c.index.result.now c.self.invariant c.self.view_is
-    (step_at c.self.inside.log c.self.inside.steps.items c.args.self.now c.args.index c.index.result.now c.self.invariant c.self.view_is c.requires c.index.ensures) c.index.ensures c.requires (sym c.is_lone.ensures ∙ c.if-not-is_lone.false) (sym c.if-not-branch.false ∙ c.in_ok-join.ensures.answer) c.in_ok-join.ensures.value c.truncate.ensures.items
+    h c.index.ensures c.requires (sym c.is_lone.ensures ∙ c.if-not-is_lone.false)
+    (sym c.if-not-branch.false ∙ c.in_ok-join.ensures.answer) c.in_ok-join.ensures.value c.truncate.ensures.items
 
 pub invariant_of-self-2 : goal.invariant_of-self-2
 invariant_of-self-2 c = (joined c).are
 
-pub returns-clause-answer : goal.returns-clause-answer
-returns-clause-answer c = sym (ap is_some (joined c).joined)
-
-pub returns-clause-value : goal.returns-clause-value
-returns-clause-value c =
-    subst (λ (o : Option (List Item)). JoinedIn o c.args.self.now (items_in c.join.new.self c.truncate.new.self.items)) (sym (joined c).joined) refl
+pub returns : goal.returns
+returns c = record {
+  answer = sym (ap is_some (joined c).joined);
+  value = subst (λ (o : Option (List Item)). JoinedIn o c.args.self.now (items_in c.join.new.self c.truncate.new.self.items)) (sym (joined c).joined) refl;
+  kept = tt;
+}

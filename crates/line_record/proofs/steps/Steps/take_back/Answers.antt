@@ -4,16 +4,12 @@ use Rattle.line_record.specs.Items.{TakesBack}
 use Rattle.line_record.proofs.StepsLemmas.{step_at}
 use Rattle.line_record.proofs.steps.Steps.take_back.Goals as goal
 
-pub take_back-requires-clause-order : goal.take_back-requires-clause-order
-take_back-requires-clause-order g c = (step_at c.self.inside.log c.self.inside.steps.items c.args.self.now c.args.index c.index-step.result.now c.self.invariant c.self.view_is c.requires.inside c.index-step.ensures).order
-
-pub take_back-requires-clause-inside : goal.take_back-requires-clause-inside
-take_back-requires-clause-inside g c = (step_at c.self.inside.log c.self.inside.steps.items c.args.self.now c.args.index c.index-step.result.now c.self.invariant c.self.view_is c.requires.inside c.index-step.ensures).inside
-
-pub take_back-requires-clause-stand : goal.take_back-requires-clause-stand
-take_back-requires-clause-stand g c =
-    subst (λ (es : List Change). AllStandIn es (g.L.EditedLine.value c.args.line.now).text)
-    (step_at c.self.inside.log c.self.inside.steps.items c.args.self.now c.args.index c.index-step.result.now c.self.invariant c.self.view_is c.requires.inside c.index-step.ensures).changes c.requires.stand
+pub take_back-requires : goal.take_back-requires
+take_back-requires g c =
+    let h = step_at c.self.inside.log c.self.inside.steps.items c.args.self.now c.args.index c.index-step.result.now c.self.invariant c.self.view_is
+    c.requires.inside c.index-step.ensures in
+    let stand = subst (λ (es : List Change). AllStandIn es (g.L.EditedLine.value c.args.line.now).text) h.changes c.requires.stand in
+    record { order = h.order; inside = h.inside; stand = stand }
 
 pub returns : goal.returns
 returns g c = subst (λ (es : List Change). TakesBack es (g.L.EditedLine.value c.args.line.now) (g.L.EditedLine.value c.take_back.new.line) c.take_back.result)
