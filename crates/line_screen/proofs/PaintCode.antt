@@ -14,6 +14,7 @@ use Rattle.line_screen.specs.Drawing.{Widths, is_letter, drawn_item, split_rows,
 use Rattle.line_screen.specs.Drawing.DrawnItem.{NewRow, Letter}
 use Rattle.line_screen.specs.Colours.{SgrSpan, span_of, spans_in, skip, PaintedItem, letters_in_style, painted_letters, painted_clusters, painted_row, painted_rows, painted_text, bare_letters}
 use Rattle.line_screen.specs.Colours.PaintedItem.{Bare}
+use Rattle.line_screen.proofs.SequenceLemmas.{either}
 use Rattle.line_screen.proofs.StyledTextLemmas.{bare_of, text_unpainted}
 use Rattle.line_screen.specs.declared.drawing.painted.Spans as spans
 use Rattle.line_help.specs.declared.helpers.style.Span as span
@@ -25,9 +26,10 @@ use Rattle.line_screen.proofs.Parts.{all_unpainted, items_painted_after, next_pa
 module _ {Y : Type 0} (one : List ℕ → List ℕ → List Y) (all : List SgrSpan → List ℕ → List Y)
     (step : (s : SgrSpan) (spans : List SgrSpan) (letters : List ℕ) → all (s ∷ spans) letters ≡ one s.style (take s.len letters) ++ all spans (drop s.len letters)) where
   -- the letters of the first span are next
-  pub span_next : (spans behind : List SgrSpan) (s : SgrSpan) (letters front back : List ℕ) (count : ℕ) → spans ≡ s ∷ behind → count ≡ min s.len (length letters)
+  pub span_next : {spans behind : List SgrSpan} {s : SgrSpan} (letters : List ℕ) {front back : List ℕ} {count : ℕ} → spans ≡ s ∷ behind
+      → count ≡ min s.len (length letters)
       → front ≡ take count letters → back ≡ drop count letters → all spans letters ≡ one s.style front ++ all behind back
-  span_next spans behind s letters front back count is counted front_is back_is =
+  span_next {behind = behind} {s = s} letters {front = front} {back = back} is counted front_is back_is =
       let f : front ≡ take s.len letters = front_is ∙ ap (λ k. take k letters) counted ∙ take_min s.len letters in
       let b : back ≡ drop s.len letters = back_is ∙ ap (λ k. drop k letters) counted ∙ drop_min s.len letters in
       ap (λ ss. all ss letters) is ∙ step s behind letters
@@ -59,9 +61,10 @@ pub no_spans : (paints : Mark → List span.Span) (m : Mark) → m ≡ first_mar
 no_spans paints m is none = sym (ap (λ k. map span_of (paints k)) (sym is) ∙ ap (map span_of) none)
 
 -- the next cluster is no letter
-pub next_other : (wide : Widths) (spans later : List SgrSpan) (letters g : List ℕ) (before left : List (List ℕ)) → before ≡ g ∷ left → is_letter g ≡ false → later ≡ skip (length g) (skip (length letters) spans)
+pub next_other : (wide : Widths) (spans : List SgrSpan) {later : List SgrSpan} (letters : List ℕ) {g : List ℕ} {before left : List (List ℕ)} → before ≡ g ∷ left
+    → is_letter g ≡ false → later ≡ skip (length g) (skip (length letters) spans)
     → painted_clusters wide spans letters before ≡ items_painted_after wide spans letters g ++ painted_clusters wide later [] left
-next_other wide spans later letters g before left is other later_is =
+next_other wide spans letters {g = g} {left = left} is other later_is =
     ap (painted_clusters wide spans letters) is
     ∙ ap (λ b. if b then painted_clusters wide spans (letters ++ g) left else (items_painted_after wide spans letters g ++ painted_clusters wide (skip (length g) (skip (length letters) spans)) [] left)) other
     ∙ ap (λ ss. items_painted_after wide spans letters g ++ painted_clusters wide ss [] left) (sym later_is)
@@ -73,15 +76,15 @@ pub record RowSoFar (rest tail : List ℕ) (left : List (List ℕ)) (Holds : Lis
   pub tail_is : tail ≡ concat left
   pub holds : Holds letters
 
-module _ (rest tail : List ℕ) (left : List (List ℕ)) (Holds : List ℕ → Type 0) (h : RowSoFar rest tail left Holds) where
-  pub letters_taken : (count : ℕ) (front : List ℕ) → count ≡ length rest - length tail → front ≡ take count rest → front ≡ h.letters
-  letters_taken count front count_is front_is =
+module _ {rest tail : List ℕ} {left : List (List ℕ)} {Holds : List ℕ → Type 0} (h : RowSoFar rest tail left Holds) where
+  pub letters_taken : {count : ℕ} {front : List ℕ} → count ≡ length rest - length tail → front ≡ take count rest → front ≡ h.letters
+  letters_taken {count} count_is front_is =
       let e : length rest ≡ length h.letters + length tail = ap length h.rest_is ∙ length-append h.letters tail in
       let same : count ≡ length h.letters = omega arith in
       front_is ∙ ap (take count) h.rest_is ∙ take_at h.letters tail count (sym same)
 
-  pub tail_dropped : (g back : List ℕ) (later : List (List ℕ)) → left ≡ g ∷ later → back ≡ drop (length g) tail → back ≡ concat later
-  tail_dropped g back later is back_is = back_is ∙ ap (drop (length g)) (h.tail_is ∙ ap concat is) ∙ drop_at g (concat later) (length g) refl
+  pub tail_dropped : {g back : List ℕ} {later : List (List ℕ)} → left ≡ g ∷ later → back ≡ drop (length g) tail → back ≡ concat later
+  tail_dropped {g} {later = later} is back_is = back_is ∙ ap (drop (length g)) (h.tail_is ∙ ap concat is) ∙ drop_at g (concat later) (length g) refl
 
 -- ---- rows
 
@@ -131,10 +134,6 @@ Plain xs = xs ≡ map Bare (all_unpainted xs)
 plain_append : (xs ys : List PaintedItem) → Plain xs → Plain ys → Plain (xs ++ ys)
 plain_append xs ys h k = ap₂ ◌++◌ h k ∙ sym (map-append Bare (all_unpainted xs) (all_unpainted ys)) ∙ ap (map Bare) (sym (bare_of xs ys))
 
-plain_if : (b : Bool) (xs ys : List PaintedItem) → Plain xs → Plain ys → Plain (if b then xs else ys)
-plain_if true xs ys h k = h
-plain_if false xs ys h k = k
-
 letters_plain : (letters : List ℕ) → Plain (bare_letters letters)
 letters_plain [] = refl
 letters_plain (c ∷ letters) = ap (λ xs. Bare (Letter c) ∷ xs) (letters_plain letters)
@@ -144,11 +143,11 @@ module _ (wide : Widths) where
   clusters_plain letters [] = letters_plain letters
   clusters_plain letters (g ∷ gs) =
       let item = Bare (drawn_item wide g) ∷ [] in
-      plain_if (is_letter g) (painted_clusters wide [] (letters ++ g) gs) ((bare_letters letters ++ item) ++ painted_clusters wide [] [] gs) (clusters_plain (letters ++ g) gs)
+      either Plain (is_letter g) (clusters_plain (letters ++ g) gs)
       (plain_append (bare_letters letters ++ item) (painted_clusters wide [] [] gs) (plain_append (bare_letters letters) item (letters_plain letters) refl) (clusters_plain [] gs))
 
   row_plain : (row : List ℕ) → Plain (painted_row wide [] row)
-  row_plain row = plain_if (list_all is_printable row) (bare_letters row) (painted_clusters wide [] [] (graphemes true row)) (letters_plain row) (clusters_plain [] (graphemes true row))
+  row_plain row = either Plain (list_all is_printable row) (letters_plain row) (clusters_plain [] (graphemes true row))
 
   behind_plain : (rows : List (List ℕ)) → Plain (painted_rows wide false [] rows)
   behind_plain [] = refl

@@ -10,24 +10,20 @@ use Rattle.line_screen.specs.Display.{Placed, cluster_placed_at, right}
 use Rattle.line_screen.specs.Drawing.{DrawnItem, next_row, fit, leave, after_one, place_after, lay_one, blanks, lay_run, DrawnItem.NewRow, DrawnItem.Letter, DrawnItem.Cluster, DrawnItem.Tab}
 use Rattle.line_screen.specs.StyledTexts.{StyledItem, lay}
 use Rattle.line_screen.proofs.Draws.{list_all_since, Fits, AllFit}
+use Rattle.line_screen.proofs.SequenceLemmas.{either}
 
 -- ---- rows
 
-grown_if : (at : Position) (b : Bool) → at.row ≤ (if b then next_row at else at).row
-grown_if at true = omega arith
-grown_if at false = omega arith
-
 pub leave_grows : (columns : ℕ) (at : Position) → at.row ≤ (leave columns at).row
-leave_grows columns at = grown_if at (at.col == columns)
+leave_grows columns at = either (λ (p : Position). at.row ≤ p.row) (at.col == columns) (omega arith) (omega arith)
 
-fit_if : (at : Position) (b : Bool) → at.row ≤ (if b then at else next_row at).row
-fit_if at true = omega arith
-fit_if at false = omega arith
+fit_grows : (columns width : ℕ) (at : Position) → at.row ≤ (fit columns width at).row
+fit_grows columns width at = either (λ (p : Position). at.row ≤ p.row) (nat_le (at.col + width) columns) (omega arith) (omega arith)
 
 one_grows : (columns : ℕ) (item : DrawnItem) (at : Position) → at.row ≤ (after_one columns item at).row
 one_grows columns NewRow at = omega arith
 one_grows columns (Letter c) at = leave_grows columns (right 1 at)
-one_grows columns (Cluster bytes width) at = omega (arith, fit_if at (nat_le (at.col + width) columns), leave_grows columns (right width (fit columns width at)))
+one_grows columns (Cluster bytes width) at = omega (arith, fit_grows columns width at, leave_grows columns (right width (fit columns width at)))
 one_grows columns (Tab apart) at = leave_grows columns (right (tab_width columns apart at.col) at)
 
 pub all_grow : (columns : ℕ) (items : List DrawnItem) (at : Position) → at.row ≤ (place_after columns items at).row

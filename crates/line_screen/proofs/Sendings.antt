@@ -1,12 +1,12 @@
 -- What a call sends that makes others, one after the other.
-use Rattle.std.proofs.Common.{◌≡◌, ℕ, ◌+◌, ◌==◌, nat_le, Bool, List, [], ◌∷◌, ◌++◌, length, ◌∙◌, refl, sym, ap, Result, Ok, Err, IsTrue, if◌then◌else◌, subst, append_assoc, zero, suc, ◌-◌, ◌<◌, ◌≤◌, nat_lt, true, ◌&&◌, arith, false}
+use Rattle.std.proofs.Common.{◌≡◌, ℕ, ◌+◌, ◌==◌, nat_le, Bool, List, [], ◌∷◌, ◌++◌, length, ◌∙◌, refl, sym, ap, Result, Ok, Err, if◌then◌else◌, subst, zero, suc, ◌-◌, ◌<◌, ◌≤◌, nat_lt, true, ◌&&◌, arith, false}
 use Rattle.std.specs.Prelude.{decimal, replicate, take}
 use Rattle.std.specs.Result.{IsErrAnd}
 use Rattle.std.proofs.lemmas.Bool.{ne_eqb, false≢true, and_from, eq-eqb, lt-ltb, le-leb}
 use Rattle.line_config.specs.declared.device.DeviceFailed.{DeviceFailed}
-use Rattle.line_config.specs.Sending.{Takes, TakesSome, Sends}
-use Rattle.line_config.proofs.Taking.{takes_then, some_of_more, some_then, sends_then, sends_cut}
-use Rattle.line_screen.specs.Drawing.{control_sequence, no_style, in_fence, left_col, break_if, break_unless, fitted_col, SendsTo, move_bytes, short_move}
+use Rattle.line_config.specs.Sending.{Sends}
+use Rattle.line_config.proofs.Taking.{Underway, underway_on, underway_some, underway_end, sends_then, sends_refused, sends_flushed, sends_cut}
+use Rattle.line_screen.specs.Drawing.{control_sequence, no_style, in_fence, SendsTo, move_bytes, short_move}
 use Rattle.line_buffer.specs.declared.layout.Position.{Position}
 use Rattle.line_screen.proofs.Parts.{is_step_back}
 
@@ -22,70 +22,95 @@ steps (suc (suc (suc zero))) h = refl
 steps (suc (suc (suc (suc zero)))) h = refl
 steps (suc (suc (suc (suc (suc n))))) h = absurd (omega arith)
 
-module _ {D : Type 0} (held : D → List ℕ) (failed : D → Bool) where
+module _ {D : Type 0} {held : D → List ℕ} {failed : D → Bool} where
+  -- the same bytes
+  pub sends_as : {A E : Type 0} {xs ys : List ℕ} {a b : D} {r : Result A E} → xs ≡ ys → Sends held failed xs a b r → Sends held failed ys a b r
+  sends_as {a = a} {b = b} {r = r} is s = subst (λ bytes. Sends held failed bytes a b r) is s
+
+  -- another answer
+  pub sends_answer : {X Y E F : Type 0} {xs : List ℕ} {a b : D} {x : X} {y : Y} → Sends {A = X} {E = E} held failed xs a b (Ok x)
+      → Sends {A = Y} {E = F} held failed xs a b (Ok y)
+  sends_answer s = record { sent = s.sent; works = s.works; err = tt; begins = tt }
+
+  -- a call was answered, and others send what is left
+  pub sent_then : {X A E F : Type 0} {xs ys : List ℕ} {a b c : D} {x : X} {r : Result A E}
+      → Sends {A = X} {E = F} held failed xs a b (Ok x) → Sends held failed ys b c r → Sends held failed (xs ++ ys) a c r
+  sent_then {xs = xs} {ys = ys} one rest = sends_then held failed xs ys one.sent one.works rest
+
+  -- or nothing is left, and it is passed on
+  pub sent_flushed : {X A E F : Type 0} {xs : List ℕ} {a b c : D} {x : X} {r : Result A E}
+      → Sends {A = X} {E = F} held failed xs a b (Ok x) → Sends held failed [] b c r → Sends held failed xs a c r
+  sent_flushed {xs = xs} one rest = sends_flushed held failed xs one.sent one.works rest
+
+  -- a call failed, and that is the end
+  pub sent_refused : {X A E F : Type 0} {xs : List ℕ} {a b : D} {e : F} {r : Result A E} (Q : E → Type 0)
+      → Sends {A = X} held failed xs a b (Err e) → IsErrAnd r Q → Sends held failed xs a b r
+  sent_refused {xs = xs} Q one refused = sends_refused held failed Q xs refused one.err one.begins
+
+  pub sent_cut : {X A E F : Type 0} {xs : List ℕ} {a b : D} {e : F} {r : Result A E} (Q : E → Type 0) (ys : List ℕ)
+      → Sends {A = X} held failed xs a b (Err e) → IsErrAnd r Q → Sends held failed (xs ++ ys) a b r
+  sent_cut {xs = xs} Q ys one refused = sends_cut held failed Q xs ys refused one.err one.begins
+
   -- a sequence whose number isn't 0
   pub sends_control : {A : Type 0} (count final : ℕ) {a b : D} {r : Result A DeviceFailed}
       → (count ≡ 0 → ⊥) → Sends held failed (0x1B ∷ 0x5B ∷ (decimal count ++ final ∷ [])) a b r → Sends held failed (control_sequence count final) a b r
-  sends_control count final {a = a} {b = b} {r = r} not_none s =
-      let P : Bool → Type 0 = λ none. Sends held failed (if none then [] else (0x1B ∷ 0x5B ∷ (decimal count ++ final ∷ []))) a b r in
-      subst P (sym (ne_eqb count 0 not_none)) s
+  sends_control count final not_none s = sends_as
+      (ap (λ none. if none then [] else (0x1B ∷ 0x5B ∷ (decimal count ++ final ∷ []))) (sym (ne_eqb count 0 not_none))) s
 
   pub sends_steps : {A : Type 0} (old new : Position) (n : ℕ) {a b : D} {r : Result A DeviceFailed} → old.row ≡ new.row → new.col < old.col → n ≤ 4 → n ≡ old.col - new.col
       → Sends held failed (take n four_steps) a b r → Sends held failed (short_move old new) a b r
-  sends_steps old new n {a = a} {b = b} {r = r} row low few is s =
+  sends_steps old new n row low few is s =
       let back : is_step_back old new ≡ true =
       and_from (old.row == new.row) (nat_lt new.col old.col && nat_le old.col (new.col + 4)) (eq-eqb old.row new.row row)
       (and_from (nat_lt new.col old.col) (nat_le old.col (new.col + 4)) (lt-ltb new.col old.col low) (le-leb old.col (new.col + 4) (omega arith))) in
-      subst (λ bytes. Sends held failed bytes a b r) (steps n few ∙ ap (λ m. replicate m 0x08) is ∙ ap (λ t. if t then replicate (old.col - new.col) 0x08 else move_bytes old new) (sym back)) s
+      sends_as (steps n few ∙ ap (λ m. replicate m 0x08) is ∙ ap (λ t. if t then replicate (old.col - new.col) 0x08 else move_bytes old new) (sym back)) s
 
   -- the same, where a column is answered
-  pub sends_to_then : (column columns : ℕ) (xs ys : List ℕ) {a b c : D} {r : Result ℕ DeviceFailed}
-      → Takes held a b xs → failed b ≡ failed a → SendsTo ys column columns held failed b c r → SendsTo (xs ++ ys) column columns held failed a c r
-  sends_to_then column columns xs ys took works s = record { sends = sends_then held failed xs ys took works s.sends; next = s.next; inside = s.inside }
+  pub sent_to_then : {X F : Type 0} {xs ys : List ℕ} {column columns : ℕ} {a b c : D} {x : X} {r : Result ℕ DeviceFailed}
+      → Sends {A = X} {E = F} held failed xs a b (Ok x) → SendsTo ys column columns held failed b c r → SendsTo (xs ++ ys) column columns held failed a c r
+  sent_to_then one rest = record { sends = sent_then one rest.sends; next = rest.next; inside = rest.inside }
 
-  pub sends_to_cut : (Q : DeviceFailed → Type 0) (column columns : ℕ) (xs ys : List ℕ) {a b : D} {r : Result ℕ DeviceFailed}
-      → IsErrAnd r Q → IsTrue (failed b) → TakesSome held a b xs → SendsTo (xs ++ ys) column columns held failed a b r
-  sends_to_cut Q column columns xs ys {a = a} {b = b} {r = Ok x} refused fails some = absurd refused
-  sends_to_cut Q column columns xs ys {a = a} {b = b} {r = Err e} refused fails some = record { sends = sends_cut held failed Q xs ys {a = a} {b = b} {r = Err e} refused fails some; next = tt; inside = tt }
+  pub sent_to_refused : {X F : Type 0} {xs : List ℕ} {column columns : ℕ} {a b : D} {e : F} {r : Result ℕ DeviceFailed} (Q : DeviceFailed → Type 0)
+      → Sends {A = X} held failed xs a b (Err e) → IsErrAnd r Q → SendsTo xs column columns held failed a b r
+  sent_to_refused {r = Ok x} Q one refused = absurd refused
+  sent_to_refused {r = Err e} Q one refused = record { sends = sent_refused Q one refused; next = tt; inside = tt }
 
-  -- ---- a cluster between sequences: space for it, what is sent of it, and the end of a full row
-  module _ (columns width col : ℕ) (fence : List ℕ) where
-    abbrev front : List ℕ
-    front = break_unless (nat_le (col + width) columns)
+  pub sent_to_cut : {X F : Type 0} {xs : List ℕ} {column columns : ℕ} {a b : D} {e : F} {r : Result ℕ DeviceFailed} (Q : DeviceFailed → Type 0) (ys : List ℕ)
+      → Sends {A = X} held failed xs a b (Err e) → IsErrAnd r Q → SendsTo (xs ++ ys) column columns held failed a b r
+  sent_to_cut {r = Ok x} Q ys one refused = absurd refused
+  sent_to_cut {r = Err e} Q ys one refused = record { sends = sent_cut Q ys one refused; next = tt; inside = tt }
 
-    abbrev behind : List ℕ
-    behind = break_if (fitted_col columns width col + width == columns)
+  -- ---- piece after piece: of all of it this is still to be sent
 
-    abbrev at_last : ℕ
-    at_last = left_col columns (fitted_col columns width col + width)
+  -- the next call sends all that is left
+  pub sends_rest : {A E : Type 0} {all before rest : List ℕ} {a b c : D} {r : Result A E} → Underway held failed all before a b → before ≡ rest
+      → Sends held failed rest b c r → Sends held failed all a c r
+  sends_rest {rest = rest} u is s = sends_as (sym (u.split ∙ ap (λ bs. u.done ++ bs) is)) (sends_then held failed u.done rest u.taken u.works s)
 
-    abbrev SendsFence : D → D → Result ℕ DeviceFailed → Type 0
-    SendsFence a b r = SendsTo (front ++ fence ++ behind) at_last columns held failed a b r
+  -- all of it was sent
+  pub sends_end : {A E : Type 0} {all before : List ℕ} {a b : D} {x : A} → Underway held failed all before a b → before ≡ []
+      → Sends {A = A} {E = E} held failed all a b (Ok x)
+  sends_end {all = all} {a = a} {b = b} u is = record {
+    sent = underway_end held failed all (subst (λ rest. Underway held failed all rest a b) is u);
+    works = u.works;
+    err = tt;
+    begins = tt;
+  }
 
-    pub no_room : (Q : DeviceFailed → Type 0) {a b : D} {r : Result ℕ DeviceFailed} → IsErrAnd r Q → IsTrue (failed b) → TakesSome held a b front → SendsFence a b r
-    no_room Q {a = a} {b = b} refused fails some = sends_to_cut Q at_last columns (front ++ fence) behind refused fails (some_of_more held a b front fence some)
+  -- a part of what is left was sent, or some of it
+  pub sends_part : {X A E F : Type 0} {all before piece : List ℕ} {a b c : D} {e : F} {r : Result A E} (Q : E → Type 0) (rest : List ℕ)
+      → Underway held failed all before a b → before ≡ piece ++ rest
+      → Sends {A = X} held failed piece b c (Err e) → IsErrAnd r Q → Sends held failed all a c r
+  sends_part {all = all} {piece = piece} {a = a} {b = b} Q rest u is s refused =
+      sends_refused held failed Q all refused s.err (underway_some held failed all piece rest (subst (λ left. Underway held failed all left a b) is u) s.begins)
 
-    pub no_text : (Q : DeviceFailed → Type 0) {a b c : D} {r : Result ℕ DeviceFailed} → IsErrAnd r Q
-        → Takes held a b front → IsTrue (failed c) → TakesSome held b c fence → SendsFence a c r
-    no_text Q {a = a} {b = b} {c = c} refused took fails some =
-        sends_to_cut Q at_last columns (front ++ fence) behind refused fails (some_then held a b c front fence took some)
-
-    pub all_of_it : {a b c d : D} {r : Result ℕ DeviceFailed} → Takes held a b front → failed b ≡ failed a → Takes held b c fence → failed c ≡ failed b
-        → SendsTo behind at_last columns held failed c d r → SendsFence a d r
-    all_of_it {a = a} {b = b} {c = c} took works took_text works_on s =
-        sends_to_then at_last columns (front ++ fence) behind (takes_then held a b c front fence took took_text) (works_on ∙ works) s
+  -- and the piece was sent
+  pub underway_then : {X F : Type 0} {all before piece rest : List ℕ} {a b c : D} {x : X} → Underway held failed all before a b → before ≡ piece ++ rest
+      → Sends {A = X} {E = F} held failed piece b c (Ok x) → Underway held failed all rest a c
+  underway_then {all = all} {piece = piece} {rest = rest} {a = a} {b = b} u is s =
+      underway_on held failed all piece rest (subst (λ left. Underway held failed all left a b) is u) s.sent s.works
 
 -- a text's fence
 pub fence_of : (text bytes : List ℕ) → false ≡ (length text == 0) → in_fence text bytes ≡ (no_style ++ bytes) ++ no_style
 fence_of [] bytes some = absurd (false≢true some)
 fence_of (c ∷ text) bytes some = refl
-
--- parts that each begin without style, and the end
-pub shown_parts : (prompt line info : List ℕ)
-    → (no_style ++ prompt) ++ ((no_style ++ line) ++ ((no_style ++ info) ++ no_style)) ≡ no_style ++ prompt ++ no_style ++ line ++ no_style ++ info ++ no_style
-shown_parts prompt line info =
-    let a = no_style ++ prompt in
-    let b = a ++ no_style ++ line in
-    let last = (no_style ++ info) ++ no_style in
-    sym (append_assoc a (no_style ++ line) last) ∙ (ap (λ zs. zs ++ last) (sym (append_assoc a no_style line))
-    ∙ (sym (append_assoc b (no_style ++ info) no_style) ∙ ap (λ zs. zs ++ no_style) (sym (append_assoc b no_style info))))

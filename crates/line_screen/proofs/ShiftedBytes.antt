@@ -1,22 +1,10 @@
 -- The bytes of letters that move in their rows, row by row.
-use Rattle.std.proofs.Common.{◌≡◌, ℕ, zero, suc, ◌+◌, ◌-◌, ◌<◌, ◌≤◌, Bool, true, false, List, [], ◌∷◌, ◌++◌, length, get_or, take, drop, inl, inr, Some, None, Result, Ok, refl, sym, ap, ◌∙◌, subst, arith, append_assoc, append-nil, length-append, length-drop}
+use Rattle.std.proofs.Common.{◌≡◌, ℕ, zero, suc, ◌+◌, ◌-◌, ◌<◌, ◌≤◌, Bool, true, false, List, [], ◌∷◌, ◌++◌, length, get_or, take, drop, inl, inr, Some, None, refl, sym, ap, ◌∙◌, arith, append_assoc, append-nil, length-append, length-drop}
 use Rattle.std.specs.List.{slice_get}
 use Rattle.std.proofs.lemmas.Bool.{ne_eqb, eq-eqb, le-leb, lt-leb, cases_lt}
 use Rattle.std.proofs.lemmas.List.{drop-append-le, take-append-drop, length-take-le}
-use Rattle.line_config.specs.Sending.{Takes, Sends}
-use Rattle.line_config.proofs.Taking.{Underway, sends_then}
 use Rattle.line_screen.specs.Drawing.{row_break, take_cells_out, col_move, put_in, pushed_on, put_and_pushed, insertion_bytes, pulled_back}
-use Rattle.line_screen.proofs.Parts.{begin_inserting, end_inserting, deletion_bytes, refilled}
-
-module _ {D : Type 0} (held : D → List ℕ) (failed : D → Bool) where
-  pub sends_all : {A E : Type 0} (bytes : List ℕ) {a b : D} (x : A) → Takes held a b bytes → failed b ≡ failed a → Sends {A = A} {E = E} held failed bytes a b (Ok x)
-  sends_all bytes x took works = record { sent = took; works = works; err = tt; begins = tt }
-
-  -- what is left is sent
-  pub underway_sends : {A E : Type 0} (all rest : List ℕ) {a b c : D} {r : Result A E}
-      → Underway held failed all rest a b → Sends held failed rest b c r → Sends held failed all a c r
-  underway_sends all rest {a = a} {b = b} {c = c} {r = r} u s =
-      subst (λ bytes. Sends held failed bytes a c r) (sym u.split) (sends_then held failed u.done rest u.taken u.works s)
+use Rattle.line_screen.proofs.Parts.{begin_inserting, end_inserting, refilled}
 
 -- ---- letters that move on
 
@@ -39,18 +27,23 @@ pushed_out inserting columns col (c ∷ d ∷ cs) next low some is =
     (pushed_out inserting columns (col + 1) (d ∷ cs) next (omega arith) (omega arith) (omega arith))
 
 -- a full row, and the last one
-pushed_row : (inserting : Bool) (columns : ℕ) (row next : List ℕ) → 0 < columns → length row ≡ columns
+full_row : (inserting : Bool) (columns : ℕ) (row next : List ℕ) → 0 < columns → length row ≡ columns
     → pushed_on inserting columns 0 (row ++ next) ≡ put_in inserting (get_or row 0 0 ∷ []) ++ (row_break ++ pushed_on inserting columns 0 next)
-pushed_row inserting columns [] next some is = absurd (omega arith)
-pushed_row inserting columns (c ∷ []) next some is =
+full_row inserting columns [] next some is = absurd (omega arith)
+full_row inserting columns (c ∷ []) next some is =
     rw (eq-eqb (0 + 1) columns (omega arith)) (append_assoc (put_in inserting (c ∷ [])) row_break (pushed_on inserting columns 0 next))
-pushed_row inserting columns (c ∷ d ∷ cs) next some is =
+full_row inserting columns (c ∷ d ∷ cs) next some is =
     let first = put_in inserting (c ∷ []) in
     rw (ne_eqb (0 + 1) columns (λ s. omega arith))
     (ap (λ bs. bs ++ pushed_on inserting columns 1 (d ∷ (cs ++ next))) (append-nil first)
     ∙ ap (λ bs. first ++ bs) (pushed_out inserting columns 1 (d ∷ cs) next (omega arith) (omega arith) (omega arith)))
 
-pushed_last : (inserting : Bool) (columns c : ℕ) (xs : List ℕ) → length xs < columns → Some c ≡ slice_get xs 0 → pushed_on inserting columns 0 xs ≡ put_in inserting (c ∷ [])
+pub pushed_row : (inserting : Bool) (columns : ℕ) (row next : List ℕ) {before : List ℕ} → before ≡ row ++ next → 0 < columns → length row ≡ columns
+    → pushed_on inserting columns 0 before ≡ put_in inserting (get_or row 0 0 ∷ []) ++ (row_break ++ pushed_on inserting columns 0 next)
+pushed_row inserting columns row next is some full = ap (pushed_on inserting columns 0) is ∙ full_row inserting columns row next some full
+
+pub pushed_last : (inserting : Bool) (columns c : ℕ) (xs : List ℕ) → length xs < columns → Some c ≡ slice_get xs 0
+    → pushed_on inserting columns 0 xs ≡ put_in inserting (c ∷ [])
 pushed_last inserting columns c [] short first = absurd (cc)
 pushed_last inserting columns c (x ∷ xs) short first =
     let same : x ≡ c = cc in
@@ -59,7 +52,7 @@ pushed_last inserting columns c (x ∷ xs) short first =
     (ap (λ bs. (one ++ []) ++ bs) (pushed_inside inserting columns 1 (columns - 1) xs (omega arith) (omega arith) (omega arith))
     ∙ append-nil (one ++ []) ∙ append-nil one ∙ ap (λ y. put_in inserting (y ∷ [])) same)
 
-pushed_none : (inserting : Bool) (columns : ℕ) (xs : List ℕ) → None ≡ slice_get xs 0 → pushed_on inserting columns 0 xs ≡ []
+pub pushed_none : (inserting : Bool) (columns : ℕ) (xs : List ℕ) → None ≡ slice_get xs 0 → pushed_on inserting columns 0 xs ≡ []
 pushed_none inserting columns [] none = refl
 pushed_none inserting columns (x ∷ xs) none = absurd (cc)
 
@@ -85,9 +78,6 @@ pub inserted_on : (inserting : Bool) (columns col n : ℕ) (character rest : Lis
 inserted_on inserting columns col n character rest inside is long =
     ap (put_and_pushed inserting columns col character) (sym (take-append-drop n rest))
     ∙ inserted_row inserting columns col character (take n rest) (drop n rest) inside (length-take-le n rest long ∙ is)
-
-pub put_in_by : (inserting : Bool) (character : List ℕ) (b : Bool) → inserting ≡ b → put_in b character ≡ put_in inserting character
-put_in_by inserting character b is = ap (λ x. put_in x character) (sym is)
 
 -- insert mode is begun for them, or not
 pub not_inserting : (columns col : ℕ) (character rest : List ℕ) → length rest + col < columns + columns → insertion_bytes columns col character rest ≡ put_and_pushed false columns col character rest
@@ -184,21 +174,23 @@ refilled_then columns count start row behind some =
     ∙ ap (λ bs. bs ++ behind) (sym (refilled_some columns count start row some))
 
 -- a full row
-pulled_row : (columns count start : ℕ) (row next : List ℕ) → 0 < count → start + count ≤ columns → length row ≡ columns - start
-    → pulled_back columns count start start (row ++ next) ≡ refilled columns count start row ++ (row_break ++ pulled_back columns count 0 0 next)
-pulled_row columns count start row next some room full =
+pub pulled_row : (columns count start : ℕ) (row next : List ℕ) {before : List ℕ} → before ≡ row ++ next → 0 < count → start + count ≤ columns
+    → length row ≡ columns - start
+    → pulled_back columns count start start before ≡ refilled columns count start row ++ (row_break ++ pulled_back columns count 0 0 next)
+pulled_row columns count start row next is some room full =
     let kept = columns - start - count in
     let behind = row_break ++ pulled_back columns count 0 0 next in
     let low : kept ≤ length row = omega arith in
     let over : kept < length row = omega arith in
     let left : length (drop kept row) ≡ count = length-drop kept row ∙ omega arith in
-    pulled_over columns count start start kept (row ++ next) some (omega arith) (omega (arith, length-append row next))
+    ap (pulled_back columns count start start) is
+    ∙ pulled_over columns count start start kept (row ++ next) some (omega arith) (omega (arith, length-append row next))
     ∙ ap (λ xs. take_cells_out count ++ (col_move start (columns - count) ++ drawn_back columns count count xs)) (drop-append-le kept row next low)
     ∙ ap (λ bs. take_cells_out count ++ (col_move start (columns - count) ++ bs)) (drawn_row columns count count (drop kept row) next left)
     ∙ refilled_then columns count start row behind over
 
 -- the last row
-pulled_last : (columns count start : ℕ) (rest : List ℕ) → 0 < count → start + count ≤ columns → length rest < columns - start
+pub pulled_last : (columns count start : ℕ) (rest : List ℕ) → 0 < count → start + count ≤ columns → length rest < columns - start
     → pulled_back columns count start start rest ≡ refilled columns count start rest ++ take_cells_out count
 pulled_last columns count start rest some room short =
     let kept = columns - start - count in
@@ -211,33 +203,3 @@ pulled_last columns count start rest some room short =
           pulled_kept columns count start start kept rest some (omega arith) none
           ∙ sym (ap (λ bs. bs ++ take_cells_out count) (refilled_none columns count start rest none))
     ]
-
--- ---- loops over rows: of all that is sent this is left
-
-module _ {D : Type 0} (held : D → List ℕ) (failed : D → Bool) (all : List ℕ) where
-  pub pushes_row : (inserting : Bool) (columns : ℕ) (row next before : List ℕ) {a b : D} → Underway held failed all (pushed_on inserting columns 0 before) a b
-      → before ≡ row ++ next → 0 < columns → length row ≡ columns → Underway held failed all (put_in inserting (get_or row 0 0 ∷ []) ++ (row_break ++ pushed_on inserting columns 0 next)) a b
-  pushes_row inserting columns row next before {a = a} {b = b} u split some full =
-      subst (λ bytes. Underway held failed all bytes a b) (ap (pushed_on inserting columns 0) split ∙ pushed_row inserting columns row next some full) u
-
-  pub pushes_last : (inserting : Bool) (columns c : ℕ) (xs : List ℕ) {a b : D} → Underway held failed all (pushed_on inserting columns 0 xs) a b
-      → length xs < columns → Some c ≡ slice_get xs 0 → Underway held failed all (put_in inserting (c ∷ [])) a b
-  pushes_last inserting columns c xs {a = a} {b = b} u short first =
-      subst (λ bytes. Underway held failed all bytes a b) (pushed_last inserting columns c xs short first) u
-
-  pub pushes_none : (inserting : Bool) (columns : ℕ) (xs : List ℕ) {a b : D} → Underway held failed all (pushed_on inserting columns 0 xs) a b
-      → None ≡ slice_get xs 0 → Underway held failed all [] a b
-  pushes_none inserting columns xs {a = a} {b = b} u none = subst (λ bytes. Underway held failed all bytes a b) (pushed_none inserting columns xs none) u
-
-  pub pulls_row : (columns count start : ℕ) (row next before : List ℕ) {a b : D} → Underway held failed all (deletion_bytes columns count start before) a b
-      → before ≡ row ++ next → 0 < count → start + count ≤ columns → length row ≡ columns - start
-      → Underway held failed all (refilled columns count start row ++ (row_break ++ deletion_bytes columns count 0 next)) a b
-  pulls_row columns count start row next before {a = a} {b = b} u split some room full =
-      subst (λ bytes. Underway held failed all bytes a b)
-      (ap (deletion_bytes columns count start) split ∙ pulled_row columns count start row next some room full) u
-
-  pub pulls_last : (columns count start : ℕ) (rest : List ℕ) {a b : D} → Underway held failed all (deletion_bytes columns count start rest) a b
-      → 0 < count → start + count ≤ columns → length rest < columns - start
-      → Underway held failed all (refilled columns count start rest ++ take_cells_out count) a b
-  pulls_last columns count start rest {a = a} {b = b} u some room short =
-      subst (λ bytes. Underway held failed all bytes a b) (pulled_last columns count start rest some room short) u

@@ -1,5 +1,5 @@
 -- The numbers of a style are digits and semicolons, and there are none where it is plain.
-use Rattle.std.proofs.Common.{◌≡◌, ℕ, ◌+◌, ◌/◌, ◌%◌, ◌^◌, ◌<◌, ◌≤◌, ◌==◌, ◌&&◌, not, Bool, true, false, List, [], ◌∷◌, ◌++◌, length, map, decimal, Result, refl, sym, ap, ◌∙◌, subst, arith, if◌then◌else◌}
+use Rattle.std.proofs.Common.{◌≡◌, ℕ, ◌+◌, ◌/◌, ◌%◌, ◌^◌, ◌<◌, ◌≤◌, ◌==◌, ◌&&◌, not, Bool, true, false, List, [], ◌∷◌, ◌++◌, length, map, decimal, refl, sym, ap, ◌∙◌, arith, if◌then◌else◌}
 use Rattle.std.proofs.lemmas.Bool.{and_from, eqb-true, ne_eqb}
 use Rattle.std.proofs.lemmas.Bool.Decides.{nat_tests}
 use Rattle.std.proofs.lemmas.Fmt.{decimal_by_steps, decimal_digit, decimal_step}
@@ -10,7 +10,6 @@ use Rattle.line_help.specs.declared.helpers.style.Hue.{Hue}
 use Rattle.line_help.specs.declared.helpers.style.Hue.TheVariants as hues
 use Rattle.line_help.specs.declared.helpers.style.Span as span
 use Rattle.line_help.specs.declared.helpers.style.Style.{Style}
-use Rattle.line_config.specs.Sending.{Sends}
 use Rattle.line_editor.specs.Sights.{PartSpans}
 use Rattle.line_screen.specs.ScreenCalls.{styles_of}
 use Rattle.line_screen.specs.Display.{is_parameter}
@@ -115,13 +114,7 @@ three_digits n hundred low = ap (λ m. 0x3B ∷ decimal m) (no_carry n low)
 
 pub hue_digits : (hue : Hue) → number (30 + hue_number hue) ≡ 0x3B ∷ (0x33 ∷ ((48 + hue_number hue) ∷ []))
 hue_digits hues.Black = two_digits 30 (omega arith) (omega arith)
-hue_digits hues.Red = two_digits 31 (omega arith) (omega arith)
-hue_digits hues.Green = two_digits 32 (omega arith) (omega arith)
-hue_digits hues.Yellow = two_digits 33 (omega arith) (omega arith)
-hue_digits hues.Blue = two_digits 34 (omega arith) (omega arith)
-hue_digits hues.Magenta = two_digits 35 (omega arith) (omega arith)
-hue_digits hues.Cyan = two_digits 36 (omega arith) (omega arith)
-hue_digits hues.White = two_digits 37 (omega arith) (omega arith)
+hue_digits hue = two_digits (30 + hue_number hue) (omega arith) (omega arith)
 
 pub no_flag : (n : ℕ) → n ≡ 0 → flag_number n ≡ []
 no_flag n h = ap flag_number h
@@ -131,9 +124,6 @@ flag_digit n some low = ap (λ b. if b then [] else number n) (ne_eqb n 0 some) 
 
 -- ---- what is sent
 
-none_sent : (style : List ℕ) → true ≡ (length style == 0) → style_bytes style ≡ no_style
+pub none_sent : (style : List ℕ) → true ≡ (length style == 0) → style_bytes style ≡ no_style
 none_sent [] h = refl
 none_sent (p ∷ style) h = let none = eqb-true (length (p ∷ style)) 0 (sym h) in absurd (omega arith)
-
-pub sends_plain : {D A E : Type 0} (held : D → List ℕ) (failed : D → Bool) (style : List ℕ) {a b : D} {r : Result A E} → true ≡ (length style == 0) → Sends held failed no_style a b r → Sends held failed (style_bytes style) a b r
-sends_plain held failed style {a = a} {b = b} {r = r} plain s = subst (λ x. Sends held failed x a b r) (sym (none_sent style plain)) s

@@ -10,10 +10,11 @@ use Rattle.line_buffer.specs.declared.layout.Position.{Position}
 use Rattle.line_screen.specs.Colours.{SgrSpan, is_style, are_styles, skip, first_style, PaintedItem, items_without_style, bare_letters, letters_in_style, painted_letters, painted_item, painted_clusters, painted_row, painted_rows, painted_text, bytes_of_all_painted}
 use Rattle.line_screen.specs.Colours.PaintedItem.{Bare, Begins, Shaded, Fenced, Padded}
 use Rattle.line_screen.specs.Display.{Placed, DisplayReading, reading_after_bytes, is_printable}
-use Rattle.line_screen.specs.Drawing.{Widths, DrawnItem, is_letter, is_tab, drawn_cluster, item_of_cluster, drawn_item, row_items, join_rows, split_rows, text_items, lay_one, after_one, place_after}
+use Rattle.line_screen.specs.Drawing.{Widths, DrawnItem, is_letter, is_tab, drawn_cluster, item_of_cluster, drawn_item, row_items, join_rows, split_rows, text_items, place_after}
 use Rattle.line_screen.specs.Drawing.DrawnItem.{NewRow, Letter, Cluster, Tab}
 use Rattle.line_screen.specs.StyledTexts.{byte_styles, first_of, StyledItem, row_clusters, styled_clusters, styled_rows, styled_text, lay}
-use Rattle.line_screen.proofs.Draws.{D, Open, Ready, AllFit, AllPainted, AllPens, pen_after_one, pen_after, lay_painted, draws}
+use Rattle.line_screen.proofs.Draws.{D, Open, Ready, AllFit, AllPainted, AllPens, pen_after_one, pen_after, lay_painted, lay_painted_one, draws}
+use Rattle.line_screen.proofs.SequenceLemmas.{either}
 use Rattle.line_screen.proofs.Parts.{all_unpainted, items_painted_after}
 
 -- ---- the items with styles of what is drawn
@@ -33,11 +34,8 @@ all_styled xs = flat_map one_styled xs
 
 pub lay_all : (columns : ℕ) (xs : List PaintedItem) (at : Position) → lay_painted columns xs at ≡ lay columns (all_styled xs) at
 lay_all columns [] at = refl
-lay_all columns (Bare item ∷ xs) at = ap (λ ys. lay_one columns [] item at ++ ys) (lay_all columns xs (after_one columns item at))
 lay_all columns (Begins style ∷ xs) at = lay_all columns xs at
-lay_all columns (Shaded style c ∷ xs) at = ap (λ ys. lay_one columns style (Letter c) at ++ ys) (lay_all columns xs (after_one columns (Letter c) at))
-lay_all columns (Fenced style bytes width ∷ xs) at = ap (λ ys. lay_one columns style (Cluster bytes width) at ++ ys) (lay_all columns xs (after_one columns (Cluster bytes width) at))
-lay_all columns (Padded style apart ∷ xs) at = ap (λ ys. lay_one columns style (Tab apart) at ++ ys) (lay_all columns xs (after_one columns (Tab apart) at))
+lay_all columns (x ∷ xs) at = ap (λ ys. lay_painted_one columns x at ++ ys) (lay_all columns xs (place_after columns (items_without_style x) at))
 
 -- the same without styles
 abbrev pub bare_items : List StyledItem → List DrawnItem
@@ -45,11 +43,8 @@ bare_items xs = map (λ x. x.item) xs
 
 bare_are : (xs : List PaintedItem) → all_unpainted xs ≡ bare_items (all_styled xs)
 bare_are [] = refl
-bare_are (Bare item ∷ xs) = ap (λ ys. item ∷ ys) (bare_are xs)
 bare_are (Begins style ∷ xs) = bare_are xs
-bare_are (Shaded style c ∷ xs) = ap (λ ys. Letter c ∷ ys) (bare_are xs)
-bare_are (Fenced style bytes width ∷ xs) = ap (λ ys. Cluster bytes width ∷ ys) (bare_are xs)
-bare_are (Padded style apart ∷ xs) = ap (λ ys. Tab apart ∷ ys) (bare_are xs)
+bare_are (x ∷ xs) = ap (λ ys. items_without_style x ++ ys) (bare_are xs)
 
 pub bare_of : (xs ys : List PaintedItem) → all_unpainted (xs ++ ys) ≡ all_unpainted xs ++ all_unpainted ys
 bare_of [] ys = refl
@@ -185,26 +180,17 @@ first_is : (spans : List SgrSpan) → first_style spans ≡ first_of (byte_style
 first_is [] = refl
 first_is (s ∷ spans) = first_if s.len s.style (byte_styles spans) (first_style spans) (first_is spans)
 
-left_if : (n : ℕ) (s : SgrSpan) (spans : List SgrSpan) → is_style s.style ≡ true → are_styles spans ≡ true → are_styles (skip (n - s.len) spans) ≡ true → (b : Bool)
-    → are_styles (if b then (record { len = s.len - n; style = s.style } ∷ spans) else skip (n - s.len) spans) ≡ true
-left_if n s spans is h k true = and_from _ _ is h
-left_if n s spans is h k false = k
-
 pub skip_styles : (n : ℕ) (spans : List SgrSpan) → are_styles spans ≡ true → are_styles (skip n spans) ≡ true
 skip_styles n [] h = refl
 skip_styles n (s ∷ spans) h =
     let parts = and_parts (is_style s.style) (are_styles spans) h in
-    left_if n s spans parts.0 parts.1 (skip_styles (n - s.len) spans parts.1) (nat_lt n s.len)
-
-style_if : (s : SgrSpan) (spans : List SgrSpan) → is_style s.style ≡ true → is_style (first_style spans) ≡ true → (b : Bool) → is_style (if b then first_style spans else s.style) ≡ true
-style_if s spans is h true = h
-style_if s spans is h false = is
+    either (λ ss. are_styles ss ≡ true) (nat_lt n s.len) (and_from _ _ parts.0 parts.1) (skip_styles (n - s.len) spans parts.1)
 
 first_is_style : (spans : List SgrSpan) → are_styles spans ≡ true → is_style (first_style spans) ≡ true
 first_is_style [] h = refl
 first_is_style (s ∷ spans) h =
     let parts = and_parts (is_style s.style) (are_styles spans) h in
-    style_if s spans parts.0 (first_is_style spans parts.1) (s.len == 0)
+    either (λ style. is_style style ≡ true) (s.len == 0) (first_is_style spans parts.1) parts.0
 
 -- ---- clusters
 

@@ -14,19 +14,19 @@ use Rattle.line_buffer.specs.declared.layout.Position.{Position}
 use Rattle.line_config.specs.declared.settings.BellStyle.{BellStyle}
 use Rattle.line_config.specs.declared.settings.BellStyle.TheVariants as Bells
 use Rattle.line_editor.specs.RenderCalls.{Call, Ruler}
-use Rattle.line_editor.specs.RenderCalls.Call.{Draw, Move, Write, Beep, ClearScreen, ClearRows, ClearToEol, MoveAndClearToEol, InsertChar, MoveAndDelete, Append, DrawRest, ToLeftmost, Help, WriteOver}
-use Rattle.line_editor.specs.Redraws.{Redraw, RedrawCalls, calls_of_redraw, full, rest_call, info_text, may_write_over, may_take, may_erase, may_put_in, may_take_out, nothing_asked, erase_call}
-use Rattle.line_editor.proofs.ShortCalls.{move_call, char_call, append_call, put_in_short, taken_out_short, write_over_call}
-use Rattle.line_editor.specs.Redraws.Redraw.{Drawn, DrawnFrom, Moved, Typed, Appended, Taken, Erased, PutIn, TakenOut, Bared, ToEnd, Beeped, Cleared, Rewritten}
+use Rattle.line_editor.specs.RenderCalls.Call.{Draw, Move, Write, Beep, ClearRows, MoveAndClearToEol, InsertChar, MoveAndDelete, Append, DrawRest, WriteOver}
+use Rattle.line_editor.specs.Redraws.{Redraw, RedrawCalls, calls_of_redraw, info_text, may_write_over, may_take, may_erase, may_put_in, may_take_out}
+use Rattle.line_editor.specs.Redraws.Redraw.{Moved, Typed, Appended, Taken, Erased, PutIn, TakenOut, Bared, ToEnd, Rewritten}
 use Rattle.line_editor.specs.Values.{shown_marks}
 use Rattle.line_screen.specs.ScreenCalls.{Screen, bytes_of, bell_bytes, old_row, ruler_of, widths}
 use Rattle.line_screen.specs.Chain.{View, Good, Picture, Inside, Replaces, LeadsView, TakesOut, DrawsRest, picture_of_line, cursor_of}
 use Rattle.line_screen.specs.Laws.{OnEachScreen, BeginsNoStyle, has_no_marks, UnmarkedCallsBeginNone, ScreensWithoutColours, Uncoloured}
 use Rattle.line_screen.specs.Colours.{no_styles, painted_text, bytes_of_all_painted, rest_drawing}
 use Rattle.line_screen.specs.Display.{Placed, is_text, right}
-use Rattle.line_screen.specs.Drawing.{DrawnItem, Widths, blanks, text_items, no_style, in_fence, break_if, break_unless, fitted_col, bytes_of_item, col_after_one, bytes_of_items, col_after, control_sequence, erase_to_end, erase_to_row_end, take_cells_out, row_break, left_col, put_in, pushed_on, put_and_pushed, insertion_bytes, pulled_back, place_after_insertion, place_after_deletion, row_move, col_move, move_bytes, clearing_bytes, shown_text, short_move}
+use Rattle.line_screen.specs.Drawing.{DrawnItem, Widths, text_items, no_style, in_fence, break_if, fitted_col, bytes_of_item, col_after_one, bytes_of_items, col_after, control_sequence, erase_to_end, erase_to_row_end, take_cells_out, row_break, left_col, put_in, pushed_on, put_and_pushed, insertion_bytes, pulled_back, place_after_insertion, place_after_deletion, move_bytes, clearing_bytes, shown_text, short_move}
 use Rattle.line_screen.specs.Drawing.DrawnItem.{NewRow, Letter, Cluster, Tab}
 use Rattle.line_screen.specs.Measure.{cluster_width, widths_by, in_row}
+use Rattle.line_screen.proofs.SequenceLemmas.{either}
 use Rattle.line_screen.proofs.Standing.{printable_text}
 use Rattle.line_screen.proofs.Draws.{Fits, AllFit, list_all_since}
 use Rattle.line_screen.proofs.Fitting.{items_fit, fit_append, after_inside, drawable}
@@ -35,10 +35,10 @@ use Rattle.line_screen.proofs.Moves.{place}
 use Rattle.line_screen.proofs.PlainDrawing.{plain_text, plain_bytes, drawing_bytes}
 use Rattle.line_screen.proofs.LawLemmas.{calls_lead}
 use Rattle.line_screen.proofs.Leading.{no_styles_are, redraw_drawable}
-use Rattle.std.specs.Prelude.{encode_utf8, length, replicate, slice_range}
+use Rattle.std.specs.Prelude.{length, replicate, slice_range}
 use Rattle.std.proofs.lemmas.Str.{encode_ascii}
 use Rattle.line_buffer.proofs.JoinLemmas.{printable_ascii}
-use Rattle.line_screen.proofs.Parts.{all_unpainted, cluster_in_fence, open_cell, begin_inserting, end_inserting, begins_two_rows, deletion_bytes, is_step_back}
+use Rattle.line_screen.proofs.Parts.{all_unpainted, cluster_in_fence, open_cell, begin_inserting, end_inserting, begins_two_rows, is_step_back}
 
 -- ---- sequences that begin otherwise
 
@@ -59,8 +59,11 @@ abbrev go : Reading → List ℕ → Reading
 go r [] = r
 go r (c ∷ cs) = go (next r c) cs
 
-abbrev IsFree : List ℕ → Type 0
-IsFree bytes = go Plain bytes ≡ Plain
+record IsFree (bytes : List ℕ) : Type 0 where
+  plain : go Plain bytes ≡ Plain
+
+fixed : (bytes : List ℕ) → go Plain bytes ≡ Plain → IsFree bytes
+fixed bytes h = record { plain = h }
 
 abbrev is_other : Reading → Bool
 is_other Other = true
@@ -70,8 +73,8 @@ go-append : (r : Reading) (xs ys : List ℕ) → go r (xs ++ ys) ≡ go (go r xs
 go-append r [] ys = refl
 go-append r (x ∷ xs) ys = go-append (next r x) xs ys
 
-free_then : (xs ys : List ℕ) → IsFree xs → IsFree ys → IsFree (xs ++ ys)
-free_then xs ys h k = go-append Plain xs ys ∙ ap (λ r. go r ys) h ∙ k
+free_then : {xs ys : List ℕ} → IsFree xs → IsFree ys → IsFree (xs ++ ys)
+free_then {xs} {ys} h k = record { plain = go-append Plain xs ys ∙ ap (λ r. go r ys) h.plain ∙ k.plain }
 
 other_stays : (xs : List ℕ) → go Other xs ≡ Other
 other_stays [] = refl
@@ -79,18 +82,15 @@ other_stays (x ∷ xs) = other_stays xs
 
 style_is_other : (r : Reading) (after : List ℕ) → go r (0x1B ∷ (0x5B ∷ (0x30 ∷ after))) ≡ Other
 style_is_other Plain after = other_stays after
-style_is_other Escape after = other_stays after
-style_is_other Bracket after = other_stays after
-style_is_other Other after = other_stays after
+style_is_other _ after = other_stays after
 
 free_begins_none : (bytes : List ℕ) → IsFree bytes → BeginsNoStyle bytes
 free_begins_none bytes h before after same =
     let other : go Plain bytes ≡ Other = ap (go Plain) same ∙ go-append Plain before (0x1B ∷ (0x5B ∷ (0x30 ∷ after))) ∙ style_is_other (go Plain before) after in
-    false≢true (ap is_other (sym h ∙ other))
+    false≢true (ap is_other (sym h.plain ∙ other))
 
-free_if : (b : Bool) (xs ys : List ℕ) → IsFree xs → IsFree ys → IsFree (if b then xs else ys)
-free_if true xs ys h k = h
-free_if false xs ys h k = k
+free_if : (b : Bool) {xs ys : List ℕ} → IsFree xs → IsFree ys → IsFree (if b then xs else ys)
+free_if b h k = either IsFree b h k
 
 -- ---- text
 
@@ -100,14 +100,14 @@ no_escape c h = grind (arith, nat_tests)
 text_stays : (c : ℕ) → is_text c ≡ true → next Plain c ≡ Plain
 text_stays c h = ap (λ b. if b then Escape else Plain) (no_escape c h)
 
+letter_free : (c : ℕ) → is_printable c ≡ true → IsFree (c ∷ [])
+letter_free c h = fixed (c ∷ []) (text_stays c (printable_text c h))
+
 text_free : (bytes : List ℕ) → list_all is_text bytes ≡ true → IsFree bytes
-text_free [] h = refl
+text_free [] h = fixed [] refl
 text_free (c ∷ cs) h =
     let parts = and_parts (is_text c) (list_all is_text cs) h in
-    ap (λ r. go r cs) (text_stays c parts.0) ∙ text_free cs parts.1
-
-letter_free : (c : ℕ) → is_printable c ≡ true → IsFree (c ∷ [])
-letter_free c h = text_stays c (printable_text c h)
+    free_then (fixed (c ∷ []) (text_stays c parts.0)) (text_free cs parts.1)
 
 -- ---- sequences with a number
 
@@ -134,138 +134,105 @@ number_free : (n : ℕ) → n < 2 ^ 64 → 1 ≤ n → go Bracket (decimal n) �
 number_free n few some = decimal_by_steps (λ m ds. 1 ≤ m → go Bracket ds ≡ Plain) first_digit more_digits n few some
 
 sequence_if : (count final : ℕ) → count < 2 ^ 64 → is_text final ≡ true → (b : Bool) → (count == 0) ≡ b → IsFree (if b then [] else (0x1B ∷ 0x5B ∷ (decimal count ++ final ∷ [])))
-sequence_if count final few h true e = refl
+sequence_if count final few h true e = fixed [] refl
 sequence_if count final few h false e =
     let some : 0 < count = grind (arith, nat_tests) in
-    go-append Bracket (decimal count) (final ∷ []) ∙ ap (λ r. go r (final ∷ [])) (number_free count few (omega arith)) ∙ text_stays final h
+    record { plain = go-append Bracket (decimal count) (final ∷ []) ∙ ap (λ r. go r (final ∷ [])) (number_free count few (omega arith)) ∙ text_stays final h }
 
 control_free : (count final : ℕ) → count < 2 ^ 64 → is_text final ≡ true → IsFree (control_sequence count final)
 control_free count final few h = sequence_if count final few h (count == 0) refl
 
-row_move_free : (old new : ℕ) → old < 2 ^ 64 → new < 2 ^ 64 → IsFree (row_move old new)
-row_move_free old new few low =
-    free_if (nat_lt new old) (control_sequence (old - new) 0x41) (control_sequence (new - old) 0x42) (control_free (old - new) 0x41 (omega arith) refl) (control_free (new - old) 0x42 (omega arith) refl)
+-- so far back or on
+way_free : (old new back on : ℕ) → old < 2 ^ 64 → new < 2 ^ 64 → is_text back ≡ true → is_text on ≡ true
+    → IsFree (if nat_lt new old then control_sequence (old - new) back else control_sequence (new - old) on)
+way_free old new back on few low h k = free_if (nat_lt new old) (control_free (old - new) back (omega arith) h) (control_free (new - old) on (omega arith) k)
 
-col_move_free : (old new : ℕ) → old < 2 ^ 64 → new < 2 ^ 64 → IsFree (col_move old new)
-col_move_free old new few low =
-    free_if (nat_lt new old) (control_sequence (old - new) 0x44) (control_sequence (new - old) 0x43) (control_free (old - new) 0x44 (omega arith) refl) (control_free (new - old) 0x43 (omega arith) refl)
+abbrev Low : Position → Type 0
+Low p = (p.row < 2 ^ 64) × (p.col < 2 ^ 64)
 
-move_low : (old new : Position) → old.row < 2 ^ 64 → old.col < 2 ^ 64 → new.row < 2 ^ 64 → new.col < 2 ^ 64 → IsFree (move_bytes old new)
-move_low old new old_row old_col new_row new_col =
-    free_then (row_move old.row new.row) (col_move old.col new.col) (row_move_free old.row new.row old_row new_row) (col_move_free old.col new.col old_col new_col)
+low_inside : (columns : ℕ) → columns < 2 ^ 64 → (p : Position) → Inside columns p → Low p
+low_inside columns few p inside = let col = inside.col in (inside.row, omega arith)
 
-steps_free : (n : ℕ) → IsFree (replicate n 0x08)
-steps_free zero = refl
-steps_free (suc n) = steps_free n
+move_low : (old new : Position) → Low old → Low new → IsFree (move_bytes old new)
+move_low old new from to = free_then (way_free old.row new.row 0x41 0x42 from.0 to.0 refl refl) (way_free old.col new.col 0x44 0x43 from.1 to.1 refl refl)
+
+copies_free : (c : ℕ) → next Plain c ≡ Plain → (n : ℕ) → IsFree (replicate n c)
+copies_free c h zero = fixed [] refl
+copies_free c h (suc n) = free_then (fixed (c ∷ []) h) (copies_free c h n)
 
 short_free : (old new : Position) → IsFree (move_bytes old new) → IsFree (short_move old new)
-short_free old new h = free_if (is_step_back old new) (replicate (old.col - new.col) 0x08) (move_bytes old new) (steps_free (old.col - new.col)) h
+short_free old new h = free_if (is_step_back old new) (copies_free 0x08 refl (old.col - new.col)) h
 
 clearing_free : (row : ℕ) → row < 2 ^ 64 → IsFree (clearing_bytes row)
-clearing_free row few = free_then (control_sequence row 0x41) (0x0D ∷ erase_to_end) (control_free row 0x41 few refl) refl
+clearing_free row few = free_then (control_free row 0x41 few refl) (fixed (0x0D ∷ erase_to_end) refl)
 
 -- ---- items
 
 break_free : (b : Bool) → IsFree (break_if b)
-break_free true = refl
-break_free false = refl
-
-unless_free : (b : Bool) → IsFree (break_unless b)
-unless_free true = refl
-unless_free false = refl
-
-blanks_free : (n : ℕ) → IsFree (blanks n)
-blanks_free zero = refl
-blanks_free (suc n) = blanks_free n
+break_free b = free_if b (fixed row_break refl) (fixed [] refl)
 
 fenced_free : (bytes : List ℕ) → list_all is_text bytes ≡ true → IsFree (cluster_in_fence bytes)
-fenced_free bytes h = free_then (no_style ++ bytes) no_style (free_then no_style bytes refl (text_free bytes h)) refl
+fenced_free bytes h = free_then (free_then (fixed no_style refl) (text_free bytes h)) (fixed no_style refl)
 
 one_free : (columns : ℕ) (wide : List ℕ → Option ℕ) (item : DrawnItem) (col : ℕ) → Fits columns wide item → IsFree (bytes_of_item columns item col)
-one_free columns wide NewRow col h = refl
-one_free columns wide (Letter c) col h = free_then (c ∷ []) (break_if (col + 1 == columns)) (letter_free c h) (break_free (col + 1 == columns))
+one_free columns wide NewRow col h = fixed row_break refl
+one_free columns wide (Letter c) col h = free_then (letter_free c h) (break_free (col + 1 == columns))
 one_free columns wide (Cluster bytes width) col h =
-    let before = break_unless (nat_le (col + width) columns) in
-    let full = fitted_col columns width col + width == columns in
-    free_then (before ++ cluster_in_fence bytes) (break_if full) (free_then before (cluster_in_fence bytes) (unless_free (nat_le (col + width) columns)) (fenced_free bytes h.text)) (break_free full)
-one_free columns wide (Tab apart) col h =
-    let width = tab_width columns apart col in
-    free_then (blanks width) (break_if (col + width == columns)) (blanks_free width) (break_free (col + width == columns))
+    free_then (free_then (free_if (nat_le (col + width) columns) (fixed [] refl) (fixed row_break refl)) (fenced_free bytes h.text))
+    (break_free (fitted_col columns width col + width == columns))
+one_free columns wide (Tab apart) col h = let width = tab_width columns apart col in
+    free_then (copies_free 0x20 refl width) (break_free (col + width == columns))
 
 items_free : (columns : ℕ) (wide : List ℕ → Option ℕ) (items : List DrawnItem) (col : ℕ) → AllFit columns wide items → IsFree (bytes_of_items columns items col)
-items_free columns wide [] col h = refl
+items_free columns wide [] col h = fixed [] refl
 items_free columns wide (item ∷ items) col h =
-    free_then (bytes_of_item columns item col) (bytes_of_items columns items (col_after_one columns item col)) (one_free columns wide item col h.0) (items_free columns wide items (col_after_one columns item col) h.1)
+    free_then (one_free columns wide item col h.0) (items_free columns wide items (col_after_one columns item col) h.1)
 
 -- ---- letters that move in their rows
 
 put_free : (inserting : Bool) (c : ℕ) → is_printable c ≡ true → IsFree (put_in inserting (c ∷ []))
-put_free true c h = letter_free c h
-put_free false c h = free_then open_cell (c ∷ []) refl (letter_free c h)
+put_free inserting c h = free_if inserting (letter_free c h) (free_then (fixed open_cell refl) (letter_free c h))
 
 pushed_free : (inserting : Bool) (columns : ℕ) (letters : List ℕ) (col : ℕ) → list_all is_printable letters ≡ true → IsFree (pushed_on inserting columns col letters)
-pushed_free inserting columns [] col h = refl
+pushed_free inserting columns [] col h = fixed [] refl
 pushed_free inserting columns (c ∷ cs) col h =
     let parts = and_parts (is_printable c) (list_all is_printable cs) h in
-    let one = put_in inserting (c ∷ []) in
-    let first = if col == 0 then one else [] in
-    free_then (first ++ break_if (col + 1 == columns)) (pushed_on inserting columns (left_col columns (col + 1)) cs)
-    (free_then first (break_if (col + 1 == columns)) (free_if (col == 0) one [] (put_free inserting c parts.0) refl) (break_free (col + 1 == columns)))
+    free_then (free_then (free_if (col == 0) (put_free inserting c parts.0) (fixed [] refl)) (break_free (col + 1 == columns)))
     (pushed_free inserting columns cs (left_col columns (col + 1)) parts.1)
 
 put_and_pushed_free : (inserting : Bool) (columns col c : ℕ) (rest : List ℕ) → is_printable c ≡ true → list_all is_printable rest ≡ true → IsFree (put_and_pushed inserting columns col (c ∷ []) rest)
 put_and_pushed_free inserting columns col c rest one letters =
-    let first = put_in inserting (c ∷ []) in
-    free_then (first ++ break_if (col + 1 == columns)) (pushed_on inserting columns (left_col columns (col + 1)) rest)
-    (free_then first (break_if (col + 1 == columns)) (put_free inserting c one) (break_free (col + 1 == columns)))
-    (pushed_free inserting columns rest (left_col columns (col + 1)) letters)
+    free_then (free_then (put_free inserting c one) (break_free (col + 1 == columns))) (pushed_free inserting columns rest (left_col columns (col + 1)) letters)
 
 insertion_free : (columns col c : ℕ) (rest : List ℕ) → is_printable c ≡ true → list_all is_printable rest ≡ true → IsFree (insertion_bytes columns col (c ∷ []) rest)
 insertion_free columns col c rest one letters =
-    let fast = put_and_pushed true columns col (c ∷ []) rest in
-    free_if (begins_two_rows columns col rest) (begin_inserting ++ (fast ++ end_inserting)) (put_and_pushed false columns col (c ∷ []) rest)
-    (free_then begin_inserting (fast ++ end_inserting) refl (free_then fast end_inserting (put_and_pushed_free true columns col c rest one letters) refl))
+    free_if (begins_two_rows columns col rest)
+    (free_then (fixed begin_inserting refl) (free_then (put_and_pushed_free true columns col c rest one letters) (fixed end_inserting refl)))
     (put_and_pushed_free false columns col c rest one letters)
 
 out_free : (count : ℕ) → count < 2 ^ 64 → IsFree (take_cells_out count)
-out_free count few = free_if (count == 1) (0x1B ∷ (0x5B ∷ (0x50 ∷ []))) (control_sequence count 0x50) refl (control_free count 0x50 few refl)
+out_free count few = free_if (count == 1) (fixed (0x1B ∷ (0x5B ∷ (0x50 ∷ []))) refl) (control_free count 0x50 few refl)
 
 module _ (columns count : ℕ) (few : columns < 2 ^ 64) (small : count < 2 ^ 64) (some : 1 ≤ columns) where
   back_if_free : (start col : ℕ) (cs : List ℕ) → col < columns
       → ((start col : ℕ) → col < columns → start < 2 ^ 64 → IsFree (pulled_back columns count start col cs)) → start < 2 ^ 64
       → (b : Bool) → (col + 1 == columns) ≡ b → IsFree (if b then row_break ++ pulled_back columns count 0 0 cs else pulled_back columns count start (col + 1) cs)
-  back_if_free start col cs low ih begun true e = free_then row_break (pulled_back columns count 0 0 cs) refl (ih 0 0 (omega arith) (omega arith))
+  back_if_free start col cs low ih begun true e = free_then (fixed row_break refl) (ih 0 0 (omega arith) (omega arith))
   back_if_free start col cs low ih begun false e = let differ = eqb-false (col + 1) columns e in ih start (col + 1) (grind arith) begun
 
   deletion_free : (start col : ℕ) (letters : List ℕ) → col < columns → start < 2 ^ 64 → list_all is_printable letters ≡ true → IsFree (pulled_back columns count start col letters)
   deletion_free start col [] low begun h = out_free count small
   deletion_free start col (c ∷ cs) low begun h =
       let parts = and_parts (is_printable c) (list_all is_printable cs) h in
-      let cut = take_cells_out count ++ col_move start col in
-      let first = if col + count == columns then cut else [] in
-      let new = if nat_le columns (col + count) then c ∷ [] else [] in
-      free_then (first ++ new) (if col + 1 == columns then row_break ++ pulled_back columns count 0 0 cs else pulled_back columns count start (col + 1) cs)
-      (free_then first new
-      (free_if (col + count == columns) cut [] (free_then (take_cells_out count) (col_move start col) (out_free count small) (col_move_free start col begun (omega arith))) refl)
-      (free_if (nat_le columns (col + count)) (c ∷ []) [] (letter_free c parts.0) refl))
+      let cut = free_then (out_free count small) (way_free start col 0x44 0x43 begun (omega arith) refl refl) in
+      free_then (free_then (free_if (col + count == columns) cut (fixed [] refl))
+      (free_if (nat_le columns (col + count)) (letter_free c parts.0) (fixed [] refl)))
       (back_if_free start col cs low (λ start col low begun. deletion_free start col cs low begun parts.1) begun (col + 1 == columns) refl)
-
--- where they leave the cursor
-place_if : (b : Bool) (p q : Position) → p.row < 2 ^ 64 → p.col < 2 ^ 64 → q.row < 2 ^ 64 → q.col < 2 ^ 64 → ((if b then p else q).row < 2 ^ 64) × ((if b then p else q).col < 2 ^ 64)
-place_if true p q p_row p_col q_row q_col = (p_row, p_col)
-place_if false p q p_row p_col q_row q_col = (q_row, q_col)
-
-first_low : (b : Bool) → (if b then 0 else 1) < 2 ^ 64
-first_low true = omega arith
-first_low false = omega arith
-
-below_64 : (n columns : ℕ) → columns < 2 ^ 64 → n < columns → n < 2 ^ 64
-below_64 n columns few low = omega arith
 
 -- ---- drawings
 
-then_plain : (xs : List ℕ) → IsFree xs → IsFree (xs ++ no_style)
-then_plain xs h = free_then xs no_style h refl
+then_plain : {xs : List ℕ} → IsFree xs → IsFree (xs ++ no_style)
+then_plain h = free_then h (fixed no_style refl)
 
 module _ (mode : GraphemeClusterMode) (tab : Option ℕ) (columns : ℕ) (some : 1 ≤ columns) (few : columns < 2 ^ 64) where
   abbrev wide : Widths
@@ -277,53 +244,38 @@ module _ (mode : GraphemeClusterMode) (tab : Option ℕ) (columns : ℕ) (some :
   shown_free : (prompt line info : List ℕ) → IsFree (shown_text columns wide prompt line info)
   shown_free prompt line info =
       let a_end = col_after columns (text_items wide prompt) 0 in
-      let b_end = col_after columns (text_items wide line) a_end in
-      let a = bytes_of_items columns (text_items wide prompt) 0 in
-      let b = bytes_of_items columns (text_items wide line) a_end in
-      let c = bytes_of_items columns (text_items wide info) b_end in
-      let first = free_then no_style a refl (part_free prompt 0) in
-      let second = free_then (no_style ++ a ++ no_style) b (then_plain (no_style ++ a) first) (part_free line a_end) in
-      let third = free_then (no_style ++ a ++ no_style ++ b ++ no_style) c (then_plain (no_style ++ a ++ no_style ++ b) second) (part_free info b_end) in
-      then_plain (no_style ++ a ++ no_style ++ b ++ no_style ++ c) third
+      let first = then_plain (free_then (fixed no_style refl) (part_free prompt 0)) in
+      let second = then_plain (free_then first (part_free line a_end)) in
+      then_plain (free_then second (part_free info (col_after columns (text_items wide line) a_end)))
 
   move_free : (old new : Position) → Inside columns old → Inside columns new → IsFree (move_bytes old new)
-  move_free old new from to =
-      let old_col = from.col in
-      let new_col = to.col in
-      move_low old new from.row (omega arith) to.row (omega arith)
+  move_free old new from to = move_low old new (low_inside columns few old from) (low_inside columns few new to)
 
   drawing_free : (prompt line info : List ℕ) (finish cursor : Position) → Inside columns finish → Inside columns cursor → IsFree (shown_text columns wide prompt line info ++ move_bytes finish cursor)
-  drawing_free prompt line info finish cursor from to =
-      free_then (shown_text columns wide prompt line info) (move_bytes finish cursor) (shown_free prompt line info) (move_free finish cursor from to)
+  drawing_free prompt line info finish cursor from to = free_then (shown_free prompt line info) (move_free finish cursor from to)
 
   -- in the place of a drawing whose cursor's row is known, or of none
   draw_free : (o : Option ℕ) (a : View) (prompt line info : List ℕ) (finish cursor : Position) → Inside columns a.place → Replaces o a → Inside columns finish → Inside columns cursor
       → IsFree (drawing_bytes columns wide o prompt line info finish cursor)
   draw_free None a prompt line info finish cursor here over from to = drawing_free prompt line info finish cursor from to
   draw_free (Some row) a prompt line info finish cursor here over from to =
-      let row_few : row < 2 ^ 64 = subst (λ n. n < 2 ^ 64) (sym over) here.row in
-      free_then (clearing_bytes row) (shown_text columns wide prompt line info ++ move_bytes finish cursor) (clearing_free row row_few) (drawing_free prompt line info finish cursor from to)
+      free_then (clearing_free row (subst (λ n. n < 2 ^ 64) (sym over) here.row)) (drawing_free prompt line info finish cursor from to)
 
   -- the rest of a line, and what stands after it without styles
+  rest_of_free : (text : List ℕ) (col : ℕ) → IsFree (bytes_of_all_painted columns (painted_text wide [] text) col)
+  rest_of_free text col = subst IsFree (sym (plain_text columns wide text col)) (part_free text col)
+
   info_free : (info : List ℕ) (col : ℕ) → IsFree (in_fence info (bytes_of_all_painted columns (painted_text wide [] info) col))
-  info_free [] col = refl
-  info_free (c ∷ text) col =
-      let painted = bytes_of_all_painted columns (painted_text wide [] (c ∷ text)) col in
-      then_plain (no_style ++ painted) (free_then no_style painted refl (subst IsFree (sym (plain_text columns wide (c ∷ text) col)) (part_free (c ∷ text) col)))
+  info_free [] col = fixed [] refl
+  info_free (c ∷ text) col = then_plain (free_then (fixed no_style refl) (rest_of_free (c ∷ text) col))
 
   rest_free : (text : List ℕ) (upto : ℕ) (info : List ℕ) (old at finish cursor : Position) → Inside columns old → Inside columns at → Inside columns finish → Inside columns cursor
       → IsFree (rest_drawing columns wide no_styles text upto info old at finish cursor)
   rest_free text upto info old at finish cursor from to last back =
       let rest = drop upto text in
-      let items = painted_text wide [] rest in
       let col = (in_row columns at).col in
-      let next = col_after columns (all_unpainted items) col in
-      let new = bytes_of_all_painted columns items col in
-      let behind = in_fence info (bytes_of_all_painted columns (painted_text wide [] info) next) in
-      free_then (move_bytes old at ++ (erase_to_end ++ (new ++ behind))) (move_bytes finish cursor)
-      (free_then (move_bytes old at) (erase_to_end ++ (new ++ behind)) (move_free old at from to)
-      (free_then erase_to_end (new ++ behind) refl (free_then new behind (subst IsFree (sym (plain_text columns wide rest col)) (part_free rest col)) (info_free info next))))
-      (move_free finish cursor last back)
+      let shown = free_then (rest_of_free rest col) (info_free info (col_after columns (all_unpainted (painted_text wide [] rest)) col)) in
+      free_then (free_then (move_free old at from to) (free_then (fixed erase_to_end refl) shown)) (move_free finish cursor last back)
 
   rest_call_free : (text : List ℕ) (upto : ℕ) (info : List ℕ) (old at finish cursor : Position) (a b : View) → Inside columns a.place → Inside columns b.place
       → DrawsRest columns wide no_styles text upto info old at finish cursor a b → IsFree (rest_drawing columns wide no_styles text upto info old at finish cursor)
@@ -340,9 +292,8 @@ module _ (mode : GraphemeClusterMode) (tab : Option ℕ) (columns : ℕ) (some :
 -- ---- calls
 
 bell_free : (bell : BellStyle) → IsFree (bell_bytes bell)
-bell_free Bells.Audible = refl
-bell_free Bells.None = refl
-bell_free Bells.Visible = refl
+bell_free Bells.Audible = fixed (bell_bytes Bells.Audible) refl
+bell_free bell = fixed (bell_bytes bell) refl
 
 cut_small : (s : Screen) → s.columns < 2 ^ 64 → (a b : View) (count : ℕ) (rest : List ℕ) (finish : Position) → TakesOut s.columns (widths s) count rest finish a b → count < 2 ^ 64
 cut_small s few a b count rest finish h = let room = h.fits in omega arith
@@ -355,30 +306,25 @@ call_free s some few a b (Draw prompt text place info old new None) here there h
 call_free s some few a b (Draw prompt text place info old new (Some m)) here there h plain = absurd (false≢true plain)
 call_free s some few a b (Move old new) here there h plain = move_free s.mode s.tab s.columns some few old new (subst (Inside s.columns) (sym h.old_is) here) h.inside
 call_free s some few a b (Write text) here there (inl h) plain = subst IsFree (sym h.text_is) (letter_free h.c (and_parts (is_printable h.c) (at_simple_end true a.shown.line a.shown.place) h.typed).0)
-call_free s some few a b (Write text) here there (inr h) plain = subst IsFree (sym h.text_is) refl
+call_free s some few a b (Write text) here there (inr h) plain = subst IsFree (sym h.text_is) (fixed row_break refl)
 call_free s some few a b Beep here there h plain = bell_free s.bell
-call_free s some few a b ClearScreen here there h plain = refl
 call_free s some few a b (ClearRows layout) here there h plain = clearing_free layout.cursor.row (subst (λ n. n < 2 ^ 64) (sym h.0) here.row)
-call_free s some few a b ClearToEol here there h plain = refl
 call_free s some few a b (MoveAndClearToEol old new) here there h plain =
-    free_then (move_bytes old new) erase_to_row_end (move_free s.mode s.tab s.columns some few old new (subst (Inside s.columns) (sym h.1.old_is) here) h.1.inside) refl
+    free_then (move_free s.mode s.tab s.columns some few old new (subst (Inside s.columns) (sym h.1.old_is) here) h.1.inside) (fixed erase_to_row_end refl)
 call_free s some few a b (InsertChar c rest old new finish) here there h plain =
-    let new_in : Inside s.columns new = subst (Inside s.columns) (ap (λ (w : View). w.place) h.view) there in
+    let new_in : Low new = low_inside s.columns few new (subst (Inside s.columns) (ap (λ (w : View). w.place) h.view) there) in
     let letters = and_parts (is_printable c) (list_all is_printable rest) h.printable in
-    let from = place_if (finish.row == old.row) new (behind_first finish) new_in.row (below_64 new.col s.columns few new_in.col) h.row (first_low (finish.col == 0)) in
-    free_then (insertion_bytes s.columns old.col (encode_utf8 c) rest) (move_bytes (place_after_insertion old new finish) new)
-    (subst (λ cs. IsFree (insertion_bytes s.columns old.col cs rest)) (sym (encode_ascii c (printable_ascii c letters.0))) (insertion_free s.columns old.col c rest letters.0 letters.1))
-    (move_low (place_after_insertion old new finish) new from.0 from.1 new_in.row (below_64 new.col s.columns few new_in.col))
+    let first : (if finish.col == 0 then 0 else 1) < 2 ^ 64 = either (λ n. n < 2 ^ 64) (finish.col == 0) (omega arith) (omega arith) in
+    free_then (subst (λ cs. IsFree (insertion_bytes s.columns old.col cs rest)) (sym (encode_ascii c (printable_ascii c letters.0)))
+    (insertion_free s.columns old.col c rest letters.0 letters.1))
+    (move_low (place_after_insertion old new finish) new (either Low (finish.row == old.row) {x = new} {y = behind_first finish} new_in (h.row, first)) new_in)
 call_free s some few a b (MoveAndDelete old new count rest finish) here there h plain =
-    let new_in = h.1.inside in
-    let new_col = below_64 new.col s.columns few new_in.col in
+    let new_in = low_inside s.columns few new h.1.inside in
     let letters = and_parts (list_all is_printable h.2.killed) (list_all is_printable rest) (sym (list_all-append is_printable h.2.killed rest) ∙ h.2.printable) in
-    let from = place_if (finish.row == new.row) new (place 0 finish.row) new_in.row new_col h.2.row (omega arith) in
-    free_then (move_bytes old new) (deletion_bytes s.columns count new.col rest ++ move_bytes (place_after_deletion new finish) new)
-    (move_free s.mode s.tab s.columns some few old new (subst (Inside s.columns) (sym h.1.old_is) here) new_in)
-    (free_then (deletion_bytes s.columns count new.col rest) (move_bytes (place_after_deletion new finish) new)
-    (deletion_free s.columns count few (cut_small s few h.0 b count rest finish h.2) some new.col new.col rest new_in.col new_col letters.1)
-    (move_low (place_after_deletion new finish) new from.0 from.1 new_in.row new_col))
+    free_then (move_free s.mode s.tab s.columns some few old new (subst (Inside s.columns) (sym h.1.old_is) here) h.1.inside)
+    (free_then (deletion_free s.columns count few (cut_small s few h.0 b count rest finish h.2) some new.col new.col rest h.1.inside.col new_in.1 letters.1)
+    (move_low (place_after_deletion new finish) new
+    (either Low (finish.row == new.row) {x = new} {y = place 0 finish.row} new_in (h.2.row, omega arith)) new_in))
 call_free s some few a b (Append text at) here there h plain = part_free s.mode s.tab s.columns some few text (in_row s.columns at).col
 call_free s some few a b (DrawRest text from place info old at new None) here there h plain = rest_call_free s.mode s.tab s.columns some few text from (info_text info) old at new.end new.cursor a b here there h
 call_free s some few a b (DrawRest text from place info old at new (Some m)) here there h plain = absurd (false≢true plain)
@@ -387,20 +333,19 @@ call_free s some few a b (WriteOver letters old at new) here there h plain =
     let at_in = h.1.inside in
     let at_is : h.0.place ≡ at = ap (λ (x : View). x.place) h.1.view in
     let last_in : Inside s.columns (right (length letters) at) = record { row = at_in.row; col = subst (λ p. p.col + length letters < s.columns) at_is w.fits } in
-    free_then (short_move old at) (letters ++ short_move (right (length letters) at) new)
-    (short_free old at (move_free s.mode s.tab s.columns some few old at (subst (Inside s.columns) (sym h.1.old_is) here) at_in))
-    (free_then letters (short_move (right (length letters) at) new) (text_free letters (list_all_since is_printable is_text printable_text letters w.printable))
+    free_then (short_free old at (move_free s.mode s.tab s.columns some few old at (subst (Inside s.columns) (sym h.1.old_is) here) at_in))
+    (free_then (text_free letters (list_all_since is_printable is_text printable_text letters w.printable))
     (short_free (right (length letters) at) new (move_free s.mode s.tab s.columns some few (right (length letters) at) new last_in w.inside)))
-call_free s some few a b ToLeftmost here there h plain = refl
-call_free s some few a b (Help fails) here there h plain = refl
+call_free s some few a b call here there h plain = fixed (bytes_of s call) refl
 
 calls_free : (s : Screen) → 2 ≤ s.columns → s.columns ≤ 1000 → (calls : List Call) (bytes : List ℕ) (over : List Placed) (a b : View) → Good s.columns (widths s) bytes over a → FoldsTo (LeadsView s.columns (widths s)) a calls b
     → list_all has_no_marks calls ≡ true → IsFree (flat_map (bytes_of s) calls)
-calls_free s low high [] bytes over a b g h plain = refl
+calls_free s low high [] bytes over a b g h plain = fixed [] refl
 calls_free s low high (call ∷ calls) bytes over a b g h plain =
     let parts = and_parts (has_no_marks call) (list_all has_no_marks calls) plain in
     let led = calls_lead s low high bytes over a h.0 call g h.1 in
-    free_then (bytes_of s call) (flat_map (bytes_of s) calls) (call_free s (omega arith) (omega arith) a h.0 call g.inside led.1.inside h.1 parts.0) (calls_free s low high calls (bytes ++ bytes_of s call) led.0 h.0 b led.1 h.2 parts.1)
+    free_then (call_free s (omega arith) (omega arith) a h.0 call g.inside led.1.inside h.1 parts.0)
+    (calls_free s low high calls (bytes ++ bytes_of s call) led.0 h.0 b led.1 h.2 parts.1)
 
 unmarked_begin_none : OnEachScreen UnmarkedCallsBeginNone
 unmarked_begin_none s low high calls bytes over a b g h plain = free_begins_none (flat_map (bytes_of s) calls) (calls_free s low high calls bytes over a b g h plain)
@@ -410,35 +355,23 @@ unmarked_begin_none s low high calls bytes over a b g h plain = free_begins_none
 abbrev all_plain : RedrawCalls → Bool
 all_plain x = list_all has_no_marks x.calls
 
-either_plain : (b : Bool) (x y : RedrawCalls) → all_plain x ≡ true → all_plain y ≡ true → all_plain (if b then x else y) ≡ true
-either_plain true x y h k = h
-either_plain false x y h k = k
+abbrev IsPlain : RedrawCalls → Type 0
+IsPlain x = all_plain x ≡ true
 
-asked_plain : (r : Ruler) (l : Layout) (x : Redraw) → all_plain (calls_of_redraw r None l x) ≡ true
-asked_plain r l (Drawn prompt given text place info) = refl
-asked_plain r l (Moved text place) = let cursor = r.measure (take place text) l.prompt_size in either_plain (same_cell l.cursor cursor) (nothing_asked l) (move_call l cursor) refl refl
-asked_plain r l (Typed prompt c text place) = either_plain (may_write_over r l l.cursor 1) (char_call l c) (full r None l prompt true text place None) refl refl
-asked_plain r l (Appended prompt c text place) = either_plain l.has_info (full r None l prompt true text place None) (append_call r l c) refl refl
-asked_plain r l (Taken prompt count partial text place) =
-    let rest = rest_call r None l place text place None in
-    let whole = full r None l prompt true text place None in
-    either_plain (may_take l count) (erase_call l count) (if partial then rest else whole) refl (either_plain partial rest whole refl refl)
-asked_plain r l (Erased prompt c text place) = either_plain (may_erase r l c) (erase_call l (r.measure (encode_utf8 c) origin).col) (rest_call r None l place text place None) refl refl
-asked_plain r l (PutIn prompt c text place) =
-    let rest = drop place text in either_plain (may_put_in r l rest) (put_in_short r l c rest) (full r None l prompt true text place None) refl refl
+asked_plain : (r : Ruler) (l : Layout) (x : Redraw) → IsPlain (calls_of_redraw r None l x)
+asked_plain r l (Moved text place) = either IsPlain (same_cell l.cursor (r.measure (take place text) l.prompt_size)) refl refl
+asked_plain r l (Typed prompt c text place) = either IsPlain (may_write_over r l l.cursor 1) refl refl
+asked_plain r l (Appended prompt c text place) = either IsPlain l.has_info refl refl
+asked_plain r l (Taken prompt count partial text place) = either IsPlain (may_take l count) refl (either IsPlain partial refl refl)
+asked_plain r l (Erased prompt c text place) = either IsPlain (may_erase r l c) refl refl
+asked_plain r l (PutIn prompt c text place) = either IsPlain (may_put_in r l (drop place text)) refl refl
 asked_plain r l (TakenOut prompt count text place) =
-    let at = r.measure (take place text) l.prompt_size in
-    let rest = drop place text in
-    either_plain (may_take_out r l at count rest) (taken_out_short l at count rest) (rest_call r None l place text place None) refl refl
-asked_plain r l (DrawnFrom prompt from text place info) = refl
+    either IsPlain (may_take_out r l (r.measure (take place text) l.prompt_size) count (drop place text)) refl refl
 asked_plain r l (Rewritten prompt from upto text place) =
-    let at = r.measure (take from text) l.prompt_size in
-    let letters = slice_range text from upto in
-    either_plain (may_write_over r l at (length letters)) (write_over_call l letters at (r.measure (take place text) l.prompt_size)) (rest_call r None l from text place None) refl refl
-asked_plain r l (Bared prompt text place) = either_plain l.default_prompt (nothing_asked l) (full r None l prompt true text place None) refl refl
-asked_plain r l ToEnd = either_plain (same_cell l.cursor l.end) (nothing_asked l) (move_call l l.end) refl refl
-asked_plain r l Beeped = refl
-asked_plain r l Cleared = refl
+    either IsPlain (may_write_over r l (r.measure (take from text) l.prompt_size) (length (slice_range text from upto))) refl refl
+asked_plain r l (Bared prompt text place) = either IsPlain l.default_prompt refl refl
+asked_plain r l ToEnd = either IsPlain (same_cell l.cursor l.end) refl refl
+asked_plain r l _ = refl
 
 screens_without_colours : ScreensWithoutColours
 screens_without_colours s e prompt helping entries config v l x =

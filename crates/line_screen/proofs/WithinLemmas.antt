@@ -1,42 +1,19 @@
 -- Printable ASCII with styles that doesn't fill its row.
-use Rattle.std.proofs.Common.{◌≡◌, ℕ, ◌+◌, ◌<◌, ◌==◌, Bool, false, List, [], ◌∷◌, ◌++◌, map, length, take, drop, Result, Ok, Err, IsTrue, refl, sym, ap, ap₂, ◌∙◌, subst, append_assoc, append-nil, length-append, arith, if◌then◌else◌}
+use Rattle.std.proofs.Common.{◌≡◌, ℕ, ◌+◌, ◌<◌, ◌==◌, Bool, false, List, [], ◌∷◌, ◌++◌, map, length, take, drop, Result, Ok, Err, refl, sym, ap, ap₂, ◌∙◌, append_assoc, append-nil, length-append, arith, if◌then◌else◌}
 use Rattle.std.proofs.lemmas.Bool.{ne_eqb}
 use Rattle.std.proofs.lemmas.List.{map-append, take-append-drop}
 use Rattle.std.specs.Result.{IsErrAnd}
 use Rattle.line_config.specs.declared.device.DeviceFailed.{DeviceFailed}
-use Rattle.line_config.specs.Sending.{Sends, Takes, TakesSome}
-use Rattle.line_config.proofs.Taking.{Underway, underway_some, underway_end, sends_then, sends_refused}
+use Rattle.line_config.specs.Sending.{Sends}
 use Rattle.line_screen.specs.Drawing.{break_if, col_after, no_style}
 use Rattle.line_screen.specs.Drawing.DrawnItem.{Letter}
 use Rattle.line_screen.specs.Colours.{SgrSpan, style_bytes, letters_in_style, painted_letters, letters_within, spans_within, bare_letters, bytes_of_all_painted, end_of, SendsPainted}
 use Rattle.line_screen.specs.Colours.PaintedItem.{Shaded, Begins}
 use Rattle.line_screen.proofs.Runs.{sent_run, col_after_run}
+use Rattle.line_screen.proofs.Sendings.{sends_as, sends_answer, sent_refused}
 use Rattle.line_screen.proofs.StyledTextLemmas.{bare_of}
 use Rattle.line_screen.proofs.PaintRuns.{shaded_run, shades_are, items_bare, items_sent, painted-append, framed_bytes}
 use Rattle.line_screen.proofs.Parts.{shaded_break, all_unpainted}
-
--- ---- what is sent
-
-module _ {D : Type 0} (held : D → List ℕ) (failed : D → Bool) where
-  -- the next call sends all that is left
-  pub sends_rest : {A E : Type 0} (all before rest : List ℕ) {a b c : D} {r : Result A E} → Underway held failed all before a b → before ≡ rest → Sends held failed rest b c r → Sends held failed all a c r
-  sends_rest all before rest {a = a} {b = b} {c = c} {r = r} u is s =
-      subst (λ bytes. Sends held failed bytes a c r) (sym (u.split ∙ ap (λ bs. u.done ++ bs) is)) (sends_then held failed u.done rest u.taken u.works s)
-
-  -- all of it was sent
-  pub sends_end : {A E : Type 0} (all before : List ℕ) {a b : D} {x : A} → Underway held failed all before a b → before ≡ [] → Sends {A = A} {E = E} held failed all a b (Ok x)
-  sends_end all before {a = a} {b = b} u is = record {
-    sent = underway_end held failed all (subst (λ rest. Underway held failed all rest a b) is u);
-    works = u.works;
-    err = tt;
-    begins = tt;
-  }
-
-  -- a part of what is left was sent, or some of it
-  pub sends_part : {A E : Type 0} (Q : E → Type 0) (all before piece rest : List ℕ) {a b c : D} {r : Result A E} → Underway held failed all before a b → before ≡ piece ++ rest
-      → IsErrAnd r Q → IsTrue (failed c) → TakesSome held b c piece → Sends held failed all a c r
-  sends_part Q all before piece rest {a = a} {b = b} {c = c} u is refused fails some =
-      sends_refused held failed Q all refused fails (underway_some held failed all piece rest (subst (λ left. Underway held failed all left a b) is u) some)
 
 -- ---- in a row
 
@@ -92,21 +69,19 @@ module _ (columns : ℕ) where
       ∙ sym (map-append Letter front back) ∙ ap (map Letter) (take-append-drop s.len letters)
 
   -- what doesn't fill its row needs no rows
-  pub sends_within : {D : Type 0} (held : D → List ℕ) (failed : D → Bool) (spans : List SgrSpan) (letters : List ℕ) (col : ℕ) {a b : D}
-      → col + length letters < columns → Takes held a b (spans_within spans letters) → failed b ≡ failed a
+  pub sends_within : {D X F : Type 0} {held : D → List ℕ} {failed : D → Bool} (spans : List SgrSpan) (letters : List ℕ) (col : ℕ) {a b : D} {x : X}
+      → col + length letters < columns → Sends {A = X} {E = F} held failed (spans_within spans letters) a b (Ok x)
       → SendsPainted (painted_letters spans letters) col columns held failed a b (Ok (col + length letters))
-  sends_within held failed spans letters col {a = a} {b = b} room took works = record {
-    sends = record { sent = subst (Takes held a b) (sym (spans_in_row spans letters col room)) took; works = works; err = tt; begins = tt };
+  sends_within spans letters col room s = record {
+    sends = sends_as (sym (spans_in_row spans letters col room)) (sends_answer s);
     next = sym (ap (λ is. col_after columns is col) (spans_are spans letters) ∙ letters_end letters col room);
     inside = room;
   }
 
-  pub cut_within : {D : Type 0} (held : D → List ℕ) (failed : D → Bool) (Q : DeviceFailed → Type 0) (spans : List SgrSpan) (letters : List ℕ) (col : ℕ) {a b : D} {r : Result ℕ DeviceFailed}
-      → col + length letters < columns → IsErrAnd r Q → IsTrue (failed b) → TakesSome held a b (spans_within spans letters)
+  pub cut_within : {D X F : Type 0} {held : D → List ℕ} {failed : D → Bool} {e : F} {r : Result ℕ DeviceFailed} (Q : DeviceFailed → Type 0)
+      (spans : List SgrSpan) (letters : List ℕ) (col : ℕ) {a b : D}
+      → col + length letters < columns → Sends {A = X} held failed (spans_within spans letters) a b (Err e) → IsErrAnd r Q
       → SendsPainted (painted_letters spans letters) col columns held failed a b r
-  cut_within held failed Q spans letters col {r = Ok x} room refused fails some = absurd refused
-  cut_within held failed Q spans letters col {a = a} {b = b} {r = Err e} room refused fails some = record {
-    sends = record { sent = tt; works = tt; err = fails; begins = subst (TakesSome held a b) (sym (spans_in_row spans letters col room)) some };
-    next = tt;
-    inside = tt;
-  }
+  cut_within {r = Ok x} Q spans letters col room s refused = absurd refused
+  cut_within {r = Err e} Q spans letters col room s refused =
+      record { sends = sends_as (sym (spans_in_row spans letters col room)) (sent_refused Q s refused); next = tt; inside = tt }

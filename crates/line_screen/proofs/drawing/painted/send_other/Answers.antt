@@ -1,6 +1,5 @@
 -- A text without spans, or row by row.
-use Rattle.std.proofs.Common.{List, subst}
-use Rattle.line_screen.specs.Colours.{SgrSpan, PaintedItem, SendsPainted, painted_text, brush_paints}
+use Rattle.line_screen.specs.Colours.{brush_paints}
 use Rattle.line_screen.specs.Drawing.{text_items}
 use Rattle.line_screen.specs.Measure.{widths_by}
 use Rattle.line_screen.proofs.PaintRuns.{sends_items}
@@ -12,15 +11,9 @@ returns-in-None g c =
     let wide = widths_by c.args.grid.mode c.args.grid.tab c.args.grid.columns in
     let text = c.args.brush.now.text.now in
     let paints = brush_paints g.H.Highlighter.marks c.args.brush.now in
-    let All : List PaintedItem → Type 0 = λ items. SendsPainted items c.args.start c.args.grid.columns g.D.Sink.held g.D.Sink.has_failed c.args.sink.now c.send_rows.new.sink c.send_rows.result in
-    subst All (bare_text wide (all_spans paints) text (no_spans paints c.first.result c.first.ensures c.in-None.ensures))
-    (sends_items g.D.Sink.held g.D.Sink.has_failed c.args.grid.columns (text_items wide text) c.args.start c.send_rows.ensures)
+    rw (← bare_text wide (all_spans paints) text (no_spans paints c.first.result c.first.ensures c.in-None.ensures))
+    (sends_items (text_items wide text) c.args.start c.send_rows.ensures)
 
 pub returns-in-Some : goal.returns-in-Some
 returns-in-Some g c =
-    let wide = widths_by c.args.grid.mode c.args.grid.tab c.args.grid.columns in
-    let text = c.args.brush.now.text.now in
-    let paints = brush_paints g.H.Highlighter.marks c.args.brush.now in
-    let All : List SgrSpan → Type 0 = λ spans.
-    SendsPainted (painted_text wide spans text) c.args.start c.args.grid.columns g.D.Sink.held g.D.Sink.has_failed c.args.sink.now c.send_painted_rows.new.sink c.send_painted_rows.result in
-    subst All (all_left paints c.all.result c.all.ensures.first c.all.ensures.mark) c.send_painted_rows.ensures
+    rw (all_left (brush_paints g.H.Highlighter.marks c.args.brush.now) c.all.result c.all.ensures.first c.all.ensures.mark) at c.send_painted_rows.ensures
