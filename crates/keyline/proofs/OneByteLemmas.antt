@@ -21,7 +21,7 @@ use Rattle.line_editor.specs.Modal.{Modal, is_at_rest}
 use Rattle.line_editor.specs.NextCommand.{line_phrase}
 use Rattle.line_editor.specs.Redraws.{RedrawCalls, full, nothing_asked, may_write_over}
 use Rattle.line_editor.proofs.ShortCalls.{move_call, append_call}
-use Rattle.line_editor.specs.Redraws.Redraw.{Moved, Appended, Taken, Bared, ToEnd}
+use Rattle.line_editor.specs.Redraws.Redraw.{Drawn, Moved, Appended, Taken, DrawnFrom, Bared, ToEnd, Beeped, Cleared}
 use Rattle.line_editor.specs.Sights.{Sight, sight, Fits}
 use Rattle.line_editor.specs.EditSteps.{calls_of_steps, one}
 use Rattle.line_editor.specs.Values.{shown_marks, Value, Setting, Effect, EditStep, help_steps, hint_reply, no_effect, EditStep.Draws, EditStep.Helped}
@@ -69,6 +69,10 @@ one_told s own l x (Draws v m (Appended prompt c text at)) h fits =
     ap (λ (q : RedrawCalls). told q.layout) (if_none l.has_info drawn short) ∙ short_told l x h fits.0.given short drawn (not l.has_info) refl refl (λ e. e)
 one_told s own l x (Draws v m (Bared prompt text at)) h fits =
     ap (λ b. told (if b then nothing_asked l else full (ruler_of s) (shown_marks v m) l prompt true text at None).layout) (ap (λ t. t.1) h ∙ fits) ∙ h
+one_told s own l x (Draws v m (Drawn prompt given text at info)) h fits = refl
+one_told s own l x (Draws v m (DrawnFrom prompt from text at info)) h fits = refl
+one_told s own l x (Draws v m Cleared) h fits = refl
+one_told s own l x (Draws v m Beeped) h fits = h
 one_told s own l x (Draws v m (Taken prompt count true text at)) h fits = search (short_told l x h, free)
 one_told s own l x (Draws v m r) h fits = search (short_told l x h, free)
 one_told s own l x r h fits = h
