@@ -78,7 +78,8 @@ module _ {D L : Type 0} (shown : D → List ℕ) (show_failed : D → Bool) (wri
   undrawn_goes adds (Err e) x y asked cut is = rw asked (went_stopped Breaks [] Display (none_done x) cut is)
 
   -- a line that gets a new row isn't one that stays
-  stays_not : (P : ReadlineError → Type 0) (outcome : Result (List ℕ) ReadlineError) → IsTrue (breaks outcome) → IfErr outcome (λ e. breaks_after e ≡ false → P e)
+  stays_not : (P : ReadlineError → Type 0) (outcome : Result (List ℕ) ReadlineError) → IsTrue (breaks outcome)
+      → IfErr outcome (λ e. breaks_after e ≡ false → P e)
   stays_not P (Ok text) asked = tt
   stays_not P (Err e) asked = λ other. absurd (true≢false (sym asked ∙ other))
 
@@ -100,7 +101,8 @@ module _ {D L : Type 0} (shown : D → List ℕ) (show_failed : D → Bool) (wri
 
   -- the history could take no line
   closes_unkept : (adds : Bool) (text : List ℕ) (d d' : D) (l : L) (h : Filed)
-      → Takes shown d d' row_break → show_failed d' ≡ show_failed d → IsTrue (adds && takes h text) → Ends adds (Ok text) (work d l h) (work d' l h) (Err Memory)
+      → Takes shown d d' row_break → show_failed d' ≡ show_failed d → IsTrue (adds && takes h text)
+      → Ends adds (Ok text) (work d l h) (work d' l h) (Err Memory)
   closes_unkept adds text d d' l h drawn works adding = record {
     goes = λ coming. went_stopped (Keeps text) (Writes text ∷ []) Memory (row_done adds d d' l h coming drawn) (adding, refl) refl;
     stays = tt;

@@ -104,6 +104,9 @@ module _ {S H D L K T : Type 0} (k : KnownDevices S D L) (helps : Option H → H
     abbrev given' : Given
     given' = given_of config custom prompt (screen_of out) (helps ran.helper)
 
+    abbrev at_end : Work D L
+    at_end = work (sink_of ran.out) old.lines old.history left
+
     abbrev state : SessionState
     state = session_state_of k old
 
@@ -144,12 +147,12 @@ module _ {S H D L K T : Type 0} (k : KnownDevices S D L) (helps : Option H → H
               (λ cut. went_behind first (went_not_whole cut)))
           | inr cut ↦
               let stays = λ (e : ReadlineError) (by : (o ≡ Err e) × reason_of true ⊤ e). (subst Ends by.0 closes).stays (unbroken true ⊤ e by.1) in
-              let is : work_of k new ≡ work (sink_of ran.out) old.lines old.history left = went_not (λ e by. ap (λ (f : Coming → Work D L). f left) (stays e by).0) cut in
+              let is : work_of k new ≡ at_end = went_not (λ e by. ap (λ (f : Coming → Work D L). f left) (stays e by).0) cut in
               subst (Comes (here ++ end_events p.answer)) (sym is)
               (went_before (end_events p.answer) (went_so (λ e by. (stays e by).1) (went_behind (begun (none_done (work_of k old))) cut)))
         ]
 
-    line_falls : RunsAt → Went k.shown k.written_in config.auto_add_history (end_events (outcome_of ran)) (work (sink_of ran.out) old.lines old.history left) (work_of k new) (result ≡ outcome_of ran) (λ e. result ≡ Err e) → OnOk result ((desk_feed k new).bound < (desk_feed k old).bound)
+    line_falls : RunsAt → Went k.shown k.written_in config.auto_add_history (end_events (outcome_of ran)) at_end (work_of k new) (result ≡ outcome_of ran) (λ e. result ≡ Err e) → OnOk result ((desk_feed k new).bound < (desk_feed k old).bound)
     line_falls runs w = went_cases w (λ done same. ok_given ran.outcome string_bytes result _ runs.falls same) (λ cut. went_not (λ e is. rw is tt) cut)
 
     line_given : RunsAt → screen_of out ≡ screen_of ran.out → IsTrue (desk_feed k new).told → given' ≡ given

@@ -85,7 +85,8 @@ module _ (s : Screen) where
         let rs = (effect_at a k ask).steps in
         let left = left_at a k ask in
         let more = asks_bytes (calls_of_steps (ruler_of s) l rs).layout left asks in
-        rw (asked_both (ruler_of s) l rs (steps_along a left asks)) (simp (flat_map-append, own_bytes) (ap₂ (λ first rest. first ++ rest) (step_bytes l rs) more))
+        rw (asked_both (ruler_of s) l rs (steps_along a left asks))
+        (simp (flat_map-append, own_bytes) (ap₂ (λ first rest. first ++ rest) (step_bytes l rs) more))
 
     -- the events of some asks, and of those after them
     pub asks_both : (l : Layout) (k : LineState) (xs ys : List LineAsk)
@@ -105,7 +106,8 @@ module _ {D L : Type 0} {shown : D → List ℕ} {written_in : L → List ℕ} {
 
   pub done_both : {xs ys : List SessionEvent} {s m t : Work D L} → AreDone shown written_in adds xs s m → AreDone shown written_in adds ys m t → AreDone shown written_in adds (xs ++ ys) s t
   done_both {xs} {ys} {s} {m} {t} d r = record {
-    drawn = rw (flat_map-append bytes_drawn xs ys) (takes_then shown s.display m.display t.display (flat_map bytes_drawn xs) (flat_map bytes_drawn ys) d.drawn r.drawn);
+    drawn = rw (flat_map-append bytes_drawn xs ys)
+        (takes_then shown s.display m.display t.display (flat_map bytes_drawn xs) (flat_map bytes_drawn ys) d.drawn r.drawn);
     wrote = rw (flat_map-append lines_written xs ys, flat_map-append line_text (flat_map lines_written xs) (flat_map lines_written ys))
         (takes_then written_in s.lines m.lines t.lines (lines_text (flat_map lines_written xs)) (lines_text (flat_map lines_written ys)) d.wrote r.wrote);
     history_is = rw (flat_map-append lines_kept xs ys, remembered_both adds (flat_map lines_kept xs) (flat_map lines_kept ys) s.history)

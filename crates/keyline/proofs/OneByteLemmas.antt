@@ -56,7 +56,8 @@ free l b e = (and_parts (not l.has_info) b e).0
 
 -- a short call is made only if there is no information
 short_told : (l : Layout) (x : Sight) → told l ≡ seen x → x.given ≡ true → (short drawn : RedrawCalls) (b : Bool)
-    → told short.layout ≡ told l → told drawn.layout ≡ (false, true) → (b ≡ true → not l.has_info ≡ true) → told (if b then short else drawn).layout ≡ (false, true)
+    → told short.layout ≡ told l → told drawn.layout ≡ (false, true) → (b ≡ true → not l.has_info ≡ true)
+    → told (if b then short else drawn).layout ≡ (false, true)
 short_told l x h own short drawn true same full none = same ∙ ap₂ (λ a b. (a, b)) (not-true l.has_info (none refl)) (ap (λ t. t.1) h ∙ own)
 short_told l x h own short drawn false same full none = full
 

@@ -91,7 +91,8 @@ line_first c d f h alike so =
     first : (one other : Course ReadlineError) → Alike one other → Alike (events_first c.events one) (events_first d.events other)
     first one other is = record { events = simp map-append (ap₂ (λ first rest. first ++ rest) alike.events is.events); answer = is.answer }
 
-    by : (o : Result (List ℕ) ReadlineError) → Alike (events_first c.events (course_after_line f (o, c.answer.1))) (events_first d.events (course_after_line h (o, c.answer.1)))
+    by : (o : Result (List ℕ) ReadlineError)
+        → Alike (events_first c.events (course_after_line f (o, c.answer.1))) (events_first d.events (course_after_line h (o, c.answer.1)))
     by (Ok text) = first (f c.answer.1) (h c.answer.1) (so c.answer.1)
     by (Err e) = first (record { events = []; answer = e }) (record { events = []; answer = e }) (record { events = refl; answer = refl })
 
