@@ -1,6 +1,5 @@
 -- Bytes have no more keys and pastes than they are.
-use Rattle.std.proofs.Common.{◌≡◌, ℕ, suc, ◌+◌, ◌≤◌, Bool, true, false, cond, List, [], ◌∷◌, ◌++◌, Option, None, Some, length, refl, ap, arith}
-use Rattle.std.specs.Prelude.{codes, ◌&&◌, ◌||◌, ◌==◌, nat_lt, take, slice_index}
+use Rattle.std.proofs.Common.{◌≡◌, ℕ, suc, ◌+◌, ◌≤◌, Bool, true, false, cond, List, [], ◌∷◌, ◌++◌, Option, None, Some, length, refl, ap, arith, codes, ◌&&◌, ◌||◌, ◌==◌, nat_lt, take, slice_index}
 use Rattle.line_config.specs.declared.device.Last.{Last}
 use Rattle.line_config.specs.declared.settings.EditMode.{EditMode, TheVariants.Vi}
 use Rattle.line_keys.specs.declared.key.KeyEvent.{KeyEvent}
@@ -28,50 +27,40 @@ items_are bytes (Stops stop left) = refl
 
 -- ---- at most so many, also by the choice of an `if`
 
-record Short (chars : Chars) (n : ℕ) : Type 0 where
-  at_most : size chars ≤ n
+record Few {A : Type 0} (count : A → ℕ) (x : A) (n : ℕ) : Type 0 where
+  at_most : count x ≤ n
 
-short_if : {x y : Chars} {n : ℕ} (b : Bool) → Short x n → Short y n → Short (cond b x y) n
-short_if true h g = h
-short_if false h g = g
-
-short_more : {x : Chars} {n : ℕ} → Short x n → Short x (suc n)
-short_more h = record { at_most = omega arith }
-
-short_next : (c : ℕ) (behind : List ℕ) {x : Chars} {n : ℕ} → Short x n → Short (Next c behind x) (suc n)
-short_next c behind h = record { at_most = omega arith }
-
-short_over : (stop : Stop) (left : List ℕ) {n : ℕ} → Short (Over stop left) n
-short_over stop left = record { at_most = omega arith }
-
-record Few (r : Readings) (n : ℕ) : Type 0 where
-  at_most : items r ≤ n
-
-few_if : {x y : Readings} {n : ℕ} (b : Bool) → Few x n → Few y n → Few (cond b x y) n
+few_if : {A : Type 0} {count : A → ℕ} {x y : A} {n : ℕ} (b : Bool) → Few count x n → Few count y n → Few count (cond b x y) n
 few_if true h g = h
 few_if false h g = g
 
-few_more : {x : Readings} {n : ℕ} → Few x n → Few x (suc n)
+few_more : {A : Type 0} {count : A → ℕ} {x : A} {n : ℕ} → Few count x n → Few count x (suc n)
 few_more h = record { at_most = omega arith }
 
-few_key : (k : KeyEvent) (behind : List ℕ) {x : Readings} {n : ℕ} → Few x n → Few (Key k behind x) (suc n)
+few_next : (c : ℕ) (behind : List ℕ) {x : Chars} {n : ℕ} → Few size x n → Few size (Next c behind x) (suc n)
+few_next c behind h = record { at_most = omega arith }
+
+few_over : (stop : Stop) (left : List ℕ) {n : ℕ} → Few size (Over stop left) n
+few_over stop left = record { at_most = omega arith }
+
+few_key : (k : KeyEvent) (behind : List ℕ) {x : Readings} {n : ℕ} → Few items x n → Few items (Key k behind x) (suc n)
 few_key k behind h = record { at_most = omega arith }
 
 -- ---- characters
 
 mutual
-  size_of : (bytes : List ℕ) (last : Last) → Short (chars_of bytes last) (length bytes)
+  size_of : (bytes : List ℕ) (last : Last) → Few size (chars_of bytes last) (length bytes)
   size_of [] last = record { at_most = omega arith }
   size_of (byte ∷ bytes) last =
-      short_if (nat_lt byte 0x80) (short_next byte bytes (size_of bytes last)) (short_more (size_in (lead_in lead_rows byte) bytes last))
+      few_if (nat_lt byte 0x80) (few_next byte bytes (size_of bytes last)) (few_more (size_in (lead_in lead_rows byte) bytes last))
 
-  size_in : (o : Option Continuation) (bytes : List ℕ) (last : Last) → Short (in_char o bytes last) (length bytes)
+  size_in : (o : Option Continuation) (bytes : List ℕ) (last : Last) → Few size (in_char o bytes last) (length bytes)
   size_in None bytes last = record { at_most = omega arith }
   size_in (Some awaited) [] last = record { at_most = omega arith }
   size_in (Some awaited) (byte ∷ bytes) last =
       let value = value_with awaited.value byte in
-      short_if (nat_lt byte awaited.least || nat_lt awaited.greatest byte) (short_over AtBad bytes)
-      (short_if (awaited.more == 0) (short_if (is_scalar value) (short_next value bytes (size_of bytes last)) (short_over AtBad bytes)) (short_more (size_in (Some (after_byte awaited byte)) bytes last)))
+      few_if (nat_lt byte awaited.least || nat_lt awaited.greatest byte) (few_over AtBad bytes)
+      (few_if (awaited.more == 0) (few_if (is_scalar value) (few_next value bytes (size_of bytes last)) (few_over AtBad bytes)) (few_more (size_in (Some (after_byte awaited byte)) bytes last)))
 
 -- ---- keys and pastes
 
@@ -81,26 +70,26 @@ lone_few Vi (byte ∷ bytes) stop left again h = omega arith
 lone_few _ _ _ left again h = omega arith
 
 mutual
-  few : (mode : EditMode) (chars : Chars) → Few (readings mode chars) (size chars)
+  few : (mode : EditMode) (chars : Chars) → Few items (readings mode chars) (size chars)
   few mode (Next c behind rest) = few_if (c == 0x1B) (few_escape mode behind rest (few mode rest)) (few_key (key_of c none) behind (few mode rest))
   few mode (Over stop left) = record { at_most = omega arith }
 
-  few_escape : (mode : EditMode) (here : List ℕ) (chars : Chars) {again : Readings} → Few again (size chars) → Few (in_escape mode here chars again) (suc (size chars))
+  few_escape : (mode : EditMode) (here : List ℕ) (chars : Chars) {again : Readings} → Few items again (size chars) → Few items (in_escape mode here chars again) (suc (size chars))
   few_escape mode here (Next c behind rest) h =
       few_if (byte_is 0x5B here) (few_more (few_more (few_sequence mode (codes "[") rest))) (few_if (byte_is 0x4F here) (few_more (few_more (few_sequence mode (codes "O") rest)))
       (few_if (keeps_byte mode here) (few_key esc here h) (few_more (few_key (key_of c alt) behind (few mode rest)))))
   few_escape mode here (Over stop left) {again} h = record { at_most = lone_few mode here stop left again h.at_most }
 
-  few_sequence : (mode : EditMode) (text : List ℕ) (chars : Chars) → Few (in_sequence mode text chars) (size chars)
+  few_sequence : (mode : EditMode) (text : List ℕ) (chars : Chars) → Few items (in_sequence mode text chars) (size chars)
   few_sequence mode text (Next c behind rest) =
       let k = sequence_key (text ++ c ∷ []) in
       few_if (awaits_more (text ++ c ∷ [])) (few_more (few_sequence mode (text ++ c ∷ []) rest)) (few_key k behind (few_if (announces k) (few_paste mode [] false 0 rest) (few mode rest)))
   few_sequence mode text (Over stop left) = record { at_most = omega arith }
 
-  few_paste : (mode : EditMode) (text : List ℕ) (after_return : Bool) (matched : ℕ) (chars : Chars) → Few (in_paste mode text after_return matched chars) (size chars)
+  few_paste : (mode : EditMode) (text : List ℕ) (after_return : Bool) (matched : ℕ) (chars : Chars) → Few items (in_paste mode text after_return matched chars) (size chars)
   few_paste mode text after_return matched (Next c behind rest) =
       let held = text ++ take matched marker in
-      let more : Few (readings mode rest) (size rest) = few mode rest in
+      let more : Few items (readings mode rest) (size rest) = few mode rest in
       few_if (c == slice_index marker matched) (few_if (matched == 5) (record { at_most = omega arith }) (few_more (few_paste mode text after_return (matched + 1) rest)))
       (few_if (c == 0x1B) (few_more (few_paste mode held false 1 rest)) (few_more (few_paste mode (paste_with_char held (after_return && (matched == 0)) c) (c == 0x0D) 0 rest)))
   few_paste mode text after_return matched (Over stop left) = record { at_most = omega arith }

@@ -1,9 +1,8 @@
 -- The end of a line: an exit for each fault, and the one where all went well.
-use Rattle.std.proofs.Common.{◌≡◌, ℕ, append-nil, Bool, true, false, ◌&&◌, List, [], ◌∷◌, inl, inr, refl, sym, ap, subst, IsTrue, Result, Ok, Err, IfErr}
-use Rattle.std.specs.Global.{Global}
+use Rattle.std.proofs.Common.{◌≡◌, ℕ, append-nil, Bool, true, false, ◌&&◌, List, [], ◌∷◌, inl, inr, refl, sym, ap, ◌∙◌, subst, true≢false, IsTrue, Result, Ok, Err, IfErr, Global}
 use Rattle.std.specs.Prelude.{IfOk, MatchResult, OnErr, OnOk, ⊤, String, if◌then◌else◌, string_bytes}
 use Rattle.line_config.specs.declared.errors.ReadlineError.{ReadlineError, TheVariants.Display, TheVariants.Lines, TheVariants.Memory}
-use Rattle.line_config.specs.Sending.{Takes, TakesSome, Sends}
+use Rattle.line_config.specs.Sending.{Takes, Sends}
 use Rattle.script.proofs.ScriptLaws.{err_in}
 use Rattle.line_config.proofs.Taking.{takes_none}
 use Rattle.line_editor.specs.LineRun.{breaks_after}
@@ -16,10 +15,7 @@ use Rattle.line_screen.proofs.WaitingLemmas.{sent_rests, unsent_rests}
 use Rattle.keyline.specs.SessionEffects.{AreDone, Closes, DrawsEnd, CutSessionEvent, RowIsCut, RowIsDrawn, WantsMemory, Went, Work, breaks, work}
 use Rattle.keyline.specs.Events.{SessionEvent, Breaks, Keeps, Writes, end_events}
 use Rattle.keyline.specs.Sessions.{history_after, history_with_if, line_text}
-use Rattle.keyline.proofs.EventLemmas.{none_done, remembered_none}
-
-true_not_false : (b : Bool) → b ≡ true → b ≡ false → ⊥
-true_not_false b one other = absurd (cc)
+use Rattle.keyline.proofs.EventLemmas.{none_done, remembered_none, went_stopped, went_whole}
 
 -- ---- the end of a line on the display and in the history
 
@@ -36,7 +32,7 @@ module _ {D : Type 0} (held waits : D → List ℕ) (failed : D → Bool) where
   row_drawn asked old new (Ok x) is sent unsent fault = record {
     drawn = subst (λ b. Takes held (sink_of old) (sink_of new) (break_if b)) (sym is) sent.takes;
     works = sent.works;
-    stays = λ no. absurd (true_not_false asked is no);
+    stays = λ no. absurd (true≢false (sym is ∙ no));
   }
   row_drawn asked old new (Err e) is sent unsent fault = (fault, (is, unsent.begins, unsent.fails))
 
@@ -75,23 +71,27 @@ module _ {D L : Type 0} (shown : D → List ℕ) (show_failed : D → Bool) (wri
   abbrev Ends : Bool → Result (List ℕ) ReadlineError → (Coming → Work D L) → (Coming → Work D L) → Result (List ℕ) ReadlineError → Type 0
   Ends adds outcome old new result = Closes shown show_failed written_in write_failed adds outcome old new result
 
-  abbrev Breaks' : Result (List ℕ) ReadlineError → Type 0
-  Breaks' outcome = IfErr outcome (λ e. breaks_after e ≡ true)
+  -- the display failed at the new row, which is the first of an end's events
+  undrawn_goes : {W : Type 0} {F : ReadlineError → Type 0} (adds : Bool) (outcome : Result (List ℕ) ReadlineError) (x y : Work D L) → IsTrue (breaks outcome)
+      → CutSessionEvent shown written_in adds x Breaks Display y → F Display → Went shown written_in adds (end_events outcome) x y W F
+  undrawn_goes adds (Ok text) x y asked cut is = went_stopped Breaks (Keeps text ∷ (Writes text ∷ [])) Display (none_done x) cut is
+  undrawn_goes adds (Err e) x y asked cut is = rw asked (went_stopped Breaks [] Display (none_done x) cut is)
 
   -- a line that gets a new row isn't one that stays
-  stays_not : (outcome : Result (List ℕ) ReadlineError) (old new : Coming → Work D L) (result : Result (List ℕ) ReadlineError)
-      → Breaks' outcome → IfErr outcome (λ e. breaks_after e ≡ false → (new ≡ old) × (result ≡ Err e))
-  stays_not (Ok text) old new result p = tt
-  stays_not (Err e) old new result p = λ other. absurd (true_not_false (breaks_after e) p other)
+  stays_not : (P : ReadlineError → Type 0) (outcome : Result (List ℕ) ReadlineError) → IsTrue (breaks outcome)
+      → IfErr outcome (λ e. breaks_after e ≡ false → P e)
+  stays_not P (Ok text) asked = tt
+  stays_not P (Err e) asked = λ other. absurd (true≢false (sym asked ∙ other))
 
-  -- its first event is the new row
-  row_first : (outcome : Result (List ℕ) ReadlineError) → Breaks' outcome → (others : List SessionEvent) × (end_events outcome ≡ Breaks ∷ others)
-  row_first (Ok text) p = (Keeps text ∷ (Writes text ∷ []), refl)
-  row_first (Err e) p = ([], ap (λ b. if b then Breaks ∷ [] else []) p)
-
-  row_asked : (outcome : Result (List ℕ) ReadlineError) → IsTrue (breaks outcome) → Breaks' outcome
-  row_asked (Ok text) p = tt
-  row_asked (Err e) p = p
+  closes_undrawn : (adds : Bool) (outcome : Result (List ℕ) ReadlineError) (d d' : D) (l : L) (h : Filed) → RowIsCut shown show_failed (breaks outcome) d d'
+      → Ends adds outcome (work d l h) (work d' l h) (Err Display)
+  closes_undrawn adds outcome d d' l h (asked, some, failed) = record {
+    goes = λ coming. undrawn_goes adds outcome (work d l h coming) (work d' l h coming) asked (some, refl) refl;
+    stays = stays_not _ outcome asked;
+    reason = λ coming. inr (inl (refl, failed));
+    display_is = λ coming. inl refl;
+    lines_are = λ coming. inr refl;
+  }
 
   abbrev Sums : Bool → List SessionEvent → Work D L → Work D L → Type 0
   Sums adds events old new = AreDone shown written_in adds events old new
@@ -99,33 +99,14 @@ module _ {D L : Type 0} (shown : D → List ℕ) (show_failed : D → Bool) (wri
   row_done : (adds : Bool) (d d' : D) (l : L) (h : Filed) (coming : Coming) → Takes shown d d' row_break → Sums adds (Breaks ∷ []) (work d l h coming) (work d' l h coming)
   row_done adds d d' l h coming drawn = record { drawn = drawn; wrote = takes_none written_in l l refl; history_is = sym (remembered_none adds h); left_is = refl; answered = tt }
 
-  -- the display failed
-  closes_undrawn : (adds : Bool) (outcome : Result (List ℕ) ReadlineError) (d d' : D) (l : L) (h : Filed) (result : Result (List ℕ) ReadlineError)
-      → Breaks' outcome → result ≡ Err Display → IsTrue (show_failed d') → TakesSome shown d d' row_break → Ends adds outcome (work d l h) (work d' l h) result
-  closes_undrawn adds outcome d d' l h result breaks is failed some = record {
-    goes = λ coming.
-        let row = row_first outcome breaks in
-        record { done = []; others = Breaks ∷ row.0; split = row.1; at = work d l h coming; are_done = none_done (work d l h coming); stands = (Display, (some, refl), is) };
-    stays = stays_not outcome (work d l h) (work d' l h) result breaks;
-    reason = λ coming. rw is (inr (inl (refl, failed)));
-    display_is = λ coming. inl is;
-    lines_are = λ coming. inr refl;
-  }
-
   -- the history could take no line
-  closes_unkept : (adds : Bool) (text : List ℕ) (d d' : D) (l : L) (h h' : Filed) (result : Result (List ℕ) ReadlineError)
-      → Takes shown d d' row_break → show_failed d' ≡ show_failed d → result ≡ Err Memory → IsTrue (adds && takes h text) → h' ≡ h → Ends adds (Ok text) (work d l h) (work d' l h') result
-  closes_unkept adds text d d' l h h' result drawn works is adding kept = record {
-    goes = λ coming. record {
-      done = Breaks ∷ [];
-      others = Keeps text ∷ (Writes text ∷ []);
-      split = refl;
-      at = work d' l h coming;
-      are_done = row_done adds d d' l h coming drawn;
-      stands = (Memory, (adding, ap (λ h. work d' l h coming) kept), is);
-    };
+  closes_unkept : (adds : Bool) (text : List ℕ) (d d' : D) (l : L) (h : Filed)
+      → Takes shown d d' row_break → show_failed d' ≡ show_failed d → IsTrue (adds && takes h text)
+      → Ends adds (Ok text) (work d l h) (work d' l h) (Err Memory)
+  closes_unkept adds text d d' l h drawn works adding = record {
+    goes = λ coming. went_stopped (Keeps text) (Writes text ∷ []) Memory (row_done adds d d' l h coming drawn) (adding, refl) refl;
     stays = tt;
-    reason = λ coming. rw is (inr (inr (inr (refl, adding))));
+    reason = λ coming. inr (inr (inr (refl, adding)));
     display_is = λ coming. inr works;
     lines_are = λ coming. inr refl;
   }
@@ -136,60 +117,40 @@ module _ {D L : Type 0} (shown : D → List ℕ) (show_failed : D → Bool) (wri
       → Sends written_in write_failed (line_text text) l l' written → IfErr written (λ e. e ≡ Lines)
       → Ends adds (Ok text) (work d l h) (work d' l' h') (answer_map (λ u. text) written)
   closes_written adds text d d' l l' h h' (Ok x) drawn works kept wrote named = record {
-    goes = λ coming. record {
-      done = Breaks ∷ (Keeps text ∷ (Writes text ∷ []));
-      others = [];
-      split = refl;
-      at = work d' l' h' coming;
-      are_done = record {
-        drawn = drawn;
-        wrote = subst (Takes written_in l l') (sym (append-nil (line_text text))) wrote.sent;
-        history_is = kept;
-        left_is = refl;
-        answered = tt;
-      };
-      stands = (refl, refl);
-    };
+    goes = λ coming.
+        let lines = subst (Takes written_in l l') (sym (append-nil (line_text text))) wrote.sent in
+        went_whole (record { drawn = drawn; wrote = lines; history_is = kept; left_is = refl; answered = tt }) refl;
     stays = tt;
     reason = λ coming. tt;
     display_is = λ coming. inr works;
     lines_are = λ coming. inr wrote.works;
   }
-  closes_written adds text d d' l l' h h' (Err e) drawn works kept wrote named =
-      let P : Coming → ReadlineError → Type 0 = λ coming e. CutSessionEvent shown written_in adds (work d' l h' coming) (Writes text) e (work d' l' h' coming) in
-      record {
-        goes = λ coming. record {
-          done = Breaks ∷ (Keeps text ∷ []);
-          others = Writes text ∷ [];
-          split = refl;
-          at = work d' l h' coming;
-          are_done = record { drawn = drawn; wrote = takes_none written_in l l refl; history_is = kept; left_is = refl; answered = tt };
-          stands = (e, subst (P coming) (sym named) (wrote.begins, refl), refl);
-        };
-        stays = tt;
-        reason = λ coming. inr (inr (inl (named, wrote.err)));
-        display_is = λ coming. inr works;
-        lines_are = λ coming. inl (ap (λ e. Err e) named);
-      }
+  closes_written adds text d d' l l' h h' (Err e) drawn works kept wrote named = rw named (record {
+    goes = λ coming.
+        let row : Sums adds (Breaks ∷ (Keeps text ∷ [])) (work d l h coming) (work d' l h' coming) =
+        record { drawn = drawn; wrote = takes_none written_in l l refl; history_is = kept; left_is = refl; answered = tt } in
+        went_stopped (Writes text) [] Lines row (wrote.begins, refl) refl;
+    stays = tt;
+    reason = λ coming. inr (inr (inl (refl, wrote.err)));
+    display_is = λ coming. inr works;
+    lines_are = λ coming. inl refl;
+  })
 
   -- no line was accepted
   closes_other : (adds : Bool) (e : ReadlineError) (d d' : D) (l : L) (h : Filed)
-      → Takes shown d d' (break_if (breaks_after e)) → show_failed d' ≡ show_failed d → (breaks_after e ≡ false → d' ≡ d)
-      → Ends adds (Err e) (work d l h) (work d' l h) (Err e)
-  closes_other adds e d d' l h drawn works still = record {
-    goes = λ coming. by coming (breaks_after e) drawn still;
-    stays = λ other. (ap (λ d. work d l h) (still other), refl);
-    reason = λ coming. inl (refl, works);
-    display_is = λ coming. inr works;
+      → RowIsDrawn shown show_failed (breaks_after e) d d' → Ends adds (Err e) (work d l h) (work d' l h) (Err e)
+  closes_other adds e d d' l h row = record {
+    goes = λ coming. by coming (breaks_after e) row.drawn row.stays;
+    stays = λ other. (ap (λ d. work d l h) (row.stays other), refl);
+    reason = λ coming. inl (refl, row.works);
+    display_is = λ coming. inr row.works;
     lines_are = λ coming. inr refl;
   }
     where
       by : (coming : Coming) (b : Bool) → Takes shown d d' (break_if b) → (b ≡ false → d' ≡ d)
           → Went shown written_in adds (if b then Breaks ∷ [] else []) (work d l h coming) (work d' l h coming) (err_in (List ℕ) e ≡ Err e) (λ why. err_in (List ℕ) e ≡ Err why)
-      by coming true drawn still =
-          record { done = Breaks ∷ []; others = []; split = refl; at = work d' l h coming; are_done = row_done adds d d' l h coming drawn; stands = (refl, refl) }
-      by coming false drawn still =
-          record { done = []; others = []; split = refl; at = work d l h coming; are_done = none_done (work d l h coming); stands = (refl, ap (λ d. work d l h coming) (still refl)) }
+      by coming true drawn still = went_whole (row_done adds d d' l h coming drawn) refl
+      by coming false drawn still = rw (still refl) (went_whole (none_done (work d l h coming)) refl)
 
   same_text : (text : List ℕ) (o : Result (String Global) ReadlineError) → IfOk o (λ line. string_bytes line ≡ text) → answer_map (λ line. text) o ≡ answer_map string_bytes o
   same_text text (Ok line) is = ap (λ t. Ok t) (sym is)
@@ -208,14 +169,12 @@ module _ {D L : Type 0} (shown : D → List ℕ) (show_failed : D → Bool) (wri
       → outcome ≡ Err e → EndIsDrawn shown show_failed adds outcome d d' h h' → Ends adds outcome (work d l h) (work d' l h') (Err e)
   closes_refused adds e outcome d d' l h h' is end =
       let drawn = subst (λ o. EndIsDrawn shown show_failed adds o d d' h h') is end in
-      rw (is, drawn.1) (closes_other adds e d d' l h drawn.0.drawn drawn.0.works drawn.0.stays)
+      rw (is, drawn.1) (closes_other adds e d d' l h drawn.0)
 
   -- its end was cut
   pub closes_cut : (adds : Bool) (outcome : Result (List ℕ) ReadlineError) (d d' : D) (l : L) (h h' : Filed) (result : Result (List ℕ) ReadlineError) (e : ReadlineError)
       → result ≡ Err e → EndIsCut shown show_failed adds outcome d d' h h' e → Ends adds outcome (work d l h) (work d' l h') result
-  closes_cut adds outcome d d' l h h' result Display is cut =
-      rw cut.1 (closes_undrawn adds outcome d d' l h result (row_asked outcome cut.0.0) is cut.0.2 cut.0.1)
-  closes_cut adds (Ok text) d d' l h h' result Memory is cut =
-      closes_unkept adds text d d' l h h' result cut.0.drawn cut.0.works is cut.1.1 cut.2
+  closes_cut adds outcome d d' l h h' result Display is cut = rw (is, cut.1) (closes_undrawn adds outcome d d' l h cut.0)
+  closes_cut adds (Ok text) d d' l h h' result Memory is cut = rw (is, cut.2) (closes_unkept adds text d d' l h cut.0.drawn cut.0.works cut.1.1)
   closes_cut adds (Err e) d d' l h h' result Memory is cut = absurd (cut.1.1)
   closes_cut adds outcome d d' l h h' result _ is cut = absurd cut

@@ -1,12 +1,9 @@
 -- A line at a desk: what `run` gives, and then the line's end.
-use Rattle.std.proofs.Common.{◌≡◌, ℕ, suc, ◌<◌, Bool, true, false, ◌⊎◌, List, [], ◌∷◌, ◌++◌, inl, inr, refl, sym, ap, ◌∙◌, subst, IsTrue, Option, Result, Ok, Err, IfErr, OnOk, le_refl}
-use Rattle.std.specs.List.{flat_map}
+use Rattle.std.proofs.Common.{◌≡◌, ℕ, suc, ◌<◌, Bool, true, false, ◌⊎◌, List, [], ◌∷◌, ◌++◌, inl, inr, refl, sym, ap, ◌∙◌, subst, IsTrue, Option, Result, Ok, Err, IfErr, OnOk, le_refl, flat_map, Global}
 use Rattle.std.specs.Prelude.{⊤, String, if◌then◌else◌, string_bytes}
-use Rattle.std.specs.Global.{Global}
 use Rattle.std.proofs.lemmas.Result.{IfErr-weaker}
 use Rattle.line_config.specs.declared.config.Config.{Config}
-use Rattle.line_config.specs.declared.errors.ReadlineError.{ReadlineError}
-use Rattle.line_config.specs.declared.errors.ReadlineError.TheVariants.{Reader, Display, Lines, HistoryText, Helper, Handler, Memory}
+use Rattle.line_config.specs.declared.errors.ReadlineError.{ReadlineError, TheVariants.Reader, TheVariants.Display, TheVariants.Lines}
 use Rattle.line_help.specs.History.{Filed}
 use Rattle.line_keys.specs.CustomBindings.{Custom}
 use Rattle.line_keys.specs.KeyFeeds.{KeyFeed, Coming, answer_map}
@@ -37,19 +34,13 @@ use Rattle.keyline.proofs.ShowCourse.{first_shown, lines_show}
 -- after a fault of a line no new row is drawn
 unbroken : (failed : Bool) (hook : Type 0) (e : ReadlineError) → reason_of failed hook e → breaks_after e ≡ false
 unbroken failed hook Display r = refl
-unbroken failed hook Helper r = refl
-unbroken failed hook Memory r = refl
-unbroken failed hook _ r = absurd r
+unbroken failed hook _ r = search
 
 -- the reasons of a line are those of a desk
 reason_by : (g : Given) (source display lines : Bool) (feed : KeyFeed) (hook : Type 0) (e : ReadlineError) → (feed.reason e → e ≡ Reader → IsTrue source)
     → cause_of g.custom display hook feed e → SessionReason g source display lines e
 reason_by g source display lines feed hook Reader of_source c = of_source c refl
-reason_by g source display lines feed hook Display of_source c = c
-reason_by g source display lines feed hook Lines of_source c = absurd c
-reason_by g source display lines feed hook HistoryText of_source c = absurd c
-reason_by g source display lines feed hook Handler of_source c = c
-reason_by g source display lines feed hook _ of_source c = tt
+reason_by g source display lines feed hook _ of_source c = search
 
 -- ---- the outcome of a line as that of its end
 
@@ -125,11 +116,10 @@ module _ {S H D L K T : Type 0} (k : KnownDevices S D L) (helps : Option H → H
     -- an accepted line is kept, and no other
     kept_in_end : (o : Result (List ℕ) ReadlineError) (h : Filed) → history_with_if config.auto_add_history (flat_map lines_kept (end_events o)) h ≡ history_after config.auto_add_history o h
     kept_in_end (Ok text) h = refl
-    kept_in_end (Err e) h = by (breaks_after e)
-      where
-        by : (b : Bool) → history_with_if config.auto_add_history (flat_map lines_kept (if b then Breaks ∷ [] else [])) h ≡ h
-        by true = remembered_none config.auto_add_history h
-        by false = remembered_none config.auto_add_history h
+    kept_in_end (Err e) h = elim (breaks_after e) as (λ b. history_with_if config.auto_add_history (flat_map lines_kept (if b then Breaks ∷ [] else [])) h ≡ h) [
+      | true ↦ remembered_none config.auto_add_history h
+      | false ↦ remembered_none config.auto_add_history h
+    ]
 
     -- the begin of a line makes nothing
     begun : {events : List SessionEvent} {x y : Work D L} → AreDone k.shown k.written_in config.auto_add_history events x y → AreDone k.shown k.written_in config.auto_add_history (Begins (screen_of old.out) ∷ events) x y

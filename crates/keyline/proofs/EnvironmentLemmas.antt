@@ -1,6 +1,5 @@
 -- Settings from which the environment may have taken the colours.
-use Rattle.std.proofs.Common.{Bool, true, false, inl, inr, refl, subst}
-use Rattle.std.specs.Prelude.{if◌then◌else◌}
+use Rattle.std.proofs.Common.{Bool, true, false, inl, inr, refl, subst, if◌then◌else◌}
 use Rattle.line_config.specs.Feed.{Feed}
 use Rattle.line_config.specs.declared.config.Config.{Config}
 use Rattle.line_config.specs.declared.errors.ReadlineError.{ReadlineError, TheVariants.HistoryText, TheVariants.Memory, TheVariants.Reader}

@@ -1,5 +1,5 @@
 -- What events that were done come to; and a line's asks as events, done and stopped.
-use Rattle.std.proofs.Common.{◌≡◌, ℕ, Bool, true, false, List, [], ◌∷◌, ◌++◌, inl, inr, ◌⊎◌, refl, sym, ap, ◌∙◌, subst, append-nil, append_assoc, Result, Err}
+use Rattle.std.proofs.Common.{◌≡◌, ℕ, Bool, true, false, List, [], ◌∷◌, ◌++◌, inl, inr, ◌⊎◌, refl, sym, ap, ap₂, ◌∙◌, subst, append-nil, append_assoc, Result, Err}
 use Rattle.std.specs.List.{FoldsTo, flat_map}
 use Rattle.std.specs.Prelude.{⊤, map}
 use Rattle.std.proofs.lemmas.Grind.{flat_map-append}
@@ -18,7 +18,7 @@ use Rattle.line_editor.specs.States.{reason_of}
 use Rattle.line_editor.specs.EditSteps.{calls_of_steps, one, surface, Surface, CutStep, CutHelp, CutEditSteps as StepsStop}
 use Rattle.line_editor.specs.Values.{Value, Setting, EditStep, shown_marks}
 use Rattle.line_editor.specs.Values.EditStep.{Draws as DrawStep, Helped as HelpStep}
-use Rattle.line_editor.proofs.StopsLemmas.{asked_both}
+use Rattle.line_editor.proofs.StopsLemmas.{asked_both, folds_apart}
 use Rattle.line_editor.proofs.ToldLemmas.{AllDone, StoppedIn, left_along, rest_along, stopped_cause, went}
 use Rattle.line_screen.specs.ScreenCalls.{Screen, bytes_of, canvas_of, ruler_of, screen_of, sink_of}
 use Rattle.line_screen.specs.declared.renderer.ScreenRenderer.{ScreenRenderer}
@@ -64,40 +64,29 @@ module _ (s : Screen) where
   step_bytes l [] = refl
   step_bytes l (DrawStep v marks redraw ∷ rs) =
       let a = calls_of_redraw (ruler_of s) (shown_marks v marks) l redraw in
-      let more = (calls_of_steps (ruler_of s) a.layout rs).calls in
-      ap (λ b. b ++ drawn_in (step_events s a.layout rs)) (all_of_map (bytes_of s) a.calls)
-      ∙ ap (λ b. flat_map (bytes_of s) a.calls ++ b) (step_bytes a.layout rs)
-      ∙ sym (flat_map-append (bytes_of s) a.calls more)
+      simp flat_map-append (ap₂ (λ first rest. first ++ rest) (all_of_map (bytes_of s) a.calls) (step_bytes a.layout rs))
   step_bytes l (_ ∷ rs) = step_bytes l rs
 
-  step_left : (c : Coming) (l : Layout) (rs : List EditStep) → coming_after_events c (step_events s l rs) ≡ c
-  step_left c l [] = refl
-  step_left c l (DrawStep v marks redraw ∷ rs) = step_left c (calls_of_redraw (ruler_of s) (shown_marks v marks) l redraw).layout rs
-  step_left c l (_ ∷ rs) = step_left c l rs
-
-  step_quiet : (l : Layout) (rs : List EditStep) → (flat_map lines_kept (step_events s l rs) ≡ []) × (flat_map lines_written (step_events s l rs) ≡ [])
-  step_quiet l [] = (refl, refl)
-  step_quiet l (DrawStep v marks redraw ∷ rs) = step_quiet (calls_of_redraw (ruler_of s) (shown_marks v marks) l redraw).layout rs
-  step_quiet l (_ ∷ rs) = step_quiet l rs
+  -- no step keeps, writes or reads anything
+  step_quiet : (c : Coming) (l : Layout) (rs : List EditStep)
+      → (let events = step_events s l rs in (flat_map lines_kept events ≡ []) × (flat_map lines_written events ≡ []) × (coming_after_events c events ≡ c))
+  step_quiet c l [] = (refl, refl, refl)
+  step_quiet c l (DrawStep v marks redraw ∷ rs) = step_quiet c (calls_of_redraw (ruler_of s) (shown_marks v marks) l redraw).layout rs
+  step_quiet c l (_ ∷ rs) = step_quiet c l rs
 
   module _ (a : Setting) where
-    own_bytes : (k : LineState) (ask : LineAsk) (more : List SessionEvent) → drawn_in (own_events a k ask ++ more) ≡ drawn_in more
-    own_bytes k (Keys (Reads item)) more = refl
-    own_bytes k _ more = refl
+    own_bytes : (k : LineState) (ask : LineAsk) → drawn_in (own_events a k ask) ≡ []
+    own_bytes k (Keys (Reads item)) = refl
+    own_bytes k _ = refl
 
     pub asks_bytes : (l : Layout) (k : LineState) (asks : List LineAsk) → drawn_in (asks_events s a l k asks) ≡ flat_map (bytes_of s) (calls_of_steps (ruler_of s) l (steps_along a k asks)).calls
     asks_bytes l k [] = refl
     asks_bytes l k (ask ∷ asks) =
         let rs = (effect_at a k ask).steps in
         let left = left_at a k ask in
-        let x = calls_of_steps (ruler_of s) l rs in
-        let more = asks_events s a x.layout left asks in
-        let later = steps_along a left asks in
-        flat_map-append bytes_drawn (step_events s l rs) (own_events a k ask ++ more)
-        ∙ ap (λ b. b ++ drawn_in (own_events a k ask ++ more)) (step_bytes l rs)
-        ∙ ap (λ b. flat_map (bytes_of s) x.calls ++ b) (own_bytes k ask more ∙ asks_bytes x.layout left asks)
-        ∙ sym (flat_map-append (bytes_of s) x.calls (calls_of_steps (ruler_of s) x.layout later).calls)
-        ∙ ap (λ (q : RedrawCalls). flat_map (bytes_of s) q.calls) (sym (asked_both (ruler_of s) l rs later))
+        let more = asks_bytes (calls_of_steps (ruler_of s) l rs).layout left asks in
+        rw (asked_both (ruler_of s) l rs (steps_along a left asks))
+        (simp (flat_map-append, own_bytes) (ap₂ (λ first rest. first ++ rest) (step_bytes l rs) more))
 
     -- the events of some asks, and of those after them
     pub asks_both : (l : Layout) (k : LineState) (xs ys : List LineAsk)
@@ -107,22 +96,9 @@ module _ (s : Screen) where
         let rs = (effect_at a k ask).steps in
         let left = left_at a k ask in
         let m = (calls_of_steps (ruler_of s) l rs).layout in
-        let events = step_events s l rs in
-        let own = own_events a k ask in
-        let mine = asks_events s a m left xs in
-        let after = left_along a left xs in
-        let others : Layout → List SessionEvent = λ l. asks_events s a l after ys in
-        let there = (calls_of_steps (ruler_of s) m (steps_along a left xs)).layout in
-        ap (λ b. events ++ (own ++ b)) (asks_both m left xs ys)
-        ∙ ap (λ b. events ++ b) (sym (append_assoc own mine (others there)))
-        ∙ sym (append_assoc events (own ++ mine) (others there))
-        ∙ ap (λ (q : RedrawCalls). (events ++ (own ++ mine)) ++ others q.layout) (sym (asked_both (ruler_of s) l rs (steps_along a left xs)))
+        rw (asks_both m left xs ys, asked_both (ruler_of s) l rs (steps_along a left xs)) (simp append_assoc)
 
 -- ---- on devices
-
-folds_apart : {R : Type 0} (made : R → Call → R → Type 0) (xs ys : List Call) (a c : R) → FoldsTo made a (xs ++ ys) c → (b : R) × FoldsTo made a xs b × FoldsTo made b ys c
-folds_apart made [] ys a c h = (a, refl, h)
-folds_apart made (x ∷ xs) ys a c h = let r = folds_apart made xs ys h.0 c h.2 in (r.0, (h.0, h.1, r.1), r.2)
 
 module _ {D L : Type 0} {shown : D → List ℕ} {written_in : L → List ℕ} {adds : Bool} where
   pub none_done : (s : Work D L) → AreDone shown written_in adds [] s s
@@ -130,12 +106,12 @@ module _ {D L : Type 0} {shown : D → List ℕ} {written_in : L → List ℕ} {
 
   pub done_both : {xs ys : List SessionEvent} {s m t : Work D L} → AreDone shown written_in adds xs s m → AreDone shown written_in adds ys m t → AreDone shown written_in adds (xs ++ ys) s t
   done_both {xs} {ys} {s} {m} {t} d r = record {
-    drawn = subst (TakesAll shown s.display t.display) (sym (flat_map-append bytes_drawn xs ys))
+    drawn = rw (flat_map-append bytes_drawn xs ys)
         (takes_then shown s.display m.display t.display (flat_map bytes_drawn xs) (flat_map bytes_drawn ys) d.drawn r.drawn);
-    wrote = subst (TakesAll written_in s.lines t.lines) (sym (flat_map-append line_text (flat_map lines_written xs) (flat_map lines_written ys)) ∙ ap lines_text (sym (flat_map-append lines_written xs ys)))
+    wrote = rw (flat_map-append lines_written xs ys, flat_map-append line_text (flat_map lines_written xs) (flat_map lines_written ys))
         (takes_then written_in s.lines m.lines t.lines (lines_text (flat_map lines_written xs)) (lines_text (flat_map lines_written ys)) d.wrote r.wrote);
-    history_is = r.history_is ∙ (ap (λ h. history_with_if adds (flat_map lines_kept ys) h) d.history_is ∙ (sym (remembered_both adds (flat_map lines_kept xs) (flat_map lines_kept ys) s.history)
-        ∙ ap (λ lines. history_with_if adds lines s.history) (sym (flat_map-append lines_kept xs ys))));
+    history_is = rw (flat_map-append lines_kept xs ys, remembered_both adds (flat_map lines_kept xs) (flat_map lines_kept ys) s.history)
+        (r.history_is ∙ ap (history_with_if adds (flat_map lines_kept ys)) d.history_is);
     left_is = r.left_is ∙ (ap (λ here. coming_after_events here ys) d.left_is ∙ sym (left_both s.coming xs ys));
     answered = answered_both xs ys d.answered r.answered;
   }
@@ -249,12 +225,12 @@ module _ {D L : Type 0} (shown : D → List ℕ) (written_in : L → List ℕ) (
 
     steps_done : (rs : List EditStep) (c : Coming) (a b : Surface (ScreenRenderer D)) → screen_of a.out ≡ s → Drawn (calls_of_steps (ruler_of s) a.layout rs).calls a.out b.out → Sums (step_events s a.layout rs) (on a.out c) (on b.out c)
     steps_done rs c a b is made =
-        let quiet = step_quiet s a.layout rs in
+        let quiet = step_quiet s c a.layout rs in
         record {
           drawn = subst (TakesAll shown (sink_of a.out) (sink_of b.out)) (sym (step_bytes s a.layout rs)) (calls_sent (calls_of_steps (ruler_of s) a.layout rs).calls a.out b.out is made);
           wrote = subst (λ xs. TakesAll written_in lines lines (lines_text xs)) (sym quiet.1) (takes_none written_in lines lines refl);
           history_is = sym (remembered_none adds history) ∙ ap (λ xs. history_with_if adds xs history) (sym quiet.0);
-          left_is = sym (step_left s c a.layout rs);
+          left_is = sym quiet.2;
           answered = steps_answered a.layout rs a.out b.out made;
         }
 

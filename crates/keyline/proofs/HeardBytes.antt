@@ -1,5 +1,5 @@
 -- Bytes after which the source fails read as the first keys and pastes of more bytes.
-use Rattle.std.proofs.Common.{◌≡◌, inl, inr, ℕ, Bool, true, false, ◌||◌, nat_lt, ◌==◌, if◌then◌else◌, List, [], ◌∷◌, ◌++◌, take, Option, Some, None, refl, sym, ap, ◌∙◌, true≢false, eqb-true}
+use Rattle.std.proofs.Common.{◌≡◌, ℕ, Bool, true, false, ◌||◌, nat_lt, ◌==◌, if◌then◌else◌, List, [], ◌∷◌, ◌++◌, take, Option, Some, None, refl, arith}
 use Rattle.std.specs.Prelude.{⊤, slice_index, codes, ◌&&◌, ◌+◌}
 use Rattle.line_config.specs.declared.device.Last.{Last, TheVariants.Failed}
 use Rattle.line_config.specs.declared.settings.EditMode.{EditMode, TheVariants.Emacs, TheVariants.Vi}
@@ -10,7 +10,7 @@ use Rattle.line_keys.specs.declared.key.KeyEvent.{KeyEvent}
 use Rattle.line_screen.specs.Input.{Chars, Next, Over, Stop, AtEnd, AtBad, AtFailure, Torn, Inside, Continuation, chars_of, in_char, is_scalar, lead_in, lead_rows, value_with, after_byte}
 use Rattle.line_screen.specs.KeyGrammar.{Readings, Key, Paste, Cut, Stops, readings, lone_escape, in_escape, in_sequence, in_paste, byte_is, esc, keeps_byte, marker, paste_with_char, announces, inside, coming_of}
 use Rattle.line_screen.specs.Sequences.{awaits_more, sequence_key}
-use Rattle.line_screen.proofs.SequenceLemmas.{by_test}
+use Rattle.std.proofs.lemmas.Bool.Decides.{nat_tests}
 use Rattle.keyline.specs.Sessions.{coming_from}
 
 -- the keys and pastes of the one are the first of the other; the bytes, and what stands after them,
@@ -63,10 +63,7 @@ open_by true p q = p refl
 open_by false p q = q refl
 
 no_byte : (byte wanted : ℕ) → nat_lt wanted 0x80 ≡ true → nat_lt byte 0x80 ≡ false → (byte == wanted) ≡ false
-no_byte byte wanted low high = elim (by_test (byte == wanted)) [
-  | inl is ↦ absurd (true≢false (sym low ∙ (ap (λ x. nat_lt x 0x80) (sym (eqb-true byte wanted is)) ∙ high)))
-  | inr other ↦ other
-]
+no_byte byte wanted low high = grind (arith, nat_tests)
 
 mutual
   chars_open : (bytes more : List ℕ) (last : Last) → CharsOpen bytes (chars_of bytes Failed) (bytes ++ more) (chars_of (bytes ++ more) last)

@@ -1,6 +1,5 @@
 -- Lines and sessions over what opens more: the same, or cut at a read after which nothing is done.
-use Rattle.std.proofs.Common.{◌≡◌, ◌⊎◌, inl, inr, ℕ, zero, suc, false, List, [], ◌∷◌, ◌++◌, refl, sym, ap, ◌∙◌, subst, append-nil, append_assoc, Result, Ok, Err}
-use Rattle.std.specs.Prelude.{OnOk, IfErr, if◌then◌else◌}
+use Rattle.std.proofs.Common.{◌≡◌, ◌⊎◌, inl, inr, ℕ, zero, suc, false, List, [], ◌∷◌, ◌++◌, refl, sym, ap, ◌∙◌, subst, append-nil, append_assoc, Result, Ok, Err, OnOk, IfErr, if◌then◌else◌}
 use Rattle.line_buffer.specs.declared.layout.Layout.{Layout}
 use Rattle.line_config.specs.declared.errors.ReadlineError.{ReadlineError}
 use Rattle.line_config.specs.declared.device.Last.TheVariants.{Failed as SourceFailed}
@@ -158,9 +157,7 @@ module _ (n : ℕ) (g : Given) (x : SessionState) (h : Coming) (on : Opens h x.c
             let fewer : one.events ≡ Begins s ∷ mine =
             heard ∙ ap (λ events. Begins s ∷ (mine ++ events)) (ap end_events cut.answer ∙ ap (λ b. if b then Breaks ∷ [] else []) cut.unbroken) ∙ ap (λ events. Begins s ∷ events) (append-nil mine) in
             let all : other.events ≡ (Begins s ∷ mine) ++ more =
-            ap (λ asks. Begins s ∷ (asks_events s a l k asks ++ end_events q.answer)) cut.begins
-            ∙ ap (λ events. Begins s ∷ (events ++ end_events q.answer)) (asks_both s a l k p.asks cut.later)
-            ∙ ap (λ events. Begins s ∷ events) (append_assoc mine _ (end_events q.answer)) in
+            rw (cut.begins, asks_both s a l k p.asks cut.later) (ap (λ events. Begins s ∷ events) (append_assoc mine _ (end_events q.answer))) in
             inr (record { why = cut.why; outcome = cut.answer; begins = (more, all ∙ ap (λ events. events ++ more) (sym fewer)) })
       ]
 

@@ -1,6 +1,5 @@
 -- Where `--extended` stands among words.
-use Rattle.std.proofs.Common.{◌≡◌, ◌∙◌, ℕ, zero, suc, ◌+◌, ◌-◌, ◌++◌, ◌<◌, nat_lt, Bool, true, false, List, [], ◌∷◌, ap, ap₂, refl, sym, Option, None, Some, cond, length, map, take, drop, arith}
-use Rattle.std.specs.Prelude.{if◌then◌else◌, ◌||◌, bytes_eq, codes, get_or, not, option_map, position, remove}
+use Rattle.std.proofs.Common.{◌≡◌, ◌∙◌, ℕ, zero, suc, ◌+◌, ◌-◌, ◌++◌, ◌<◌, nat_lt, Bool, true, false, List, [], ◌∷◌, ap, ap₂, refl, sym, Option, None, Some, cond, length, map, take, drop, arith, if◌then◌else◌, ◌||◌, bytes_eq, codes, get_or, not, option_map, position, remove}
 use Rattle.std.specs.List.{position_or_len}
 use Rattle.std.proofs.lemmas.Bool.Decides.{nat_tests}
 use Rattle.std.proofs.lemmas.List.{drop-map, take-map, take_rest}
@@ -9,24 +8,19 @@ use Rattle.clap.specs.Words.{Text}
 use Rattle.keyline.specs.Options.{decides, place_of_extended}
 
 passes : (a b : Bool) (x y z : Option ℕ) → (a || b) ≡ false → (if a then x else if b then y else z) ≡ z
-passes false false x y z doesnt = refl
-passes _ _ x y z doesnt = absurd (cc)
+passes a b x y z doesnt = grind arith
 
 stops : (a b : Bool) (z : Option ℕ) → (a || b) ≡ true → (if a then Some 0 else if b then None else z) ≡ (if a then Some 0 else None)
-stops false false z does = absurd (cc)
-stops _ _ z does = refl
+stops a b z does = grind arith
 
 later : (a : Bool) (i : ℕ) → option_map suc (if a then Some i else None) ≡ (if a then Some (suc i) else None)
-later true i = refl
-later false i = refl
+later a i = grind arith
 
 skips : (b : Bool) (n l : ℕ) → nat_lt (cond (not b) (1 + n) 0) (suc l) ≡ false → (b ≡ false) × (nat_lt n l ≡ false)
-skips true n l low = absurd (grind (arith, nat_tests))
-skips false n l low = (refl, grind (arith, nat_tests))
+skips b n l low = grind (arith, nat_tests)
 
 is_none_at : (b : Bool) (i : ℕ) → cond b (Some i) None ≡ None → b ≡ false
-is_none_at true i is = absurd (cc)
-is_none_at false i is = refl
+is_none_at b i is = grind arith
 
 -- the words behind one that doesn't decide
 behind : (word : Text) (words : List Text) → decides word ≡ false → place_of_extended (word ∷ words) ≡ option_map suc (place_of_extended words)

@@ -1,11 +1,9 @@
 -- The count of one byte.
-use Rattle.std.proofs.Common.{◌≡◌, ℕ, ◌+◌, ◌==◌, not, Bool, true, false, List, [], ◌∷◌, ◌++◌, take, drop, Option, Some, None, is_some, encode_utf8, refl, ap, ap₂, ◌∙◌, append-nil, arith, if◌then◌else◌}
-use Rattle.std.specs.Prelude.{length, slice_range, nat_lt}
-use Rattle.std.specs.List.{flat_map}
+use Rattle.std.proofs.Common.{◌≡◌, ℕ, ◌+◌, ◌==◌, not, ◌&&◌, Bool, true, false, List, [], ◌∷◌, ◌++◌, take, Option, Some, None, is_some, encode_utf8, refl, ap, ap₂, ◌∙◌, append-nil, arith, if◌then◌else◌, nat_lt, flat_map}
 use Rattle.std.proofs.lemmas.Bool.{and_parts, and_from, not-true, lt-ltb, ltb-true}
 use Rattle.std.proofs.lemmas.Bool.Decides.{nat_tests}
 use Rattle.std.proofs.lemmas.Str.{encode_ascii}
-use Rattle.line_buffer.specs.Cells.{origin, same_cell}
+use Rattle.line_buffer.specs.Cells.{same_cell}
 use Rattle.line_buffer.specs.Insertions.{insert as insertion}
 use Rattle.line_buffer.specs.Printable.{is_printable, is_typed_at_end}
 use Rattle.line_buffer.specs.declared.layout.Layout.{Layout}
@@ -13,7 +11,6 @@ use Rattle.line_buffer.specs.declared.layout.Position.{Position}
 use Rattle.line_keys.specs.CustomBindings.{Custom}
 use Rattle.line_keys.specs.PhraseScripts.{steps}
 use Rattle.line_keys.specs.declared.command.Cmd.{Cmd, TheVariants.SelfInsert}
-use Rattle.line_editor.specs.RenderCalls.{Marks}
 use Rattle.line_editor.specs.RenderCalls.Call.{Append}
 use Rattle.line_editor.specs.Drawing.{Since, since, ask_anew_effect, shown_in}
 use Rattle.line_keys.specs.Replies.{Reply, fails}
@@ -22,9 +19,9 @@ use Rattle.line_editor.specs.declared.way.Way.{Way, TheVariants.AtEnd, TheVarian
 use Rattle.line_editor.specs.LineScripts.{turn_start, Meets, LineState, line_plan, made_from, meet_script, phrase_script, played_from, steps_along, turn_script, Obeys}
 use Rattle.line_editor.specs.Modal.{Modal, is_at_rest}
 use Rattle.line_editor.specs.NextCommand.{line_phrase}
-use Rattle.line_editor.specs.Redraws.{RedrawCalls, full, rest_call, nothing_asked, erase_call, may_write_over, may_take, may_erase, may_put_in, may_take_out}
-use Rattle.line_editor.proofs.ShortCalls.{move_call, char_call, append_call, put_in_short, taken_out_short, write_over_call}
-use Rattle.line_editor.specs.Redraws.Redraw.{Drawn, Moved, Typed, Appended, Taken, Erased, PutIn, TakenOut, DrawnFrom, Bared, ToEnd, Cleared, Rewritten}
+use Rattle.line_editor.specs.Redraws.{RedrawCalls, full, nothing_asked, may_write_over}
+use Rattle.line_editor.proofs.ShortCalls.{move_call, append_call}
+use Rattle.line_editor.specs.Redraws.Redraw.{Drawn, Moved, Appended, Taken, DrawnFrom, Bared, ToEnd, Beeped, Cleared}
 use Rattle.line_editor.specs.Sights.{Sight, sight, Fits}
 use Rattle.line_editor.specs.EditSteps.{calls_of_steps, one}
 use Rattle.line_editor.specs.Values.{shown_marks, Value, Setting, Effect, EditStep, help_steps, hint_reply, no_effect, EditStep.Draws, EditStep.Helped}
@@ -38,7 +35,7 @@ use Rattle.line_screen.specs.Drawing.DrawnItem.{Letter}
 use Rattle.line_screen.specs.Measure.{in_row}
 use Rattle.line_screen.proofs.Items.{letter_items}
 use Rattle.keyline.proofs.ShowSteps.{if_none, small}
-use Rattle.keyline.specs.Shows.{TellsSight, LayoutsTell, TypedAtEnd, OneByte, ReadAlone, bytes_for}
+use Rattle.keyline.specs.Shows.{LayoutsTell, TypedAtEnd, OneByte, ReadAlone, bytes_for}
 use Rattle.script.specs.Scripts.{Asks, Ends}
 
 -- ---- the layout that is kept
@@ -54,68 +51,43 @@ moved_told : (l : Layout) (to : Position) (b : Bool) → told (if b then nothing
 moved_told l to true = refl
 moved_told l to false = refl
 
+free : (l : Layout) (b : Bool) → (not l.has_info && b) ≡ true → not l.has_info ≡ true
+free l b e = (and_parts (not l.has_info) b e).0
+
 -- a short call is made only if there is no information
-short_told : (l : Layout) (short drawn : RedrawCalls) (b : Bool) → told short.layout ≡ told l → told drawn.layout ≡ (false, true) → (b ≡ true → not l.has_info ≡ true) → l.default_prompt ≡ true
+short_told : (l : Layout) (x : Sight) → told l ≡ seen x → x.given ≡ true → (short drawn : RedrawCalls) (b : Bool)
+    → told short.layout ≡ told l → told drawn.layout ≡ (false, true) → (b ≡ true → not l.has_info ≡ true)
     → told (if b then short else drawn).layout ≡ (false, true)
-short_told l short drawn true same full none own = same ∙ ap₂ (λ a b. (a, b)) (not-true l.has_info (none refl)) own
-short_told l short drawn false same full none own = full
+short_told l x h own short drawn true same full none = same ∙ ap₂ (λ a b. (a, b)) (not-true l.has_info (none refl)) (ap (λ t. t.1) h ∙ own)
+short_told l x h own short drawn false same full none = full
 
 one_told : (s : Screen) (own : List ℕ) (l : Layout) (x : Sight) (r : EditStep) → told l ≡ seen x → Fits own x r → told (one (ruler_of s) l r).layout ≡ seen (sight x r)
-one_told s own l x (Draws v m (Drawn prompt given text at info)) h fits = refl
 one_told s own l x (Draws v m (Moved text at)) h fits = let to = (ruler_of s).measure (take at text) l.prompt_size in moved_told l to (same_cell l.cursor to) ∙ h
-one_told s own l x (Draws v m (Typed prompt c text at)) h fits =
-    short_told l (char_call l c) (full (ruler_of s) (shown_marks v m) l prompt true text at None) (may_write_over (ruler_of s) l l.cursor 1) refl refl (λ e. (and_parts (not l.has_info) _ e).0) (ap (λ t. t.1) h ∙ fits.0.given)
+one_told s own l x (Draws v m ToEnd) h fits = moved_told l l.end (same_cell l.cursor l.end) ∙ h
 one_told s own l x (Draws v m (Appended prompt c text at)) h fits =
     let drawn = full (ruler_of s) (shown_marks v m) l prompt true text at None in
     let short = append_call (ruler_of s) l c in
-    ap (λ (q : RedrawCalls). told q.layout) (if_none l.has_info drawn short) ∙ short_told l short drawn (not l.has_info) refl refl (λ e. e) (ap (λ t. t.1) h ∙ fits.0.given)
-one_told s own l x (Draws v m (Taken prompt count true text at)) h fits =
-    short_told l (erase_call l count) (rest_call (ruler_of s) (shown_marks v m) l at text at None) (may_take l count) refl refl (λ e. (and_parts (not l.has_info) _ e).0) (ap (λ t. t.1) h ∙ fits.0.given)
-one_told s own l x (Draws v m (Taken prompt count false text at)) h fits =
-    short_told l (erase_call l count) (full (ruler_of s) (shown_marks v m) l prompt true text at None) (may_take l count) refl refl (λ e. (and_parts (not l.has_info) _ e).0) (ap (λ t. t.1) h ∙ fits.0.given)
-one_told s own l x (Draws v m (Erased prompt c text at)) h fits =
-    let short = erase_call l ((ruler_of s).measure (encode_utf8 c) origin).col in
-    short_told l short (rest_call (ruler_of s) (shown_marks v m) l at text at None) (may_erase (ruler_of s) l c) refl refl (λ e. (and_parts (not l.has_info) _ e).0) (ap (λ t. t.1) h ∙ fits.0.given)
-one_told s own l x (Draws v m (PutIn prompt c text at)) h fits =
-    let rest = drop at text in
-    short_told l (put_in_short (ruler_of s) l c rest) (full (ruler_of s) (shown_marks v m) l prompt true text at None) (may_put_in (ruler_of s) l rest) refl refl (λ e. (and_parts (not l.has_info) _ e).0) (ap (λ t. t.1) h ∙ fits.0.given)
-one_told s own l x (Draws v m (TakenOut prompt count text at)) h fits =
-    let rest = drop at text in
-    let cell = (ruler_of s).measure (take at text) l.prompt_size in
-    short_told l (taken_out_short l cell count rest) (rest_call (ruler_of s) (shown_marks v m) l at text at None) (may_take_out (ruler_of s) l cell count rest) refl refl
-    (λ e. (and_parts (not l.has_info) _ e).0) (ap (λ t. t.1) h ∙ fits.0.given)
-one_told s own l x (Draws v m (DrawnFrom prompt from text at info)) h fits = refl
-one_told s own l x (Draws v m (Rewritten prompt from upto text at)) h fits =
-    let cell = (ruler_of s).measure (take from text) l.prompt_size in
-    let letters = slice_range text from upto in
-    short_told l (write_over_call l letters cell ((ruler_of s).measure (take at text) l.prompt_size)) (rest_call (ruler_of s) (shown_marks v m) l from text at None) (may_write_over (ruler_of s) l cell (length letters)) refl refl
-    (λ e. (and_parts (not l.has_info) _ e).0) (ap (λ t. t.1) h ∙ fits.0.given)
+    ap (λ (q : RedrawCalls). told q.layout) (if_none l.has_info drawn short) ∙ short_told l x h fits.0.given short drawn (not l.has_info) refl refl (λ e. e)
 one_told s own l x (Draws v m (Bared prompt text at)) h fits =
     ap (λ b. told (if b then nothing_asked l else full (ruler_of s) (shown_marks v m) l prompt true text at None).layout) (ap (λ t. t.1) h ∙ fits) ∙ h
-one_told s own l x (Draws v m ToEnd) h fits = moved_told l l.end (same_cell l.cursor l.end) ∙ h
+one_told s own l x (Draws v m (Drawn prompt given text at info)) h fits = refl
+one_told s own l x (Draws v m (DrawnFrom prompt from text at info)) h fits = refl
 one_told s own l x (Draws v m Cleared) h fits = refl
+one_told s own l x (Draws v m Beeped) h fits = h
+one_told s own l x (Draws v m (Taken prompt count true text at)) h fits = search (short_told l x h, free)
+one_told s own l x (Draws v m r) h fits = search (short_told l x h, free)
 one_told s own l x r h fits = h
-
-one_tells : (s : Screen) (own : List ℕ) (l : Layout) (x : Sight) (r : EditStep) → TellsSight l x → Fits own x r → TellsSight (one (ruler_of s) l r).layout (sight x r)
-one_tells s own l x r h fits = let is = one_told s own l x r (ap₂ (λ a b. (a, b)) h.info_is h.given_is) fits in record { info_is = ap (λ t. t.0) is; given_is = ap (λ t. t.1) is }
 
 pub layouts_tell : LayoutsTell
 layouts_tell s own [] l x h fits = h
-layouts_tell s own (r ∷ rs) l x h fits = layouts_tell s own rs (one (ruler_of s) l r).layout (sight x r) (one_tells s own l x r h fits.0) fits.1
+layouts_tell s own (r ∷ rs) l x h fits =
+    let is = one_told s own l x r (ap₂ (λ a b. (a, b)) h.info_is h.given_is) fits.0 in
+    layouts_tell s own rs (one (ruler_of s) l r).layout (sight x r) (record { info_is = ap (λ t. t.0) is; given_is = ap (λ t. t.1) is }) fits.1
 
 -- ---- the byte
 
 printed : (tabs : Bool) (v : Value) (c : ℕ) → may_be_typed tabs c 1 v ≡ true → is_printable c ≡ true
 printed tabs v c alone = (and_parts (is_printable c) _ (and_parts (is_bare v) (is_typed_at_end tabs c v.line.text v.line.place) alone).1).0
-
--- its drawing goes this way, behind a step that sends nothing and what the helper is asked
-shown_short : (a : Setting) (u : Value) (step : EditStep) (c : ℕ) (b : Bool) (way : Way) (from : Option Since) → b ≡ true
-    → (let shown = show_inserted_effect c way from a u in let e : Effect = if b then record { value = shown.value; steps = step ∷ shown.steps } else no_effect a u in
-    is_bare e.value ≡ true → e.steps ≡ step ∷ (help_steps u (hint_reply a u) ++ (Draws e.value a.marks (put_redraw way c from a e.value) ∷ [])))
-shown_short a u step c true way from room after =
-    let w = (ask_anew_effect a u).value in
-    ap (λ b. step ∷ (help_steps u (hint_reply a u) ++ (Draws w a.marks (put_redraw (if b then way else Whole) c from a w) ∷ []))) after
-shown_short a u step c false way from room after = cc
 
 -- neither sends anything
 help_bytes : {A : Type 0} (s : Screen) (l : Layout) (u : Value) (step : EditStep) (reply : Option (Reply A)) (steps : List EditStep) → one (ruler_of s) l step ≡ nothing_asked l
@@ -123,14 +95,16 @@ help_bytes : {A : Type 0} (s : Screen) (l : Layout) (u : Value) (step : EditStep
 help_bytes s l u step None steps nothing = ap (λ a. flat_map (bytes_of s) (a.calls ++ (calls_of_steps (ruler_of s) a.layout steps).calls)) nothing
 help_bytes s l u step (Some reply) steps nothing = ap (λ a. flat_map (bytes_of s) (a.calls ++ (calls_of_steps (ruler_of s) a.layout (Helped u (fails reply) reply.takes ∷ steps)).calls)) nothing
 
+-- its drawing goes this way, behind a step that sends nothing and what the helper is asked
 sent_short : (s : Screen) (l : Layout) (a : Setting) (u : Value) (step : EditStep) (c : ℕ) (b : Bool) (way : Way) (from : Option Since) → b ≡ true
     → (let shown = show_inserted_effect c way from a u in let e : Effect = if b then record { value = shown.value; steps = step ∷ shown.steps } else no_effect a u in
     is_bare e.value ≡ true → one (ruler_of s) l step ≡ nothing_asked l → bytes_for s l e.steps ≡ bytes_for s l (Draws e.value a.marks (put_redraw way c from a e.value) ∷ []))
-sent_short s l a u step c b way from room after nothing =
-    let shown = show_inserted_effect c way from a u in
-    let e : Effect = if b then record { value = shown.value; steps = step ∷ shown.steps } else no_effect a u in
-    ap (bytes_for s l) (shown_short a u step c b way from room after)
-    ∙ help_bytes s l u step (hint_reply a u) (Draws e.value a.marks (put_redraw way c from a e.value) ∷ []) nothing
+sent_short s l a u step c true way from room after nothing =
+    let w = (ask_anew_effect a u).value in
+    let drawn : Way → List EditStep = λ way. Draws w a.marks (put_redraw way c from a w) ∷ [] in
+    ap (λ b. bytes_for s l (step ∷ (help_steps u (hint_reply a u) ++ drawn (if b then way else Whole)))) after
+    ∙ help_bytes s l u step (hint_reply a u) (drawn way) nothing
+sent_short s l a u step c false way from room after nothing = cc
 
 -- by its own drawing if the line may be drawn in part, and ends apart; otherwise by its byte
 typed_way : (a : Setting) (v : Value) (c : ℕ) → TypedAtEnd a v c → insertion_way a c 1 v ≡ (if may_be_appended a.config.partial_redraw c 1 v then Alone else AtEnd)
@@ -142,9 +116,6 @@ typed_bytes s l a v c t =
     let e = insert_char c 1 a v in
     sent_short s l a _ _ c (is_some (insertion c 1 v.line).answer) (insertion_way a c 1 v) (since a v.line.place v) t.room t.after refl
     ∙ ap (λ way. bytes_for s l (Draws e.value a.marks (put_redraw way c (since a v.line.place v) a e.value) ∷ [])) (typed_way a v c t)
-
-short_bytes : (s : Screen) (l : Layout) (v : Value) (m : Option Marks) (prompt : List ℕ) (c : ℕ) (text : List ℕ) (at : ℕ) → is_printable c ≡ true → may_write_over (ruler_of s) l l.cursor 1 ≡ true → bytes_for s l (Draws v m (Typed prompt c text at) ∷ []) ≡ c ∷ []
-short_bytes s l v m prompt c text at printable may = rw may (append-nil (encode_utf8 c) ∙ encode_ascii c (small c printable))
 
 -- a letter that doesn't fill its row is drawn by its byte
 here_in_row : (columns : ℕ) (at : Position) → nat_lt (at.col + 1) columns ≡ true → in_row columns at ≡ at
@@ -160,15 +131,12 @@ letter_bytes s c at printable room =
     ∙ ap (λ (p : Position). bytes_of_items s.columns (Letter c ∷ []) p.col) (here_in_row s.columns at room)
     ∙ ap (λ b. c ∷ (break_if b ++ [])) (fills_none s.columns at room)
 
-alone_bytes : (s : Screen) (l : Layout) (v : Value) (m : Option Marks) (prompt : List ℕ) (c : ℕ) (text : List ℕ) (at : ℕ) → is_printable c ≡ true → may_write_over (ruler_of s) l l.cursor 1 ≡ true → bytes_for s l (Draws v m (Appended prompt c text at) ∷ []) ≡ c ∷ []
-alone_bytes s l v m prompt c text at printable may =
-    let parts = and_parts (not l.has_info) (nat_lt (l.cursor.col + 1) s.columns) may in
-    rw (not-true l.has_info parts.0) (append-nil (bytes_of s (Append (encode_utf8 c) l.cursor)) ∙ letter_bytes s c l.cursor printable parts.1)
-
 either_bytes : (s : Screen) (l : Layout) (a : Setting) (v : Value) (c : ℕ) (b : Bool) (from : Option Since) → is_printable c ≡ true → may_write_over (ruler_of s) l l.cursor 1 ≡ true
     → bytes_for s l (Draws v a.marks (put_redraw (if b then Alone else AtEnd) c from a v) ∷ []) ≡ c ∷ []
-either_bytes s l a v c true from printable may = alone_bytes s l v a.marks a.prompt c v.line.text v.line.place printable may
-either_bytes s l a v c false from printable may = short_bytes s l v a.marks a.prompt c v.line.text v.line.place printable may
+either_bytes s l a v c true from printable may =
+    let parts = and_parts (not l.has_info) (nat_lt (l.cursor.col + 1) s.columns) may in
+    rw (not-true l.has_info parts.0) (append-nil (bytes_of s (Append (encode_utf8 c) l.cursor)) ∙ letter_bytes s c l.cursor printable parts.1)
+either_bytes s l a v c false from printable may = rw may (append-nil (encode_utf8 c) ∙ encode_ascii c (small c printable))
 
 turned_steps : (n : ℕ) (a : Setting) (custom : Custom) (k : LineState) (c : ℕ) → is_at_rest k.modal.standing ≡ true → (let phrase = phrase_script n custom (turn_start k) in ReadAlone a k phrase c
     → (made_from a (turn_script n custom) k).steps ≡ (made_from a phrase k).steps ++ (insert_char c 1 a k.value).steps)

@@ -1,5 +1,5 @@
 -- What an open session passes in, its state before the first line, and what is left when it is closed.
-use Rattle.std.proofs.Common.{◌≡◌, ℕ, List, Option, ap, refl, ◌∙◌, Bool, [], subst, sym}
+use Rattle.std.proofs.Common.{◌≡◌, ℕ, List, Option, ap, refl, ◌∙◌, Bool, [], subst, sym, string_bytes}
 use Rattle.line_config.specs.Feed.{AlwaysTold, Feed, fresh_feed}
 use Rattle.line_config.specs.declared.config.Config.{Config}
 use Rattle.line_config.specs.declared.device.Last.{Last, TheVariants.End}
@@ -11,7 +11,6 @@ use Rattle.keyline.specs.Program.{EditHelper, edit_helping, start_by, EditsBy, h
 use Rattle.keyline.specs.SessionCalls.{Opens, history_loaded_from, RunsSession}
 use Rattle.keyline.specs.Sessions.{coming_from, given_of, Given}
 use Rattle.keyline.specs.declared.desk.Desk.{Desk}
-use Rattle.std.specs.Prelude.{string_bytes}
 use Rattle.line_keys.specs.declared.events.Event.{Event}
 use Rattle.keyline.specs.declared.options.Options.{Options}
 use Rattle.keyline.specs.declared.session.Ended.{Ended}

@@ -1,11 +1,10 @@
 -- What is answered to an error that words give, and which errors they give.
-use Rattle.std.proofs.Common.{◌≡◌, ◌∙◌, List, [], inl, inr, refl, sym, subst, true, Result, Ok, Err}
-use Rattle.std.specs.Prelude.{IsErrAnd, MatchResult}
+use Rattle.std.proofs.Common.{◌≡◌, List, [], inl, inr, refl, sym, subst, true, Result, Ok, Err, IsErrAnd, MatchResult}
 use Rattle.clap.specs.Words.{App, HasKind, HasMatchesOf, IsAmong, Text, fault_of, found_of, is_simple, kind_of, matches_of, rows_of}
 use Rattle.clap.specs.Faults.{is_simple_and_free}
 use Rattle.clap.specs.declared.error.Error.{Error}
 use Rattle.clap.specs.declared.parser.matches.ArgMatches.{ArgMatches}
-use Rattle.clap.specs.declared.error.kind.ErrorKind.{ErrorKind, TheVariants.DisplayHelp, TheVariants.InvalidValue, TheVariants.OutOfMemory}
+use Rattle.clap.specs.declared.error.kind.ErrorKind.{ErrorKind}
 use Rattle.clap.proofs.OnLiterals.{clap_on_literals}
 use Rattle.keyline.specs.Options.{ParsesTo, FailsBy, Says, command_line}
 use Rattle.keyline.specs.declared.options.Options.{Options}
@@ -15,13 +14,9 @@ use Rattle.keyline.specs.declared.options.Parsed.{Parsed, TheVariants.Run, TheVa
 pub answered : (words : List Text) (kind : ErrorKind) (r : Parsed) → FailsBy words kind → Says kind r → ParsesTo words r
 answered words kind (Run options) fails says = absurd says
 answered words kind Memory fails says = tt
-answered words kind (Help text) (inl memory) says =
-    let bad : DisplayHelp ≡ OutOfMemory = sym says ∙ memory in
-    cc
+answered words kind (Help text) (inl memory) says = cc
 answered words kind (Help text) (inr (inl among)) says = subst (λ k. IsAmong k (fault_of command_line words)) says among
-answered words kind (Help text) (inr (inr chosen)) says =
-    let bad : DisplayHelp ≡ InvalidValue = sym says ∙ chosen.0 in
-    cc
+answered words kind (Help text) (inr (inr chosen)) says = cc
 answered words kind (Usage text) (inl memory) says = absurd (says.1 memory)
 answered words kind (Usage text) (inr (inl among)) says = inl (kind, among, says.0)
 answered words kind (Usage text) (inr (inr chosen)) says = inr chosen.1

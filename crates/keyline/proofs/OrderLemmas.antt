@@ -1,7 +1,5 @@
 -- Each line of a session is written right after it was kept.
-use Rattle.std.proofs.Common.{◌≡◌, ℕ, zero, suc, ◌≤◌, Bool, true, false, List, [], ◌∷◌, ◌++◌, length, refl, sym, ap, ◌∙◌, subst, append-nil, append_assoc, Result, Ok, Err, arith}
-use Rattle.std.specs.List.{flat_map}
-use Rattle.std.specs.Prelude.{if◌then◌else◌}
+use Rattle.std.proofs.Common.{◌≡◌, ℕ, zero, suc, ◌≤◌, true, false, List, [], ◌∷◌, ◌++◌, length, refl, sym, ap, ◌∙◌, subst, append-nil, append_assoc, Result, Ok, Err, arith, flat_map, if◌then◌else◌}
 use Rattle.std.proofs.lemmas.Grind.{flat_map-append}
 use Rattle.line_config.specs.declared.errors.ReadlineError.{ReadlineError}
 use Rattle.line_editor.specs.LineRun.{breaks_after}
@@ -43,11 +41,7 @@ module _ (s : Screen) (tail : List SessionEvent) (rest : Ordered [] tail) where
 
 end_first : (o : Result (List ℕ) ReadlineError) (tail : List SessionEvent) → Ordered [] tail → Ordered [] (end_events o ++ tail)
 end_first (Ok text) tail rest = (refl, (refl, rest))
-end_first (Err e) tail rest = by (breaks_after e)
-  where
-    by : (b : Bool) → Ordered [] ((if b then Breaks ∷ [] else []) ++ tail)
-    by true = rest
-    by false = rest
+end_first (Err e) tail rest = elim (breaks_after e) as (λ b. Ordered [] ((if b then Breaks ∷ [] else []) ++ tail)) [ true ↦ rest | false ↦ rest ]
 
 on_line : (later : SessionState → Course ReadlineError) (o : Result (List ℕ) ReadlineError) (y : SessionState) → Ordered [] (later y).events → Ordered [] (course_after_line later (o, y)).events
 on_line later (Ok text) y rest = rest

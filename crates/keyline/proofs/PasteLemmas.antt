@@ -1,5 +1,5 @@
 -- A pasted text as a phrase: it goes in at the cursor, and with Enter it is accepted.
-use Rattle.std.proofs.Common.{◌≡◌, ◌≢◌, ℕ, suc, ◌==◌, Bool, true, false, List, [], ◌∷◌, ◌++◌, Option, None, Some, option_map, Ok, refl, ap, ◌∙◌, eqb-true, not, length, Result, sym, append-nil, arith, subst, codes}
+use Rattle.std.proofs.Common.{◌≡◌, ◌≢◌, ℕ, suc, ◌==◌, Bool, true, false, List, [], ◌∷◌, ◌++◌, Option, None, Some, option_map, Ok, refl, ap, ◌∙◌, ne_eqb, not, length, Result, sym, append-nil, arith, subst, codes}
 use Rattle.line_buffer.specs.declared.types.CharSearch.{CharSearch}
 use Rattle.line_config.specs.declared.device.Last.{Last, TheVariants.End}
 use Rattle.line_config.specs.declared.settings.EditMode.{EditMode, TheVariants.Emacs, TheVariants.Vi}
@@ -14,14 +14,14 @@ use Rattle.line_config.specs.declared.errors.ReadlineError.{ReadlineError}
 use Rattle.std.specs.Option.{option_map_or}
 use Rattle.line_keys.specs.Common.{common_action, decision_of, terminal_command}
 use Rattle.line_keys.specs.CustomKeys.{Situation, situation, handler_arguments_for, or_any, custom_answer}
-use Rattle.line_keys.specs.Emacs.{emacs_action, emacs_command}
+use Rattle.line_keys.specs.Emacs.{emacs_action}
 use Rattle.line_keys.specs.Events.{single}
 use Rattle.line_keys.specs.KeyFeeds.{Key, Paste, Coming, Pressed, Pasted, Ends as NoMore, End as AtItsEnd}
 use Rattle.line_keys.specs.Keys.{none, key_with}
 use Rattle.line_keys.specs.PhraseScripts.{Input, KeyScript, PhrasePart, steps, Needs, Reads, Becomes, after, answer_part, memory_then, with_read, from_key, show_then, keep_then, reply_then, and_then, anew_or}
 use Rattle.line_keys.specs.Refreshing.{Shown}
 use Rattle.line_keys.specs.Replies.{gives_at_once, with_memory}
-use Rattle.line_keys.specs.Vi.{with_last, change_part, insert_part, command_table, vi_counted, vi_command, insert_table, vi_insert}
+use Rattle.line_keys.specs.Vi.{with_last, command_table, vi_counted, vi_command, insert_table, vi_insert}
 use Rattle.line_keys.specs.ViTables.{insert_action, action_of}
 use Rattle.line_editor.specs.Drawing.{shown_in, refresh_effect}
 use Rattle.line_editor.specs.LineScripts.{turn_start, Keys, LineState, LineAsk, line_state, script_of_keys, phrase_script, played_from, Obeys, left_at, line_plan, line_script, meet_script, turn_script, line_script_after, turns_script}
@@ -99,15 +99,11 @@ pub pastes : (mode : EditMode) (input_mode : InputMode) (custom : Custom) (last 
     → steps (phrase_from mode custom (input_with mode input_mode last search modal) shown paste_start) (suc n) ≡ pasting mode (input_with mode input_mode last search modal)
 unfolding answer_part memory_then with_read from_key show_then keep_then reply_then and_then emacs_action common_action action_of insert_action command_table vi_counted vi_command insert_table vi_insert
 pastes Emacs input_mode custom last search modal shown n free =
-    let s = situation custom (input_with Emacs input_mode last search modal) shown 1 true in
-    by_the_table (Some 1) s paste_start (emacs_command s paste_start) (suc n) free refl
+    by_the_table (Some 1) (situation custom (input_with Emacs input_mode last search modal) shown 1 true) paste_start _ (suc n) free refl
 pastes Vi Command custom last search modal shown n free =
-    let input = input_with Vi Command last search modal in
-    let s = situation custom input shown 1 true in
-    by_the_table None s paste_start (and_then input shown (command_table None s paste_start) change_part) (suc n) free refl
+    by_the_table None (situation custom (input_with Vi Command last search modal) shown 1 true) paste_start _ (suc n) free refl
 pastes Vi input_mode custom last search modal shown n free =
-    let input = input_with Vi input_mode last search modal in
-    by_the_table None (situation custom input shown 0 true) paste_start (and_then input shown (insert_table custom input shown paste_start) insert_part) (suc n) free refl
+    by_the_table None (situation custom (input_with Vi input_mode last search modal) shown 0 true) paste_start _ (suc n) free refl
 
 -- ---- the phrases, played
 
@@ -152,11 +148,8 @@ plain_byte b bytes is = rw is (rw is refl)
 stays : (bytes : List ℕ) → ((before after : List ℕ) → bytes ≢ before ++ 0x0D ∷ after) → with_newlines bytes ≡ bytes
 stays [] plain = refl
 stays (b ∷ bytes) plain =
-    plain_byte b bytes (other (b == 0x0D) refl) ∙ ap (λ t. b ∷ t) (stays bytes (λ before after is. plain (b ∷ before) after (ap (λ t. b ∷ t) is)))
-  where
-    other : (t : Bool) → (b == 0x0D) ≡ t → t ≡ false
-    other true is = absurd (plain [] bytes (ap (λ x. x ∷ bytes) (eqb-true b 0x0D is)))
-    other false is = refl
+    plain_byte b bytes (ne_eqb b 0x0D (λ is. plain [] bytes (ap (λ x. x ∷ bytes) is)))
+    ∙ ap (λ t. b ∷ t) (stays bytes (λ before after is. plain (b ∷ before) after (ap (λ t. b ∷ t) is)))
 
 -- the bytes after the mark that begins the paste
 abbrev pub behind_start : List ℕ → List ℕ → List ℕ
@@ -180,15 +173,11 @@ enters : (mode : EditMode) (input_mode : InputMode) (custom : Custom) (last : Cm
     → steps (phrase_from mode custom (input_with mode input_mode last search modal) shown enter) n ≡ Ends (AcceptOrInsertLine true)
 unfolding answer_part memory_then with_read from_key show_then keep_then reply_then and_then emacs_action common_action action_of insert_action command_table vi_counted vi_command insert_table vi_insert
 enters Emacs input_mode custom last search modal shown n free =
-    let s = situation custom (input_with Emacs input_mode last search modal) shown 1 true in
-    by_the_table (Some 1) s enter (emacs_command s enter) n free refl
+    by_the_table (Some 1) (situation custom (input_with Emacs input_mode last search modal) shown 1 true) enter _ n free refl
 enters Vi Command custom last search modal shown n free =
-    let input = input_with Vi Command last search modal in
-    let s = situation custom input shown 1 true in
-    by_the_table None s enter (and_then input shown (command_table None s enter) change_part) n free refl
+    by_the_table None (situation custom (input_with Vi Command last search modal) shown 1 true) enter _ n free refl
 enters Vi input_mode custom last search modal shown n free =
-    let input = input_with Vi input_mode last search modal in
-    by_the_table None (situation custom input shown 0 true) enter (and_then input shown (insert_table custom input shown enter) insert_part) n free refl
+    by_the_table None (situation custom (input_with Vi input_mode last search modal) shown 0 true) enter _ n free refl
 
 -- ---- the text at the cursor
 

@@ -1,45 +1,34 @@
 -- Scripts that play alike on an input with so many keys and pastes, whatever fuel above that they have: each phrase
 -- does.
 use Rattle.std.proofs.Common.{◌≡◌, ℕ, zero, suc, ◌≤◌, Bool, true, false, refl, sym, ap, subst, arith, ◌<◌, Option, None, Some, cond, List, [], ◌∷◌, ◌++◌}
-use Rattle.std.specs.Bool.{⊤}
 use Rattle.script.specs.Scripts.{Script, Ends, Asks, then}
-use Rattle.line_keys.specs.KeyFeeds.{InputItem, InputOf, Key, Paste}
-use Rattle.line_keys.specs.PhraseScripts.{Input, KeyAsk, Reads, KeyScript, PhrasePart, steps, answer_part, needs_if, memory_then, read_upto, with_read, from_key, show_then, keep_then, error_script, reply_script, reply_then, after, input_after_ask, shown_after_ask, and_then, Shows, anew_or, takes_commands}
-use Rattle.line_keys.specs.Refreshing.{Shown, Ask, Prompted, DoingInsert, DoneInserting}
+use Rattle.line_keys.specs.KeyFeeds.{InputItem, InputOf, Key}
+use Rattle.line_keys.specs.PhraseScripts.{Input, KeyAsk, Reads, KeyScript, PhrasePart, steps, answer_part, needs_if, memory_then, read_upto, with_read, from_key, show_then, keep_then, error_script, reply_script, reply_then, after, input_after_ask, shown_after_ask, and_then, Shows}
+use Rattle.line_keys.specs.Refreshing.{Shown, Ask, Prompted}
 use Rattle.line_keys.specs.Replies.{Reply}
 use Rattle.line_keys.specs.declared.key.KeyEvent.{KeyEvent}
-use Rattle.std.specs.Prelude.{ℤ, option_map}
+use Rattle.std.specs.Prelude.{ℤ, ⊤}
 use Rattle.std.specs.Option.{option_map_or}
 use Rattle.line_config.specs.declared.errors.ReadlineError.TheVariants.{Handler}
 use Rattle.line_config.specs.declared.settings.EditMode.{EditMode, TheVariants.Emacs, TheVariants.Vi}
 use Rattle.line_keys.specs.CustomBindings.{Custom}
-use Rattle.line_keys.specs.Commands.{holds_text, flags_of, anew}
-use Rattle.line_keys.specs.Common.{bound_command, common, common_action, common_done, decision_of, terminal_command, is_paste_start, quote_of_paste, quoted_command, quotes}
-use Rattle.line_keys.specs.Counts.{count_from_key, count_and_key, count_with_key, rest_of_count, rest_of_count_by, rest_of_count_in, how_often, is_plus, prompt_for, prompting, Counted, count_times, typed_count}
-use Rattle.line_keys.specs.declared.keymap.custom.Followed.{Followed, TheVariants.Bound, TheVariants.Unbound}
-use Rattle.line_keys.specs.CustomKeys.{Situation, sequence_or, custom_answer, key_sequence, rest_of_sequence, sequence_upto, in_vain, sequence_answer, situation}
-use Rattle.line_keys.specs.Emacs.{after_first_key, emacs_action, emacs_command, emacs_done, emacs_phrase, second_command, move_to_char}
+use Rattle.line_keys.specs.Common.{common_done}
+use Rattle.line_keys.specs.Counts.{count_with_key, rest_of_count, rest_of_count_by, rest_of_count_in, prompt_for, prompting, Counted}
+use Rattle.line_keys.specs.declared.keymap.custom.Followed.{Followed, TheVariants.Unbound}
+use Rattle.line_keys.specs.CustomKeys.{Situation, sequence_or, key_sequence, rest_of_sequence, sequence_upto, in_vain, sequence_answer}
+use Rattle.line_keys.specs.Emacs.{after_first_key, emacs_done}
 use Rattle.line_keys.specs.declared.command.Cmd.{Cmd}
-use Rattle.line_keys.specs.Keys.{char_with, none, key_with, same_key}
-use Rattle.line_keys.specs.declared.command.Cmd.TheVariants.{Insert, Move, QuotedInsert, Noop, Unknown}
-use Rattle.line_keys.specs.declared.keymap.common.CommonAction as common_actions
-use Rattle.line_keys.specs.declared.keymap.common.CommonAction.TheVariants as commons
-use Rattle.line_keys.specs.declared.keymap.emacs.EmacsAction as emacs_actions
-use Rattle.line_keys.specs.declared.keymap.emacs.EmacsAction.TheVariants as emacses
-use Rattle.line_buffer.specs.declared.types.Movement.TheVariants.{ViCharSearch, WholeLine}
+use Rattle.line_keys.specs.Keys.{none}
+use Rattle.line_keys.specs.declared.keymap.common.CommonAction.{CommonAction, TheVariants.Quote}
+use Rattle.line_keys.specs.declared.keymap.emacs.EmacsAction.{EmacsAction, TheVariants.LeadOn}
 use Rattle.line_keys.specs.InputStates.{phrase_from}
-use Rattle.line_keys.specs.Vi.{change_part, changes, command_done, command_of, command_table, insert_mode_if, in_mode, insert_done, insert_table, is_new, key_replacement, remember_if, insert_part, char_command, vi_command, vi_counted, vi_insert, with_last}
-use Rattle.line_keys.specs.ViMotions.{motion_done, vi_motion, search_of, search_part, opposite, search_movement, search_of_next_key}
-use Rattle.line_keys.specs.ViTables.{action_of, insert_action, motion_of}
-use Rattle.line_keys.specs.declared.command.InputMode.TheVariants.{Command, Insert}
-use Rattle.line_keys.specs.declared.key.KeyCode.TheVariants.{Char}
-use Rattle.line_keys.specs.declared.keymap.vi.motion.Motion.{Motion, TheVariants.Go, TheVariants.Seek, TheVariants.Again, TheVariants.Back}
+use Rattle.line_keys.specs.Vi.{command_done, command_table, insert_done, insert_table, remember_if, vi_command, vi_counted, vi_insert}
+use Rattle.line_keys.specs.ViMotions.{motion_done, vi_motion, search_part}
+use Rattle.line_keys.specs.declared.keymap.vi.motion.Motion.{Motion, TheVariants.Seek}
 use Rattle.line_keys.specs.declared.keymap.vi.motion.Search.{Search}
-use Rattle.line_keys.specs.declared.keymap.vi.table.ViAction.{ViAction}
-use Rattle.line_keys.specs.declared.keymap.vi.table.ViAction.TheVariants as action
-use Rattle.line_keys.specs.declared.keymap.vi.table.InsertAction.{InsertAction}
-use Rattle.line_keys.specs.declared.keymap.vi.table.InsertAction.TheVariants as inserting
-use Rattle.line_editor.specs.NextCommand.{begins_group, with_group_begun}
+use Rattle.line_keys.specs.declared.keymap.vi.table.ViAction.{ViAction, TheVariants.Operate, TheVariants.Search as Sought}
+use Rattle.line_keys.specs.declared.keymap.vi.table.InsertAction.{InsertAction, TheVariants.Command as Leads}
+use Rattle.line_editor.specs.NextCommand.{with_group_begun}
 
 -- what follows an ask, by whether it reads: of no item nothing follows
 abbrev pub Next : Bool → ℕ → (ℕ → Type 0) → Type 0
@@ -76,8 +65,7 @@ then_alike {A} {R} {X} {Y} reads k (Ends x) t next next' is h = subst (λ (u : S
 then_alike {A} {R} {X} {Y} reads k (Asks ask f) t next next' (g, is, a) h = (
   (λ x. then (g x) next'),
   ap (λ (u : Script A R X). then u next') is,
-  λ x. next_map (reads ask) k (λ j. Alike reads j (f x) (g x)) (λ j. Alike reads j (then (f x) next) (then (g x) next'))
-      (λ j less b. then_alike reads j (f x) (g x) next next' b (λ i low. h i (omega arith))) (a x),
+  λ x. next_map (reads ask) k _ _ (λ j less b. then_alike reads j (f x) (g x) next next' b (λ i low. h i (omega arith))) (a x),
 )
 
 -- ---- parts of phrases
@@ -100,6 +88,11 @@ s_answered x = record { plays = λ k n m a b. refl }
 s_if : {X : Type 0} {p q : PhrasePart X} (b : Bool) → Steady p → Steady q → Steady (cond b p q)
 s_if true h g = h
 s_if false h g = g
+
+s_option : {X Y : Type 0} {next : X → PhrasePart Y} {other : PhrasePart Y} (o : Option X) → ((x : X) → Steady (next x))
+    → Steady other → Steady (option_map_or next o other)
+s_option (Some x) h g = h x
+s_option None h g = g
 
 needs_alike : {X : Type 0} (b : Bool) (k : ℕ) (s t : KeyScript X) → Plays k s t → Plays k (needs_if b s) (needs_if b t)
 needs_alike true k s t h = ((λ none. t), refl, λ x. h)
@@ -148,7 +141,7 @@ after_alike {X} {Y} k next next' input shown (Ends x) t is h = subst (λ (u : Ke
 after_alike {X} {Y} k next next' input shown (Asks ask f) t (g, is, a) h = (
   (λ x. after next' (input_after_ask ask input) (shown_after_ask ask x shown) (g x)),
   ap (λ (u : KeyScript X). after next' input shown u) is,
-  λ x. next_map (is_key_read ask) k (λ j. Plays j (f x) (g x)) (λ j. Plays j (after next (input_after_ask ask input) (shown_after_ask ask x shown) (f x)) (after next' (input_after_ask ask input) (shown_after_ask ask x shown) (g x)))
+  λ x. next_map (is_key_read ask) k _ _
       (λ j less b. after_alike j next next' (input_after_ask ask input) (shown_after_ask ask x shown) (f x) (g x) b (λ i low. h i (omega arith))) (a x),
 )
 
@@ -176,17 +169,13 @@ counting_alike on (suc n) (suc m) c k low low' =
     (next m, refl, λ key. next_read (λ j. Plays j (next n key) (next m key)) k n m low low' (counted_by on n m (counting_alike on n m) c key (on c key)))
 counting_alike on _ _ c k low low' = absurd (omega arith)
 
-s_counting : (mode : EditMode) (key : KeyEvent) (o : Option ℤ) → Steady (option_map_or (rest_of_count (count_with_key mode)) o (answer_part (None, key)))
+s_counting : (mode : EditMode) (c : ℤ) → Steady (rest_of_count (count_with_key mode) c)
 unfolding rest_of_count
-s_counting mode key (Some c) = record {
+s_counting mode c = record {
   plays = λ k n m low low'.
       let on = count_with_key mode in
       ((λ none. Asks (Shows (Prompted (prompt_for c))) (λ shown. rest_of_count_in on c m)), refl, λ none. ((λ shown. rest_of_count_in on c m), refl, λ shown. counting_alike on n m c k low low'));
 }
-s_counting mode key None = s_answered (None, key)
-
-s_counted_key : (mode : EditMode) (key : KeyEvent) → Steady (count_and_key mode key)
-s_counted_key mode key = s_counting mode key (count_from_key mode key)
 
 abbrev more_keys : Situation → List KeyEvent → ℕ → KeyEvent → KeyScript Followed
 more_keys s keys n key = reply_script (sequence_or (sequence_upto s (keys ++ key ∷ []) n)) (sequence_answer s (keys ++ key ∷ []))
@@ -217,114 +206,62 @@ s_followed s key = s_needing (s.custom.begins (key ∷ [])) (record { plays = λ
 
 -- ---- both modes
 
-s_anew_or : (other : Cmd) (new : Option ℕ) (shown : Shown) (cmd : Cmd) → Steady (anew_or other new shown cmd)
-s_anew_or other new shown cmd = let copy = anew other new shown cmd in s_needing (holds_text copy) (s_answered copy)
+ruleset steady = (s_answered, s_if, s_option, s_needing, s_with_read, s_from_key, s_asking, s_becoming, s_deciding, s_and_then, s_counting, s_followed)
 
-s_pasted : Steady quote_of_paste
-s_pasted = s_with_read Paste (λ text. s_answered (Insert 1 text))
-
-s_common_done : (s : Situation) (key : KeyEvent) (a : Option common_actions.CommonAction) → Steady (common_done s key a)
-s_common_done s key (Some (commons.Give cmd)) = s_answered cmd
-s_common_done s key (Some commons.Paste) = s_pasted
-s_common_done s key (Some commons.Quote) =
-    s_if (quotes s.input) (s_with_read Key (λ key. s_if (is_paste_start key) s_pasted (s_answered (quoted_command key)))) (s_answered QuotedInsert)
-s_common_done s key None = s_and_then s.input s.shown (s_followed s key) (λ f input shown. s_answered (bound_command f))
-
-s_common : (s : Situation) (key : KeyEvent) → Steady (common s key)
-s_common s key = s_common_done s key (common_action s.input.mode s.shown s.n s.positive key)
-
-s_command_or : (other : PhrasePart Cmd) (o : Option Cmd) → Steady other → Steady (option_map_or answer_part o other)
-s_command_or other (Some cmd) h = s_answered cmd
-s_command_or other None h = h
-
-s_bound_or : (new : Option ℕ) (s : Situation) (other : PhrasePart Cmd) (o : Option Cmd) → Steady other → Steady (option_map_or (λ cmd. anew_or cmd new s.shown cmd) o other)
-s_bound_or new s other (Some cmd) h = s_anew_or cmd new s.shown cmd
-s_bound_or new s other None h = h
-
-s_decided : (new : Option ℕ) (s : Situation) (key : KeyEvent) (table : PhrasePart Cmd) → Steady table → Steady (decision_of new s key table)
-s_decided new s key table h =
-    let other = option_map_or answer_part (terminal_command s.shown key) table in
-    s_deciding (custom_answer s key) (λ o. s_bound_or new s other o (s_command_or table (terminal_command s.shown key) h))
+s_common_done : (s : Situation) (key : KeyEvent) (a : Option CommonAction) → Steady (common_done s key a)
+s_common_done s key (Some Quote) = search steady
+s_common_done s key _ = search steady
 
 -- ---- Emacs
 
 s_after_first_key : (n : ℕ) (positive : Bool) (f : Followed) → Steady (after_first_key n positive f)
-s_after_first_key n positive (Bound cmd) = s_answered cmd
-s_after_first_key n positive (Unbound (Some k)) = s_answered (second_command n positive k)
-s_after_first_key n positive (Unbound None) = s_from_key (second_command n positive)
+s_after_first_key n positive (Unbound None) = search steady
+s_after_first_key n positive _ = search steady
 
-s_emacs_done : (s : Situation) (key : KeyEvent) (a : Option emacs_actions.EmacsAction) → Steady (emacs_done s key a)
-s_emacs_done s key (Some (emacses.Give cmd)) = s_answered cmd
-s_emacs_done s key (Some (emacses.Seek search)) = s_from_key (λ next. move_to_char s.n (search_of search) (char_with none next))
-s_emacs_done s key (Some emacses.LeadOn) = s_and_then s.input s.shown (s_followed s key) (λ f input shown. s_after_first_key s.n s.positive f)
-s_emacs_done s key None = s_common s key
-
-s_emacs_phrase : (custom : Custom) (input : Input) (shown : Shown) (key : KeyEvent) → Steady (emacs_phrase custom input shown key)
-s_emacs_phrase custom input shown key = s_and_then input shown (s_counted_key input.mode key) (λ f i seen.
-    (let s = situation custom i seen (how_often f.0) (is_plus f.0) in s_decided (Some s.n) s f.1 (emacs_command s f.1) (s_emacs_done s f.1 (emacs_action s.shown s.n s.positive f.1))))
+s_emacs_done : (s : Situation) (key : KeyEvent) (a : Option EmacsAction) → Steady (emacs_done s key a)
+s_emacs_done s key (Some LeadOn) = search (steady, s_after_first_key)
+s_emacs_done s key None = search (steady, s_common_done)
+s_emacs_done s key _ = search steady
 
 -- ---- Vi
 
 s_found : (way : Search) (n : ℕ) (input : Input) (o : Option ℕ) → Steady (search_part way n input o)
-s_found way n input (Some c) = s_becoming (record input { search = Some (search_of way c) }) (s_answered (Some (ViCharSearch n (search_of way c))))
-s_found way n input None = s_answered None
-
-s_sought : (way : Search) (n : ℕ) (input : Input) → Steady (search_of_next_key way n input)
-s_sought way n input = s_with_read Key (λ k. s_found way n input (char_with none k))
+s_found way n input None = search steady
+s_found way n input _ = search steady
 
 s_motion_done : (n : ℕ) (input : Input) (m : Option Motion) → Steady (motion_done n input m)
-s_motion_done n input (Some (Go movement)) = s_answered (Some movement)
-s_motion_done n input (Some (Seek search)) = s_sought search n input
-s_motion_done n input (Some Again) = s_answered (search_movement n input.search)
-s_motion_done n input (Some Back) = s_answered (search_movement n (option_map opposite input.search))
-s_motion_done n input None = s_answered None
+s_motion_done n input (Some (Seek way)) = search (steady, s_found)
+s_motion_done n input _ = search steady
 
 s_vi_motion : (operator : KeyEvent) (n : ℕ) (input : Input) (shown : Shown) → Steady (vi_motion operator n input shown)
-s_vi_motion operator n input shown = s_with_read Key (λ k. s_if (same_key k operator) (s_answered (Some WholeLine))
-    (s_and_then input shown (s_counted_key input.mode k) (λ f i seen. (let times = count_times n f.0 in s_motion_done times i (motion_of (same_key operator (key_with (Char 0x63) none)) times f.1)))))
+s_vi_motion operator n input shown = search (steady, s_motion_done) depth 7
 
 s_remembering : (b : Bool) (cmd : Cmd) (input : Input) → Steady (remember_if b cmd input)
-s_remembering true cmd input = s_needing (holds_text cmd) (s_becoming (with_last cmd input) (s_answered cmd))
-s_remembering false cmd input = s_answered cmd
+s_remembering true cmd input = search steady
+s_remembering false cmd input = search steady
 
 s_command_done : (new : Option ℕ) (s : Situation) (k : KeyEvent) (a : Option ViAction) → Steady (command_done new s k a)
-s_command_done new s k (Some (action.Give cmd)) = s_answered cmd
-s_command_done new s k (Some (action.Insert cmd)) = s_becoming (in_mode Insert s.input) (s_asking DoingInsert (λ seen. s_answered cmd))
-s_command_done new s k (Some (action.Turn mode cmd)) = s_becoming (in_mode mode s.input) (s_answered cmd)
-s_command_done new s k (Some (action.Operate o)) =
-    let input = insert_mode_if (changes o) s.input in
-    s_becoming input (s_and_then input s.shown (s_vi_motion k s.n input s.shown) (λ m i seen. s_answered (option_map_or (command_of o) m Unknown)))
-s_command_done new s k (Some (action.Search way)) = s_and_then s.input s.shown (s_sought way s.n s.input) (λ m i seen. s_answered (option_map_or Move m Unknown))
-s_command_done new s k (Some action.Again) = s_answered (option_map_or Move (search_movement s.n s.input.search) Noop)
-s_command_done new s k (Some action.Back) = s_answered (option_map_or Move (search_movement s.n (option_map opposite s.input.search)) Noop)
-s_command_done new s k (Some action.Repeat) = s_anew_or Noop new s.shown s.input.last
-s_command_done new s k (Some action.Replace) = s_from_key (key_replacement s.n)
-s_command_done new s k None = s_common s k
+s_command_done new s k (Some (Operate o)) = search (steady, s_vi_motion)
+s_command_done new s k (Some (Sought way)) = search (steady, s_found)
+s_command_done new s k None = search (steady, s_common_done)
+s_command_done new s k _ = search steady
 
 s_vi_command : (custom : Custom) (k : KeyEvent) (input : Input) (shown : Shown) → Steady (vi_command custom k input shown)
 unfolding vi_command vi_counted command_table
-s_vi_command custom k input shown = s_and_then input shown (s_counted_key input.mode k) (λ f i seen.
-    (let new = typed_count f.0 in let s = situation custom i seen (how_often f.0) true in
-    s_decided new s f.1 (and_then i seen (command_table new s f.1) change_part)
-    (s_and_then i seen (s_command_done new s f.1 (action_of i.modal_commands s.n f.1)) (λ cmd i seen. s_remembering (flags_of cmd).is_change cmd i))))
+s_vi_command custom k input shown = search (steady, s_command_done, s_remembering) depth 8
 
 s_insert_done : (custom : Custom) (input : Input) (shown : Shown) (k : KeyEvent) (a : Option InsertAction) → Steady (insert_done custom input shown k a)
-s_insert_done custom input shown k (Some (inserting.Give cmd)) = s_answered cmd
-s_insert_done custom input shown k (Some (inserting.Typed c)) = s_answered (char_command input.input_mode c)
-s_insert_done custom input shown k (Some (inserting.Leave cmd)) = s_becoming (in_mode Command input) (s_asking DoneInserting (λ seen. s_answered cmd))
-s_insert_done custom input shown k (Some (inserting.Command c)) =
-    s_becoming (in_mode Command input) (s_asking DoneInserting (s_vi_command custom (key_with (Char c) none) (in_mode Command input)))
-s_insert_done custom input shown k None = s_common (situation custom input shown 1 true) k
+s_insert_done custom input shown k (Some (Leads c)) = search (steady, s_vi_command)
+s_insert_done custom input shown k None = search (steady, s_common_done)
+s_insert_done custom input shown k _ = search steady
 
 s_vi_insert : (custom : Custom) (k : KeyEvent) (input : Input) (shown : Shown) → Steady (vi_insert custom k input shown)
 unfolding vi_insert insert_table
-s_vi_insert custom k input shown =
-    s_decided None (situation custom input shown 0 true) k (and_then input shown (insert_table custom input shown k) insert_part)
-    (s_and_then input shown (s_insert_done custom input shown k (insert_action input.modal_commands shown k)) (λ cmd i seen. s_remembering (is_new cmd i) cmd i))
+s_vi_insert custom k input shown = search (steady, s_insert_done, s_remembering) depth 7
 
 pub s_phrase_from : (mode : EditMode) (custom : Custom) (input : Input) (shown : Shown) (k : KeyEvent) → Steady (phrase_from mode custom input shown k)
-s_phrase_from Emacs custom input shown k = s_emacs_phrase custom input shown k
-s_phrase_from Vi custom input shown k = s_if (takes_commands input.input_mode) (s_vi_command custom k input shown) (s_vi_insert custom k input shown)
+s_phrase_from Emacs custom input shown k = search (steady, s_emacs_done) depth 8
+s_phrase_from Vi custom input shown k = search (steady, s_vi_command, s_vi_insert)
 
 pub s_with_group : (cmd : Cmd) (input : Input) (shown : Shown) → Steady (with_group_begun cmd input shown)
-s_with_group cmd input shown = s_if (begins_group cmd) (s_asking DoingInsert (λ seen. s_answered cmd)) (s_answered cmd)
+s_with_group cmd input shown = search steady

@@ -31,8 +31,7 @@ keyed_alike k (Ends x) t is = ap script_of_keys is
 keyed_alike {X} k (Asks ask f) t (g, is, h) = (
   (λ x. script_of_keys (g x)),
   ap script_of_keys is,
-  λ x. next_map (is_key_read ask) k (λ j. Plays j (f x) (g x)) (λ j. Alike is_line_read j (script_of_keys (f x)) (script_of_keys (g x)))
-      (λ j low a. keyed_alike j (f x) (g x) a) (h x),
+  λ x. next_map (is_key_read ask) k _ _ (λ j low a. keyed_alike j (f x) (g x) a) (h x),
 )
 
 -- ---- turns

@@ -1,7 +1,6 @@
 -- What columns matter to, and what a history holds.
-use Rattle.std.proofs.Common.{◌≡◌, ◌+◌, ℕ, zero, suc, ◌≤◌, Bool, true, false, List, [], ◌∷◌, ◌++◌, length, min, map, Option, None, Result, Ok, Err, refl, sym, ap, ◌∙◌, subst, append_assoc, append-nil, arith, if◌then◌else◌}
+use Rattle.std.proofs.Common.{◌≡◌, ℕ, zero, suc, ◌≤◌, Bool, true, false, List, [], ◌∷◌, ◌++◌, length, map, Option, None, Result, Ok, Err, refl, sym, ap, ap₂, ◌∙◌, subst, append_assoc, append-nil, arith, flat_map, ◌+◌, min, if◌then◌else◌}
 use Rattle.std.proofs.lemmas.List.{map-append}
-use Rattle.std.specs.List.{flat_map}
 use Rattle.line_buffer.specs.declared.layout.Layout.{Layout}
 use Rattle.line_buffer.specs.declared.layout.TabStops.{TabStops}
 use Rattle.line_config.specs.declared.errors.ReadlineError.{ReadlineError}
@@ -33,15 +32,8 @@ module _ (s t : Screen) where
   asks_alike a l m k (ask ∷ asks) =
       let rs = (effect_at a k ask).steps in
       let left = left_at a k ask in
-      let own = own_events a k ask in
-      let one_rest = asks_events s a (calls_of_steps (ruler_of s) l rs).layout left asks in
-      let other_rest = asks_events t a (calls_of_steps (ruler_of t) m rs).layout left asks in
-      map-append event_without_columns (step_events s l rs) (own ++ one_rest)
-      ∙ ap (λ events. events ++ map event_without_columns (own ++ one_rest)) (step_alike l m rs)
-      ∙ ap (λ events. map event_without_columns (step_events t m rs) ++ events) (map-append event_without_columns own one_rest
-      ∙ ap (λ events. map event_without_columns own ++ events) (asks_alike a (calls_of_steps (ruler_of s) l rs).layout (calls_of_steps (ruler_of t) m rs).layout left asks)
-      ∙ sym (map-append event_without_columns own other_rest))
-      ∙ sym (map-append event_without_columns (step_events t m rs) (own ++ other_rest))
+      let rest = asks_alike a (calls_of_steps (ruler_of s) l rs).layout (calls_of_steps (ruler_of t) m rs).layout left asks in
+      simp map-append (ap₂ (λ first rest. first ++ (map event_without_columns (own_events a k ask) ++ rest)) (step_alike l m rs) rest)
 
 -- where tabs end on its rows
 abbrev tabs_of : Given → Option TabStops
@@ -80,15 +72,12 @@ lines_alike n g x columns t e =
     let a = setting_in g entries in
     let p = played_from a (line_script n g.custom) (first_line_state a x.ring x.query x.coming) in
     let k = first_line_state a x.ring x.query x.coming in
-    let asks = λ (s : Screen). asks_events s a (fresh s.mode) k p.asks in
     let same : line_course n other x ≡ course_on n g x s a =
     ap (λ column. course_on n g x s (setting_at g entries column (tabs_of other))) e
     ∙ ap (λ tabs. course_on n g x s (setting_at g entries (prompt_column g) tabs)) t in
     let alike : Alike (course_on n g x s a) (line_course n g x) = record {
-      events = ap (λ events. Begins (record s { columns = 0 }) ∷ events)
-          (map-append event_without_columns (asks s) (end_events p.answer)
-          ∙ ap (λ events. events ++ map event_without_columns (end_events p.answer)) (asks_alike s g.screen a (fresh s.mode) (fresh g.screen.mode) k p.asks)
-          ∙ sym (map-append event_without_columns (asks g.screen) (end_events p.answer)));
+      events = simp map-append (ap (λ events. Begins (record s { columns = 0 }) ∷ (events ++ map event_without_columns (end_events p.answer)))
+          (asks_alike s g.screen a (fresh s.mode) (fresh g.screen.mode) k p.asks));
       answer = refl;
     } in
     subst (λ c. Alike c (line_course n g x)) (sym same) alike
@@ -99,18 +88,12 @@ line_first : (c d : Course (Result (List ℕ) ReadlineError × SessionState)) (f
 line_first c d f h alike so =
     subst (λ answer. Alike (events_first c.events (course_after_line f c.answer)) (events_first d.events (course_after_line h answer))) alike.answer (by c.answer.0)
   where
-    y : SessionState
-    y = c.answer.1
-
     first : (one other : Course ReadlineError) → Alike one other → Alike (events_first c.events one) (events_first d.events other)
-    first one other is = record {
-      events = map-append event_without_columns c.events one.events ∙ ap (λ events. events ++ map event_without_columns one.events) alike.events ∙ ap (λ events. map event_without_columns d.events ++ events) is.events
-          ∙ sym (map-append event_without_columns d.events other.events);
-      answer = is.answer;
-    }
+    first one other is = record { events = simp map-append (ap₂ (λ first rest. first ++ rest) alike.events is.events); answer = is.answer }
 
-    by : (o : Result (List ℕ) ReadlineError) → Alike (events_first c.events (course_after_line f (o, y))) (events_first d.events (course_after_line h (o, y)))
-    by (Ok text) = first (f y) (h y) (so y)
+    by : (o : Result (List ℕ) ReadlineError)
+        → Alike (events_first c.events (course_after_line f (o, c.answer.1))) (events_first d.events (course_after_line h (o, c.answer.1)))
+    by (Ok text) = first (f c.answer.1) (h c.answer.1) (so c.answer.1)
     by (Err e) = first (record { events = []; answer = e }) (record { events = []; answer = e }) (record { events = refl; answer = refl })
 
 sessions_alike : (n : ℕ) (g : Given) (columns : ℕ) → tabs_of (at_columns columns g) ≡ tabs_of g → prompt_column (at_columns columns g) ≡ prompt_column g → (x : SessionState)

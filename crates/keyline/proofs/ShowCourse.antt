@@ -21,14 +21,14 @@ use Rattle.line_editor.proofs.LineLeads.{lines_lead, turn_leads}
 use Rattle.line_keys.specs.InputStates.{new_input}
 use Rattle.line_keys.specs.PhraseScripts.{Reads}
 use Rattle.line_screen.specs.ScreenCalls.{Screen, bytes_of, ruler_of, widths}
-use Rattle.line_screen.specs.Chain.{Good, Shows, empty_view, finish_of, cursor_of, above}
+use Rattle.line_screen.specs.Chain.{Good, Shows, empty_view, finish_of, above}
 use Rattle.line_screen.specs.Display.{Display, Placed, at_cursor}
 use Rattle.line_screen.specs.Drawing.{row_break, next_row}
 use Rattle.line_screen.proofs.LawLemmas.{start_is_empty, shown_is_meant, line_ends_anywhere, ended_line_stays}
 use Rattle.keyline.specs.Events.{SessionEvent, Course, Begins, Draws, Rests, Breaks, asks_events, end_events, events_of, course_after_line, line_course, own_events, line_play_in, session, step_events}
 use Rattle.keyline.specs.Sessions.{Given, LineGiven, SessionState, for_line, setting_in}
-use Rattle.keyline.specs.Shows.{picture, place_in, view_in, DisplayHolds, LowAll, kept_by, kept_drawn, kept_after, bytes_for, Face, face, blank, face_with_drawing, face_on_new_row, below, IsAtRest, IsScreen, HasMeaning, MomentShown, EachShown, Lead, sight_behind, CommandsShow, TurnsShow}
-use Rattle.keyline.proofs.ShowSteps.{fresh_holds, step}
+use Rattle.keyline.specs.Shows.{picture, view_in, DisplayHolds, LowAll, kept_by, kept_drawn, kept_after, bytes_for, Face, face, blank, face_with_drawing, face_on_new_row, below, IsAtRest, IsScreen, HasMeaning, MomentShown, EachShown, Lead, sight_behind, CommandsShow, TurnsShow}
+use Rattle.keyline.proofs.ShowSteps.{fresh_holds, place_by, step}
 use Rattle.line_editor.specs.Commands.{effect}
 use Rattle.line_editor.proofs.CommandsLead.{commands_lead}
 use Rattle.line_keys.specs.declared.command.Cmd.{Cmd, TheVariants.Interrupt}
@@ -54,9 +54,6 @@ module _ (s : Screen) (low : 2 ≤ s.columns) (high : s.columns ≤ 1000) (own :
       append_assoc bytes new (bytes_for s a.layout rs) ∙ ap (λ b. bytes ++ b) (sym (flat_map-append (bytes_of s) a.calls (calls_of_steps (ruler_of s) a.layout rs).calls)) in
       subst (λ b. DisplayHolds s b (kept_after (r ∷ rs) over []) (kept_after (r ∷ rs) top 0) (calls_of_steps (ruler_of s) l (r ∷ rs)).layout (sight_all x (r ∷ rs))) joined rest
 
-  place_by : (x : Sight) (b : Bool) → x.ended ≡ b → place_in s x ≡ (if b then finish_of s.columns (widths s) (picture x) else cursor_of s.columns (widths s) (picture x))
-  place_by x b e = ap (λ t. if t then finish_of s.columns (widths s) (picture x) else cursor_of s.columns (widths s) (picture x)) e
-
   abbrev Holds : List ℕ → List Placed → ℕ → Sight → Type 0
   Holds bytes over top x = Good s.columns (widths s) bytes over (view_in s top x)
 
@@ -70,7 +67,7 @@ module _ (s : Screen) (low : 2 ≤ s.columns) (high : s.columns ≤ 1000) (own :
   moment bytes over top x marks given prompt text place g is =
       let m = shown_is_meant s bytes over (view_in s top x) g in
       let P : Sight → Type 0 = λ y. Shows s.columns (widths s) (picture y) top m.0 in
-      record { means = meant bytes over top x g; shows = subst P is (m.4 (place_by x false (ap (λ (y : Sight). y.ended) is))) }
+      record { means = meant bytes over top x g; shows = subst P is (m.4 (place_by s low high x false (ap (λ (y : Sight). y.ended) is))) }
 
   -- CR LF wherever the cursor stands: every cell stays
   closed : (bytes : List ℕ) (over : List Placed) (top : ℕ) (x : Sight) → Holds bytes over top x → HasMeaning (face_on_new_row (face s bytes top over x))
@@ -85,7 +82,7 @@ module _ (s : Screen) (low : 2 ≤ s.columns) (high : s.columns ≤ 1000) (own :
   unfolding closed
   next_line bytes over top x g ended =
       let next = top + (finish_of s.columns (widths s) (picture x)).row + 1 in
-      let e = ended_line_stays s low high bytes over (view_in s top x) (empty_view next) row_break g (record { text_is = refl; place_is = place_by x true ended; view = refl }) in
+      let e = ended_line_stays s low high bytes over (view_in s top x) (empty_view next) row_break g (record { text_is = refl; place_is = place_by s low high x true ended; view = refl }) in
       let closing = line_ends_anywhere s (omega arith) bytes over (view_in s top x) g in
       record {
         screen = record { least = low; most = high };
@@ -155,11 +152,10 @@ module _ (s : Screen) (low : 2 ≤ s.columns) (high : s.columns ≤ 1000) (a : S
   end_shown more (Ok text) next bytes over top l x h ended =
       let m = closed s low high a.prompt bytes over top x h.good in
       (m, next (below (face_on_new_row (face s bytes top over x)) m.display) (next_line s low high a.prompt bytes over top x h.good ended))
-  end_shown more (Err e) next bytes over top l x h ended = by (breaks_after e)
-    where
-      by : (b : Bool) → EachShown (face s bytes top over x) ((if b then Breaks ∷ [] else []) ++ more)
-      by true = let m = closed s low high a.prompt bytes over top x h.good in (m, next (below (face_on_new_row (face s bytes top over x)) m.display) tt)
-      by false = next (face s bytes top over x) tt
+  end_shown more (Err e) next bytes over top l x h ended = elim (breaks_after e) as (λ b. EachShown (face s bytes top over x) ((if b then Breaks ∷ [] else []) ++ more)) [
+    | true ↦ let m = closed s low high a.prompt bytes over top x h.good in (m, next (below (face_on_new_row (face s bytes top over x)) m.display) tt)
+    | false ↦ next (face s bytes top over x) tt
+  ]
 
 -- ---- a line, from a display between two lines
 

@@ -1,6 +1,5 @@
 -- A worked session's drawings: what each asks for, as bytes, and where each may be asked for.
-use Rattle.std.proofs.Common.{◌≡◌, ℕ, true, false, List, [], ◌∷◌, ◌++◌, None, refl}
-use Rattle.std.specs.Prelude.{codes}
+use Rattle.std.proofs.Common.{◌≡◌, ℕ, true, false, List, [], ◌∷◌, ◌++◌, None, refl, codes}
 use Rattle.line_buffer.specs.declared.layout.GraphemeClusterMode.TheVariants as Modes
 use Rattle.line_config.specs.declared.settings.BellStyle.TheVariants as Bells
 use Rattle.line_editor.specs.Redraws.{Redraw, fresh}

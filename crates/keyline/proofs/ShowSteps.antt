@@ -1,6 +1,5 @@
 -- A step leads from what is shown before it to what is to be shown after it.
-use Rattle.std.proofs.Common.{◌≡◌, ℕ, ◌==◌, ◌&&◌, ◌||◌, Bool, true, false, List, [], ◌∷◌, ◌++◌, length, Option, None, refl, sym, ap, ◌∙◌, append-nil, ◌≢◌, ◌+◌, ◌-◌, not, ◌<◌, ◌≤◌, inl, inr, nat_lt, nat_le, take, drop, take_all, ap₂, length-append, map, Some, is_some, encode_utf8, subst, append_assoc, arith, if◌then◌else◌}
-use Rattle.std.specs.Prelude.{chars, encode_utf8, slice_range}
+use Rattle.std.proofs.Common.{◌≡◌, ℕ, ◌==◌, ◌&&◌, ◌||◌, Bool, true, false, List, [], ◌∷◌, ◌++◌, length, Option, None, refl, sym, ap, ◌∙◌, subst₂, append-nil, ◌≢◌, ◌+◌, ◌-◌, not, ◌<◌, ◌≤◌, inl, inr, nat_lt, nat_le, take, drop, take_all, ap₂, length-append, map, Some, is_some, encode_utf8, subst, append_assoc, arith, if◌then◌else◌, chars, slice_range, filter, flat_map, take_at, drop_at}
 use Rattle.std.specs.Str.{is_utf8}
 use Rattle.std.proofs.Math.Bool.{or-true}
 use Rattle.std.proofs.lemmas.Bool.{and_from, and_parts, eqb-true, not-true, lt-ltb, ltb-true}
@@ -15,7 +14,6 @@ use Rattle.line_editor.proofs.CharacterRanges.{plain_apart}
 use Rattle.line_editor.proofs.KillLemmas.{plain_low}
 use Rattle.line_screen.proofs.ApartLemmas.{apart_scalar}
 use Rattle.line_screen.proofs.Items.{all_plain}
-use Rattle.std.specs.List.{filter, flat_map}
 use Rattle.std.proofs.lemmas.Bool.Decides.{nat_tests}
 use Rattle.line_buffer.specs.Cells.{same_cell, origin}
 use Rattle.line_buffer.specs.declared.layout.Layout.{Layout}
@@ -28,7 +26,7 @@ use Rattle.line_editor.specs.EditSteps.{one}
 use Rattle.line_editor.specs.Values.{shown_marks, EditStep, EditStep.Draws, EditStep.Helped}
 use Rattle.line_screen.specs.ScreenCalls.{Screen, bytes_of, ruler_of, styles_of, line_styles, widths}
 use Rattle.line_screen.specs.Colours.{Styles, span_of}
-use Rattle.line_screen.specs.Chain.{View, Good, Inside, LeadsView, empty_view, Types, with_text, with_line_styles, Picture, shown_items, finish_of, cursor_of, above}
+use Rattle.line_screen.specs.Chain.{View, Good, Inside, LeadsView, empty_view, with_text, with_line_styles, Picture, shown_items, finish_of, cursor_of, above}
 use Rattle.line_screen.specs.Display.{Placed}
 use Rattle.line_screen.specs.Drawing.{DrawnItem, row_break, text_items, place_after}
 use Rattle.line_screen.specs.Laws.{TellsView}
@@ -40,7 +38,6 @@ use Rattle.line_screen.proofs.KeptStyles.{kept_styles}
 use Rattle.line_screen.proofs.Leading.{line_cursor, line_end, line_finish, plain_parts, over_again}
 use Rattle.line_screen.proofs.ListLemmas.{filter_none, list_all_true}
 use Rattle.line_screen.proofs.ShortLemmas.{typing_leads, appending_leads, killing_leads, erasing_leads, putting_in_leads, taking_out_leads, drawing_rest_leads, part_above, writing_over_leads}
-use Rattle.std.proofs.lemmas.List.{take_at, drop_at}
 use Rattle.keyline.specs.Shows.{picture, place_in, view_in, DisplayHolds, Low, LowStep, kept_by}
 
 -- ---- where no cluster lies over a place
@@ -53,11 +50,9 @@ begins text rest h k starts = and_from (is_utf8 rest) (is_utf8 text && starts_ap
 
 plain_starts : (text rest : List ℕ) → is_plain text ≡ true → is_plain rest ≡ true → starts_apart text rest ≡ true
 plain_starts text [] h k = refl
-plain_starts text (c ∷ rest) h k = by_test (c == 10) (and_parts (is_plain_byte c) (is_plain rest) k).0
-  where
-    by_test : (b : Bool) → (b || is_printable c) ≡ true → (b || stands_apart text c) ≡ true
-    by_test true p = refl
-    by_test false p = plain_apart text c h p
+plain_starts text (c ∷ rest) h k =
+    (elim (c == 10) as (λ b. (b || is_printable c) ≡ true → (b || stands_apart text c) ≡ true) [ true ↦ λ p. refl | false ↦ plain_apart text c h ])
+    (and_parts (is_plain_byte c) (is_plain rest) k).0
 
 plain_begins : (text rest : List ℕ) → is_plain text ≡ true → is_plain rest ≡ true → begins_apart text rest ≡ true
 plain_begins text rest h k = begins text rest (plain_utf8 rest k) (plain_utf8 text h) (ap (starts_apart text) (chars-IsAscii rest (plain_low rest k)) ∙ plain_starts text rest h k)
@@ -77,26 +72,11 @@ char_begins text c h =
 module _ (x : Sight) (m : Option Marks) (prompt text : List ℕ) (at : ℕ) {own : List ℕ} (k : InPart own x m prompt text at) where
   rest_fits : (from : ℕ) (before gone rest : List ℕ) → x.line ≡ before ++ gone → text ≡ before ++ rest → from ≡ length before
       → begins_apart before gone ≡ true → begins_apart before rest ≡ true → DrawnFromFits x m prompt from text at None
-  rest_fits from before gone rest whole text_is from_is gone_apart rest_apart = record {
-    before = before;
-    gone = gone;
-    rest = rest;
-    whole = whole;
-    text_is = text_is;
-    from_is = from_is;
-    gone_apart = gone_apart;
-    rest_apart = rest_apart;
-    prompt_is = k.prompt_is;
-    same_styles = ap (styles_to from) (k.still ∙ sym k.unstyled);
-    prompt_styles = k.same_prompt;
-  }
+  rest_fits from before gone rest whole text_is from_is gone_apart rest_apart = search (ap (styles_to from) (k.still ∙ sym k.unstyled))
 
   plain_fits : (from : ℕ) (before gone rest : List ℕ) → x.line ≡ before ++ gone → text ≡ before ++ rest → from ≡ length before
       → is_plain before ≡ true → is_plain gone ≡ true → is_plain rest ≡ true → DrawnFromFits x m prompt from text at None
   plain_fits from before gone rest whole text_is from_is first last new = rest_fits from before gone rest whole text_is from_is (plain_begins before gone first last) (plain_begins before rest first new)
-
-  both_plain : (before gone : List ℕ) → x.line ≡ before ++ gone → is_plain x.line ≡ true → (is_plain before ≡ true) × (is_plain gone ≡ true)
-  both_plain before gone whole plain = and_parts (is_plain before) (is_plain gone) (sym (list_all-append is_plain_byte before gone) ∙ ap is_plain (sym whole) ∙ plain)
 
   taken_fits : (count : ℕ) → TakenFits x count text at → DrawnFromFits x m prompt at text at None
   taken_fits count t =
@@ -107,18 +87,13 @@ module _ (x : Sight) (m : Option Marks) (prompt text : List ℕ) (at : ℕ) {own
   erased_fits c t =
       rest_fits at text (encode_utf8 c) [] t.whole (sym (append-nil text)) t.end (char_begins text c t.apart) (none_begins text (and_parts (is_utf8 text) _ t.apart).0)
 
-  taken_out_fits : (count : ℕ) → ((killed : List ℕ) × Replaces x at killed [] text × (count ≡ length killed)) → DrawnFromFits x m prompt at text at None
-  taken_out_fits count t =
-      let parts = both_plain t.1.before (t.0 ++ t.1.rest) t.1.whole t.1.plain in
-      let rest = (and_parts (is_plain t.0) (is_plain t.1.rest) (sym (list_all-append is_plain_byte t.0 t.1.rest) ∙ parts.1)).1 in
-      plain_fits at t.1.before (t.0 ++ t.1.rest) t.1.rest t.1.whole t.1.text_is t.1.from_is parts.0 parts.1 rest
-
-  rewritten_fits : (from upto : ℕ) → ((gone letters : List ℕ) × Replaces x from gone letters text × (length letters ≡ length gone) × (upto ≡ from + length letters)) → DrawnFromFits x m prompt from text at None
-  rewritten_fits from upto t =
-      let parts = both_plain t.2.before (t.0 ++ t.2.rest) t.2.whole t.2.plain in
-      let rest = (and_parts (is_plain t.0) (is_plain t.2.rest) (sym (list_all-append is_plain_byte t.0 t.2.rest) ∙ parts.1)).1 in
-      plain_fits from t.2.before (t.0 ++ t.2.rest) (t.1 ++ t.2.rest) t.2.whole t.2.text_is t.2.from_is parts.0 parts.1
-      (list_all-append is_plain_byte t.1 t.2.rest ∙ and_from (is_plain t.1) (is_plain t.2.rest) (all_plain t.1 t.2.printable) rest)
+  replaced_fits : (from : ℕ) (gone letters : List ℕ) → Replaces x from gone letters text → DrawnFromFits x m prompt from text at None
+  replaced_fits from gone letters t =
+      let whole = sym (list_all-append is_plain_byte t.before (gone ++ t.rest)) ∙ ap is_plain (sym t.whole) ∙ t.plain in
+      let parts = and_parts (is_plain t.before) (is_plain (gone ++ t.rest)) whole in
+      let rest = (and_parts (is_plain gone) (is_plain t.rest) (sym (list_all-append is_plain_byte gone t.rest) ∙ parts.1)).1 in
+      plain_fits from t.before (gone ++ t.rest) (letters ++ t.rest) t.whole t.text_is t.from_is parts.0 parts.1
+      (list_all-append is_plain_byte letters t.rest ∙ and_from (is_plain letters) (is_plain t.rest) (all_plain letters t.printable) rest)
 
 same_if : (a b : Position) → same_cell a b ≡ true → a ≡ b
 same_if a b h =
@@ -168,21 +143,17 @@ module _ (s : Screen) (low : 2 ≤ s.columns) (high : s.columns ≤ 1000) where
 
   -- ---- a call after the bytes so far
 
-  -- the rows above are the same
-  led : (bytes : List ℕ) (over : List Placed) (a b : View) (call : Call) → Good s.columns (widths s) bytes over a → LeadsView s.columns (widths s) a call b
-      → b.top ≡ a.top → call ≢ ClearScreen → Good s.columns (widths s) (bytes ++ bytes_of s call) over b
-  led bytes over a b call g h top other =
-      let done = calls_lead s low high bytes over a b call g h in
-      let next = done.0 in
-      let same : next ≡ over = sym (over_again s.columns (widths s) (bytes ++ bytes_of s call) next b done.1) ∙ ap (λ t. filter (above t) next) top ∙ done.2 other in
-      subst (λ xs. Good s.columns (widths s) (bytes ++ bytes_of s call) xs b) same done.1
-
   bytes_one : (bytes : List ℕ) (call : Call) → bytes ++ bytes_of s call ≡ bytes ++ flat_map (bytes_of s) (call ∷ [])
   bytes_one bytes call = ap (λ x. bytes ++ x) (sym (append-nil (bytes_of s call)))
 
+  -- the rows above are the same
   one_led : (bytes : List ℕ) (over : List Placed) (a b : View) (call : Call) → Good s.columns (widths s) bytes over a → LeadsView s.columns (widths s) a call b
       → b.top ≡ a.top → call ≢ ClearScreen → Good s.columns (widths s) (bytes ++ flat_map (bytes_of s) (call ∷ [])) over b
-  one_led bytes over a b call g h top other = subst (λ x. Good s.columns (widths s) x over b) (bytes_one bytes call) (led bytes over a b call g h top other)
+  one_led bytes over a b call g h top other =
+      let done = calls_lead s low high bytes over a b call g h in
+      let again = over_again s.columns (widths s) (bytes ++ bytes_of s call) done.0 b done.1 in
+      let same : done.0 ≡ over = sym again ∙ ap (λ t. filter (above t) done.0) top ∙ done.2 other in
+      subst₂ (λ x xs. Good s.columns (widths s) x xs b) (bytes_one bytes call) same done.1
 
   none_led : (bytes : List ℕ) (over : List Placed) (a : View) → Good s.columns (widths s) bytes over a → Good s.columns (widths s) (bytes ++ flat_map (bytes_of s) []) over a
   none_led bytes over a g = subst (λ x. Good s.columns (widths s) x over a) (sym (append-nil bytes)) g
@@ -192,7 +163,7 @@ module _ (s : Screen) (low : 2 ≤ s.columns) (high : s.columns ≤ 1000) where
       let done = calls_lead s low high bytes over a (empty_view 0) ClearScreen g refl in
       let good = done.1 in
       let none : done.0 ≡ [] = sym good.over_is ∙ none_above_first good.display.placed in
-      subst (λ x. Good s.columns (widths s) x [] (empty_view 0)) (bytes_one bytes ClearScreen) (subst (λ xs. Good s.columns (widths s) (bytes ++ bytes_of s ClearScreen) xs (empty_view 0)) none good)
+      subst₂ (λ x xs. Good s.columns (widths s) x xs (empty_view 0)) (bytes_one bytes ClearScreen) none good
 
   -- ---- measures
 
@@ -232,15 +203,9 @@ module _ (s : Screen) (low : 2 ≤ s.columns) (high : s.columns ≤ 1000) where
       let b = rows.finish in
       let row_a = ap (λ p. p.row) cursor_is in
       let row_b = ap (λ p. p.row) finish_is in
-      record {
-        good = one_led bytes over (view_in s top x) (view_in s top y) (Draw prompt text at info (Some l) new m) g
-            (ap (λ p. p.row) cursor, record { prompt_is = refl; line_is = refl; info_is = refl; styles_are = refl; finish_is = finish_is; cursor_is = cursor_is; top_is = refl; place_is = sym cursor_is; finish_row = omega arith; cursor_row = omega arith })
-            refl (λ e. cc);
-        cursor = cursor_is;
-        finish = finish_is;
-        prompt_size = refl;
-        tells = record { info_is = refl; given_is = refl };
-      }
+      assumption (one_led bytes over (view_in s top x) (view_in s top y) (Draw prompt text at info (Some l) new m) g
+      (ap (λ p. p.row) cursor, record { prompt_is = refl; line_is = refl; info_is = refl; styles_are = refl; finish_is = finish_is; cursor_is = cursor_is; top_is = refl; place_is = sym cursor_is; finish_row = omega arith; cursor_row = omega arith })
+      refl (λ e. cc))
 
   -- ---- moves
 
@@ -254,36 +219,23 @@ module _ (s : Screen) (low : 2 ≤ s.columns) (high : s.columns ≤ 1000) where
   goes_if bytes over top l x at ended to true h is inside e =
       let y = goes_to x at ended in
       let here : place_in s x ≡ place_in s y = sym h.cursor ∙ same_if l.cursor to e ∙ is in
-      record {
-        good = subst (λ p. Good s.columns (widths s) (bytes ++ []) over (record { shown = picture y; top = top; place = p })) here (place_is_free s (bytes ++ []) over (view_in s top x) at (none_led bytes over (view_in s top x) h.good));
-        cursor = h.cursor ∙ here;
-        finish = h.finish;
-        prompt_size = h.prompt_size;
-        tells = record { info_is = h.tells.info_is; given_is = h.tells.given_is };
-      }
+      let free = place_is_free s (bytes ++ []) over (view_in s top x) at (none_led bytes over (view_in s top x) h.good) in
+      let good = subst (λ p. Good s.columns (widths s) (bytes ++ []) over (record { shown = picture y; top = top; place = p })) here free in
+      assumption (good, h.cursor ∙ here)
   goes_if bytes over top l x at ended to false h is inside e =
       let y = goes_to x at ended in
       let there : View = record { shown = picture y; top = top; place = to } in
       let new = bytes ++ flat_map (bytes_of s) (Move l.cursor to ∷ []) in
       let good = one_led bytes over (view_in s top x) there (Move l.cursor to) h.good (record { old_is = h.cursor; inside = subst (Inside s.columns) (sym is) inside; at = at; view = refl }) refl (λ e. cc) in
-      record {
-        good = subst (λ p. Good s.columns (widths s) new over (record { shown = picture y; top = top; place = p })) is good;
-        cursor = is;
-        finish = h.finish;
-        prompt_size = h.prompt_size;
-        tells = record { info_is = h.tells.info_is; given_is = h.tells.given_is };
-      }
+      assumption (subst (λ p. Good s.columns (widths s) new over (record { shown = picture y; top = top; place = p })) is good)
 
   -- ---- a typed character
 
-  place_if : (x : Sight) → x.ended ≡ false → place_in s x ≡ cursor_of s.columns (widths s) (picture x)
-  place_if x e = ap (λ b. if b then finish_of s.columns (widths s) (picture x) else cursor_of s.columns (widths s) (picture x)) e
+  pub place_by : (x : Sight) (b : Bool) → x.ended ≡ b → place_in s x ≡ (if b then finish_of s.columns (widths s) (picture x) else cursor_of s.columns (widths s) (picture x))
+  place_by x b e = ap (λ t. if t then finish_of s.columns (widths s) (picture x) else cursor_of s.columns (widths s) (picture x)) e
 
   typed_place : (a b : View) (c : ℕ) → LeadsView s.columns (widths s) a (Write (c ∷ [])) b → b.place ≡ cursor_of s.columns (widths s) b.shown
-  typed_place a b c (inl t) = typed_at a b c t
-    where
-      typed_at : (a b : View) (c : ℕ) (t : Types s.columns (widths s) a (c ∷ []) b) → b.place ≡ cursor_of s.columns (widths s) b.shown
-      typed_at a b c t = ap (λ (x : View). x.place) t.view ∙ ap (λ (x : View). cursor_of s.columns (widths s) x.shown) (sym t.view)
+  typed_place a b c (inl t) = rw t.view
   typed_place a b c (inr t) = absurd (not_break c t.text_is)
 
   -- nothing after a line, with the cursor at its end
@@ -304,26 +256,23 @@ module _ (s : Screen) (low : 2 ≤ s.columns) (high : s.columns ≤ 1000) where
   abbrev rest_given : Option Marks → Sight → List ℕ → ℕ → Option (List ℕ) → Styles
   rest_given m x text at info = with_line_styles (styles_of x.spans) (line_styles m text at (info_text info))
 
-  rest_styles : (m : Option Marks) (x : Sight) (prompt : List ℕ) (from : ℕ) (text : List ℕ) (at : ℕ) (info : Option (List ℕ)) → DrawnFromFits x m prompt from text at info
-      → rest_given m x text at info ≡ styles_of (drawn_spans m true prompt text at (info_text info))
-  rest_styles m x prompt from text at info t =
-      let spans = drawn_spans m true prompt text at (info_text info) in
-      let alone = drawn_spans m true [] text at (info_text info) in
-      ap (λ p. styles_of (record { prompt = p; line = alone.line; info = alone.info })) (sym t.prompt_styles)
-      ∙ ap (λ p. styles_of (record { prompt = spans.prompt; line = p; info = alone.info })) (same_parts m prompt text at (info_text info)).0
-      ∙ ap (λ p. styles_of (record { prompt = spans.prompt; line = spans.line; info = p })) (same_parts m prompt text at (info_text info)).1
+  module _ (m : Option Marks) (x : Sight) (prompt : List ℕ) (from : ℕ) (text : List ℕ) (at : ℕ) (info : Option (List ℕ)) (t : DrawnFromFits x m prompt from text at info) where
+    rest_styles : rest_given m x text at info ≡ styles_of (drawn_spans m true prompt text at (info_text info))
+    rest_styles =
+        let spans = drawn_spans m true prompt text at (info_text info) in
+        let alone = drawn_spans m true [] text at (info_text info) in
+        ap (λ p. styles_of (record { prompt = p; line = alone.line; info = alone.info })) (sym t.prompt_styles)
+        ∙ ap (λ p. styles_of (record { prompt = spans.prompt; line = p; info = alone.info })) (same_parts m prompt text at (info_text info)).0
+        ∙ ap (λ p. styles_of (record { prompt = spans.prompt; line = spans.line; info = p })) (same_parts m prompt text at (info_text info)).1
 
-  rest_same_styles : (m : Option Marks) (x : Sight) (prompt : List ℕ) (from : ℕ) (text : List ℕ) (at : ℕ) (info : Option (List ℕ)) → DrawnFromFits x m prompt from text at info
-      → first_styles from (line_styles m text at (info_text info)).line ≡ first_styles from (styles_of x.spans).line
-  rest_same_styles m x prompt from text at info t =
-      let spans = drawn_spans m true prompt text at (info_text info) in
-      ap (λ p. first_styles from (map span_of p)) (same_parts m prompt text at (info_text info)).0
-      ∙ kept_styles from spans.line x.spans.line t.same_styles
+    rest_same_styles : first_styles from (line_styles m text at (info_text info)).line ≡ first_styles from (styles_of x.spans).line
+    rest_same_styles =
+        ap (λ p. first_styles from (map span_of p)) (same_parts m prompt text at (info_text info)).0
+        ∙ kept_styles from (drawn_spans m true prompt text at (info_text info)).line x.spans.line t.same_styles
 
-  drawn_from_is : (m : Option Marks) (x : Sight) (prompt : List ℕ) (from : ℕ) (text : List ℕ) (at : ℕ) (info : Option (List ℕ)) → DrawnFromFits x m prompt from text at info
-      → (let v : Picture = record { prompt = x.prompt; line = text; place = at; info = info_text info; styles = rest_given m x text at info } in v ≡ picture (sight_as m prompt text at info))
-  drawn_from_is m x prompt from text at info t =
-      ap₂ (λ p (styles : Styles). let v : Picture = record { prompt = p; line = text; place = at; info = info_text info; styles = styles } in v) (sym t.prompt_is) (rest_styles m x prompt from text at info t)
+    drawn_from_is : (let v : Picture = record { prompt = x.prompt; line = text; place = at; info = info_text info; styles = rest_given m x text at info } in v ≡ picture (sight_as m prompt text at info))
+    drawn_from_is =
+        ap₂ (λ p (styles : Styles). let v : Picture = record { prompt = p; line = text; place = at; info = info_text info; styles = styles } in v) (sym t.prompt_is) rest_styles
 
   drawn_from_holds : (bytes : List ℕ) (over : List Placed) (top : ℕ) (m : Option Marks) (l : Layout) (x : Sight) (prompt : List ℕ) (from : ℕ) (text : List ℕ) (at : ℕ) (info : Option (List ℕ)) → DisplayHolds s bytes over top l x
       → DrawnFromFits x m prompt from text at info → Low s (sight_as m prompt text at info)
@@ -365,9 +314,7 @@ module _ (s : Screen) (low : 2 ≤ s.columns) (high : s.columns ≤ 1000) where
   bare_sight spans prompt text at = record { prompt = prompt; line = text; place = at; info = None; given = true; ended = false; spans = spans }
 
   killed_place : (a b : View) (old new : Position) → LeadsView s.columns (widths s) a (MoveAndClearToEol old new) b → b.place ≡ cursor_of s.columns (widths s) b.shown
-  killed_place a b old new f =
-      let k = f.2 in
-      ap (λ (x : View). x.place) k.view ∙ k.place_is ∙ ap (λ (x : View). cursor_of s.columns (widths s) x.shown) (sym k.view)
+  killed_place a b old new f = rw f.2.view f.2.place_is
 
   module _ (bytes : List ℕ) (over : List Placed) (top : ℕ) (m : Option Marks) (l : Layout) (x : Sight) (h : DisplayHolds s bytes over top l x) (prompt text : List ℕ) (at : ℕ) where
     abbrev old : View
@@ -407,13 +354,8 @@ module _ (s : Screen) (low : 2 ≤ s.columns) (high : s.columns ≤ 1000) where
           let new = bytes ++ flat_map (bytes_of s) (call ∷ []) in
           let layout = record l { cursor = cursor; end = end } in
           let good = one_led bytes over old (record { shown = picture y; top = top; place = cursor }) call h.good leads refl other in
-          let done : DisplayHolds s new over top layout y = record {
-            good = subst (λ p. Good s.columns (widths s) new over (record { shown = picture y; top = top; place = p })) cursor_is good;
-            cursor = cursor_is;
-            finish = end_is;
-            prompt_size = h.prompt_size;
-            tells = record { info_is = not-true l.has_info free; given_is = h.tells.given_is ∙ k.given };
-          } in
+          let there = subst (λ p. Good s.columns (widths s) new over (record { shown = picture y; top = top; place = p })) cursor_is good in
+          let done : DisplayHolds s new over top layout y = assumption (there, not-true l.has_info free, h.tells.given_is ∙ k.given) in
           subst (DisplayHolds s new over top layout) (sym (bare_is line place free text_is place_is)) done
 
       -- ---- a character at the line's end
@@ -425,7 +367,7 @@ module _ (s : Screen) (low : 2 ≤ s.columns) (high : s.columns ≤ 1000) where
           let line = x.line ++ c ∷ [] in
           let y = bare_sight x.spans x.prompt line (x.place + 1) in
           let to = column_on l.cursor in
-          let leads = typing_leads s low high l old c (tells bytes over top l x h) (place_if x unended) no_styles t.typed e in
+          let leads = typing_leads s low high l old c (tells bytes over top l x h) (place_by x false unended) no_styles t.typed e in
           let cursor_is : to ≡ cursor_of s.columns (widths s) (picture y) = typed_place old (record { shown = picture y; top = top; place = to }) c leads in
           let end : y.place ≡ length line = let count = length-append x.line (c ∷ []) in omega arith in
           subst (λ xs. DisplayHolds s (bytes ++ flat_map (bytes_of s) (Write xs ∷ [])) over top (char_call l c).layout now) (sym (encode_ascii c (small c letter.0)))
@@ -438,7 +380,7 @@ module _ (s : Screen) (low : 2 ≤ s.columns) (high : s.columns ≤ 1000) where
           let line = x.line ++ tail in
           let low_y : Low s (bare_sight x.spans x.prompt line (length line)) = subst (Low s) (bare_is line (length line) free t.text_is t.behind) rows in
           let to = measure_of s.mode s.tab s.columns tail l.cursor in
-          let leads = appending_leads s low high l old c (tells bytes over top l x h) (place_if x unended) no_styles t.at t.apart (not-true l.has_info free) low_y.cursor in
+          let leads = appending_leads s low high l old c (tells bytes over top l x h) (place_by x false unended) no_styles t.at t.apart (not-true l.has_info free) low_y.cursor in
           short_holds line (length line) (Append tail l.cursor) to to free t.text_is t.behind leads.0 (λ e. cc) leads.1 leads.2
 
       -- ---- a kill at the line's end
@@ -474,7 +416,7 @@ module _ (s : Screen) (low : 2 ≤ s.columns) (high : s.columns ≤ 1000) where
           let rest_is = put_in_rest x c text at t behind in
           let cursor = cell_on s.columns l.cursor in
           let end = cell_on s.columns l.end in
-          let leads = putting_in_leads s low high l old t.before t.rest c (tells bytes over top l x h) (place_if x unended) no_styles t.plain (and_parts (is_printable c) true t.printable).0 t.whole t.from_is
+          let leads = putting_in_leads s low high l old t.before t.rest c (tells bytes over top l x h) (place_by x false unended) no_styles t.plain (and_parts (is_printable c) true t.printable).0 t.whole t.from_is
           (subst (λ r. may_put_in (ruler_of s) l r ≡ true) rest_is e) in
           subst (λ r. Shows (put_in_short (ruler_of s) l c r)) (sym rest_is)
           (short_holds (t.before ++ c ∷ t.rest) (length t.before + 1) (InsertChar c t.rest l.cursor cursor end) cursor end (and_parts (not l.has_info) _ e).0 t.text_is (behind ∙ ap (λ n. n + 1) t.from_is) leads.0 (λ e. cc) leads.1 leads.2)
@@ -576,8 +518,7 @@ module _ (s : Screen) (low : 2 ≤ s.columns) (high : s.columns ≤ 1000) where
       ap (measure_of s.mode s.tab s.columns (take at text)) h.prompt_size ∙ ap (λ t. measure_of s.mode s.tab s.columns (take at t) (measure_of s.mode s.tab s.columns x.prompt origin)) fits ∙ measured.0 rows.cursor in
       goes_if bytes over top l x at false cursor (same_cell l.cursor cursor) h is (inside_cursor y rows) refl
   step own bytes over top l x (Draws v m (Typed prompt c text at)) h fits rows =
-      let marks = shown_marks v m in
-      short_or bytes over top marks l x h prompt text at (char_call l c) (may_write_over (ruler_of s) l l.cursor 1) rows (typed_holds bytes over top marks l x h prompt text at fits.0 c fits.1 fits.2)
+      short_or bytes over top _ l x h prompt text at _ _ rows (typed_holds bytes over top (shown_marks v m) l x h prompt text at fits.0 c fits.1 fits.2)
   step own bytes over top l x (Draws v m (Appended prompt c text at)) h fits rows =
       let marks = shown_marks v m in
       let short = append_call (ruler_of s) l c in
@@ -585,31 +526,25 @@ module _ (s : Screen) (low : 2 ≤ s.columns) (high : s.columns ≤ 1000) where
       (short_or bytes over top marks l x h prompt text at short (not l.has_info) rows (appended_holds bytes over top marks l x h prompt text at fits.0 c fits.1 fits.2 rows))
   step own bytes over top l x (Draws v m (Taken prompt count true text at)) h fits rows =
       let marks = shown_marks v m in
-      short_or_rest bytes over top marks l x h prompt text at at (erase_call l count) (may_take l count) (taken_fits x marks prompt text at fits.0 count fits.1) rows (taken_holds bytes over top marks l x h prompt text at fits.0 count fits.1)
+      short_or_rest bytes over top marks l x h prompt text at at _ _ (taken_fits x marks prompt text at fits.0 count fits.1) rows
+      (taken_holds bytes over top marks l x h prompt text at fits.0 count fits.1)
   step own bytes over top l x (Draws v m (Taken prompt count false text at)) h fits rows =
-      let marks = shown_marks v m in
-      short_or bytes over top marks l x h prompt text at (erase_call l count) (may_take l count) rows (taken_holds bytes over top marks l x h prompt text at fits.0 count fits.1)
+      short_or bytes over top _ l x h prompt text at _ _ rows (taken_holds bytes over top (shown_marks v m) l x h prompt text at fits.0 count fits.1)
   step own bytes over top l x (Draws v m (Erased prompt c text at)) h fits rows =
       let marks = shown_marks v m in
-      short_or_rest bytes over top marks l x h prompt text at at (erase_call l (measure_of s.mode s.tab s.columns (encode_utf8 c) origin).col) (may_erase (ruler_of s) l c)
-      (erased_fits x marks prompt text at fits.0 c fits.1) rows (erased_holds bytes over top marks l x h prompt text at fits.0 c fits.1 rows)
+      short_or_rest bytes over top marks l x h prompt text at at _ _ (erased_fits x marks prompt text at fits.0 c fits.1) rows
+      (erased_holds bytes over top marks l x h prompt text at fits.0 c fits.1 rows)
   step own bytes over top l x (Draws v m (PutIn prompt c text at)) h fits rows =
-      let marks = shown_marks v m in
-      let rest = drop at text in
-      short_or bytes over top marks l x h prompt text at (put_in_short (ruler_of s) l c rest) (may_put_in (ruler_of s) l rest) rows (put_in_holds bytes over top marks l x h prompt text at fits.0 c fits.1 fits.2 fits.3)
+      short_or bytes over top _ l x h prompt text at _ _ rows (put_in_holds bytes over top (shown_marks v m) l x h prompt text at fits.0 c fits.1 fits.2 fits.3)
   step own bytes over top l x (Draws v m (TakenOut prompt count text at)) h fits rows =
       let marks = shown_marks v m in
-      let rest = drop at text in
-      let cell = measure_of s.mode s.tab s.columns (take at text) l.prompt_size in
-      short_or_rest bytes over top marks l x h prompt text at at (taken_out_short l cell count rest) (may_take_out (ruler_of s) l cell count rest)
-      (taken_out_fits x marks prompt text at fits.0 count fits.1) rows (taken_out_holds bytes over top marks l x h prompt text at fits.0 count fits.1 rows)
-  step own bytes over top l x (Draws v m (DrawnFrom prompt from text at info)) h fits rows = drawn_from_holds bytes over top (shown_marks v m) l x prompt from text at info h fits.2 rows
+      short_or_rest bytes over top marks l x h prompt text at at _ _ (replaced_fits x marks prompt text at fits.0 at fits.1.0 [] fits.1.1) rows
+      (taken_out_holds bytes over top marks l x h prompt text at fits.0 count fits.1 rows)
   step own bytes over top l x (Draws v m (Rewritten prompt from upto text at)) h fits rows =
       let marks = shown_marks v m in
-      let cell = measure_of s.mode s.tab s.columns (take from text) l.prompt_size in
-      let letters = slice_range text from upto in
-      short_or_rest bytes over top marks l x h prompt text at from (write_over_call l letters cell (measure_of s.mode s.tab s.columns (take at text) l.prompt_size)) (may_write_over (ruler_of s) l cell (length letters))
-      (rewritten_fits x marks prompt text at fits.0 from upto fits.1) rows (rewritten_holds bytes over top marks l x h prompt text at fits.0 from upto fits.1 rows)
+      short_or_rest bytes over top marks l x h prompt text at from _ _ (replaced_fits x marks prompt text at fits.0 from fits.1.0 fits.1.1 fits.1.2) rows
+      (rewritten_holds bytes over top marks l x h prompt text at fits.0 from upto fits.1 rows)
+  step own bytes over top l x (Draws v m (DrawnFrom prompt from text at info)) h fits rows = drawn_from_holds bytes over top (shown_marks v m) l x prompt from text at info h fits.2 rows
   step own bytes over top l x (Draws v m (Bared prompt text at)) h fits rows = bared_if bytes over top (shown_marks v m) l x prompt text at l.default_prompt h (h.tells.given_is ∙ fits)
   step own bytes over top l x (Draws v m ToEnd) h fits rows = goes_if bytes over top l x x.place true l.end (same_cell l.cursor l.end) h h.finish (inside_finish x (record { finish = rows.finish; cursor = rows.cursor })) refl
   step own bytes over top l x (Draws v m Beeped) h fits rows = same_holds bytes over top l x Beep h refl (λ e. cc)

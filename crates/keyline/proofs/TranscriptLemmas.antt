@@ -1,11 +1,9 @@
 -- A session over memory that its keys ended is the definition's.
-use Rattle.std.proofs.Common.{◌≡◌, ℕ, ◌+◌, ◌<◌, Bool, true, false, List, [], ◌∷◌, ◌++◌, Option, length, refl, sym, ap, subst, ◌∙◌, append-nil, arith}
-use Rattle.std.specs.Prelude.{flat_map}
+use Rattle.std.proofs.Common.{◌≡◌, ℕ, ◌+◌, ◌<◌, Bool, true, false, List, [], ◌∷◌, ◌++◌, Option, length, refl, sym, ap, subst, ◌∙◌, append-nil, arith, flat_map}
 use Rattle.line_config.specs.Feed.{AlwaysTold, Feed, fresh_feed}
 use Rattle.line_config.specs.declared.config.Config.{Config}
 use Rattle.line_config.specs.declared.device.Last.TheVariants.{End}
-use Rattle.line_config.specs.declared.errors.ReadlineError.{ReadlineError}
-use Rattle.line_config.specs.declared.errors.ReadlineError.TheVariants.{Eof, Interrupted, NotUtf8, PasteOutOfPlace, Reader, Display, Lines, HistoryText, Helper, Handler, Memory}
+use Rattle.line_config.specs.declared.errors.ReadlineError.{ReadlineError, TheVariants.Eof}
 use Rattle.line_config.specs.Sending.{Takes as TakesAll}
 use Rattle.line_help.specs.History.{Filed}
 use Rattle.line_help.specs.HistoryText.{text_to_save}
@@ -17,8 +15,7 @@ use Rattle.std.specs.Option.{option_len}
 use Rattle.line_screen.specs.Reading.{with_kept}
 use Rattle.line_screen.proofs.Outcomes.{unread_in}
 use Rattle.keyline.specs.Desks.{GoesShown, desk_feed, session_state_of, work_of}
-use Rattle.keyline.specs.SessionEffects.{error_of}
-use Rattle.keyline.specs.SessionEffects.{KnownDevices, AreDone, CutSessionEvent, SavesIf, Stands, Went, Work, ending_after}
+use Rattle.keyline.specs.SessionEffects.{error_of, KnownDevices, AreDone, CutSessionEvent, SavesIf, Stands, Went, Work, ending_after}
 use Rattle.keyline.specs.SessionCalls.{Opens, RunsSession}
 use Rattle.keyline.specs.Program.{EditHelper, edit_helping, given_over, start_by}
 use Rattle.keyline.specs.Events.{SessionEvent, Takes, Helped, Draws, Hears, Breaks, Keeps, Writes, bytes_drawn, coming_after_events, lines_kept, lines_written, session}
@@ -32,45 +29,29 @@ use Rattle.keyline.specs.declared.over_memory.Transcript.{Transcript}
 use Rattle.keyline.specs.declared.session.Ended.{Ended}
 use Rattle.keyline.proofs.OpenedLemmas.{given_as, state_first}
 
--- the ending of an error
-abbrev ending_of : ReadlineError → Ending
-ending_of Eof = how.Eof
-ending_of Interrupted = how.Interrupted
-ending_of NotUtf8 = how.NotUtf8
-ending_of PasteOutOfPlace = how.PasteOutOfPlace
-ending_of Reader = how.Reader
-ending_of Display = how.Display
-ending_of Lines = how.Lines
-ending_of HistoryText = how.HistoryText
-ending_of Helper = how.Helper
-ending_of Handler = how.Handler
-ending_of Memory = how.Memory
-
-is_ending : (ending : Ending) → ending ≡ ending_of (error_of ending)
-is_ending how.Eof = refl
-is_ending _ = refl
-
 -- no fault ends a session so
-no_fault : {D L : Type 0} (shown : D → List ℕ) (written_in : L → List ℕ) (adds : Bool) (x y : Work D L) (event : SessionEvent) (why : ReadlineError)
-    → is_cut (ending_of why) ≡ false → CutSessionEvent shown written_in adds x event why y → ⊥
-no_fault shown written_in adds x y Takes Memory is h = absurd (cc)
-no_fault shown written_in adds x y (Helped fails takes) Helper is h = absurd (cc)
-no_fault shown written_in adds x y (Helped fails takes) Memory is h = absurd (cc)
-no_fault shown written_in adds x y (Draws marks redraw (bytes ∷ more)) Display is h = absurd (cc)
-no_fault shown written_in adds x y (Hears Paste) Memory is h = absurd (cc)
-no_fault shown written_in adds x y Breaks Display is h = absurd (cc)
-no_fault shown written_in adds x y (Keeps line) Memory is h = absurd (cc)
-no_fault shown written_in adds x y (Writes line) Lines is h = absurd (cc)
+no_fault : {D L : Type 0} (shown : D → List ℕ) (written_in : L → List ℕ) (adds : Bool) (x y : Work D L) (event : SessionEvent) (ending : Ending)
+    → is_cut ending ≡ false → CutSessionEvent shown written_in adds x event (error_of ending) y → ⊥
+no_fault shown written_in adds x y Takes how.Memory is h = absurd (cc)
+no_fault shown written_in adds x y (Helped fails takes) how.Helper is h = absurd (cc)
+no_fault shown written_in adds x y (Helped fails takes) how.Memory is h = absurd (cc)
+no_fault shown written_in adds x y (Draws marks redraw (bytes ∷ more)) how.Display is h = absurd (cc)
+no_fault shown written_in adds x y (Hears Paste) how.Memory is h = absurd (cc)
+no_fault shown written_in adds x y Breaks how.Display is h = absurd (cc)
+no_fault shown written_in adds x y (Keeps line) how.Memory is h = absurd (cc)
+no_fault shown written_in adds x y (Writes line) how.Lines is h = absurd (cc)
 no_fault shown written_in adds x y _ _ is h = absurd h
 
-module _ {D L : Type 0} (shown : D → List ℕ) (written_in : L → List ℕ) (adds : Bool) (why answer : ReadlineError) where
+module _ {D L : Type 0} (shown : D → List ℕ) (written_in : L → List ℕ) (adds : Bool) (ending : Ending) (why answer : ReadlineError) (error_is : error_of ending ≡ why) where
   abbrev FaultIs : ReadlineError → Type 0
   FaultIs e = why ≡ e
 
-  none_left : (others : List SessionEvent) (at new : Work D L) → is_cut (ending_of why) ≡ false → Stands shown written_in adds others at new (why ≡ answer) FaultIs
+  none_left : (others : List SessionEvent) (at new : Work D L) → is_cut ending ≡ false → Stands shown written_in adds others at new (why ≡ answer) FaultIs
       → (others ≡ []) × (why ≡ answer) × (new ≡ at)
-  none_left [] at new by_keys (is, same) = (refl, is, same)
-  none_left (event ∷ others) at new by_keys (e, stopped, is) = absurd (no_fault shown written_in adds at new event e (subst (λ w. is_cut (ending_of w) ≡ false) is by_keys) stopped)
+  none_left [] at new uncut (is, same) = (refl, is, same)
+  none_left (event ∷ others) at new uncut (e, stopped, is) =
+      absurd (no_fault shown written_in adds at new event ending uncut
+      (subst (λ why. CutSessionEvent shown written_in adds at event why new) (sym (error_is ∙ is)) stopped))
 
   -- all events were done
   record AllDone (events done : List SessionEvent) (old new : Work D L) : Type 0 where
@@ -78,15 +59,12 @@ module _ {D L : Type 0} (shown : D → List ℕ) (written_in : L → List ℕ) (
     pub done_is : done ≡ events
     pub are_done : AreDone shown written_in adds events old new
 
-  all_done : (events : List SessionEvent) (old new : Work D L) (w : Went shown written_in adds events old new (why ≡ answer) FaultIs) → is_cut (ending_of why) ≡ false → AllDone events w.done old new
-  all_done events old new w by_keys =
-      let left = none_left w.others w.at new by_keys w.stands in
+  all_done : (events : List SessionEvent) (old new : Work D L) (w : Went shown written_in adds events old new (why ≡ answer) FaultIs)
+      → is_cut ending ≡ false → AllDone events w.done old new
+  all_done events old new w uncut =
+      let left = none_left w.others w.at new uncut w.stands in
       let done_is : w.done ≡ events = sym (w.split ∙ (ap (λ o. w.done ++ o) left.0 ∙ append-nil w.done)) in
-      record {
-        answer_is = left.1;
-        done_is = done_is;
-        are_done = subst (λ es. AreDone shown written_in adds es old new) done_is (subst (λ (at : Work D L). AreDone shown written_in adds w.done old at) (sym left.2) w.are_done);
-      }
+      record { answer_is = left.1; done_is = done_is; are_done = rw (← done_is, left.2) w.are_done }
 
 -- a history that was saved isn't why
 when_saved : (why : ReadlineError) → ending_after why true ≡ why
@@ -130,8 +108,6 @@ module _ {F S D L T : Type 0} (text_of : F → Feed) (k : KnownDevices S D L) (h
       let taken = was_saved held failed last.history ended.history text' ended.text end.saved end.saves works in
       let saved = taken.0 in
       let error_is : error_of ended.ending ≡ why = end.ending_is ∙ (ap (λ s. ending_after why s) saved ∙ when_saved why) in
-      let ended_is : ended.ending ≡ ending_of why = is_ending ended.ending ∙ ap ending_of error_is in
-      let by_keys : is_cut (ending_of why) ≡ false = ap is_cut (sym ended_is) ∙ uncut in
       let adds = config.auto_add_history in
       let events : ℕ → List SessionEvent = λ n. (session n g (each g) start).events in
       let answer : ℕ → ReadlineError = λ n. (session n g (each g) start).answer in
@@ -140,8 +116,8 @@ module _ {F S D L T : Type 0} (text_of : F → Feed) (k : KnownDevices S D L) (h
       let goes : (n : ℕ) → length keys < n → Shown g start n = λ n low.
       subst (λ (x : SessionState). Shown g x n) state_is (subst (λ (g : Given). Shown g (session_state_of k desk) n) given_is
       (runs.takes.goes (told (source_of last.reader)) n (subst (λ b. b < n) (sym bound) low))) in
-      let whole : (n : ℕ) (low : length keys < n) → AllDone k.shown k.written_in adds why (answer n) (events n) (goes n low).went.done (work_of k desk) (work_of k last) = λ n low.
-      all_done k.shown k.written_in adds why (answer n) (events n) (work_of k desk) (work_of k last) (goes n low).went by_keys in
+      let whole : (n : ℕ) (low : length keys < n) → AllDone k.shown k.written_in adds ended.ending why (answer n) error_is (events n) (goes n low).went.done (work_of k desk) (work_of k last) = λ n low.
+      all_done k.shown k.written_in adds ended.ending why (answer n) error_is (events n) (work_of k desk) (work_of k last) (goes n low).went uncut in
       record {
         shows = λ n low f rests. subst (λ es. EachShown f es) (whole n low).done_is ((goes n low).shows f rests);
         gives = λ n low.

@@ -1,6 +1,5 @@
 -- Its end was drawn or cut, and an accepted line was written or torn.
-use Rattle.std.proofs.Common.{ap, subst, sym}
-use Rattle.std.specs.Prelude.{string_bytes}
+use Rattle.std.proofs.Common.{ap, subst, sym, string_bytes}
 use Rattle.std.proofs.lemmas.Result.{err_from_is_err_and}
 use Rattle.line_keys.specs.KeyFeeds.{answer_map}
 use Rattle.keyline.proofs.CloseLemmas.{EndIsCut, closes_accepted, closes_cut, closes_refused}

@@ -1,6 +1,5 @@
 -- A fault of the display, or of memory for the history, or none.
-use Rattle.std.proofs.Common.{◌∙◌, Ok, ap, sym}
-use Rattle.std.specs.Prelude.{string_bytes}
+use Rattle.std.proofs.Common.{◌∙◌, Ok, ap, sym, string_bytes}
 use Rattle.std.proofs.lemmas.Result.{err_from_is_err_and}
 use Rattle.line_keys.specs.KeyFeeds.{answer_map}
 use Rattle.keyline.proofs.CloseLemmas.{end_cut, end_kept, end_other}

@@ -1,6 +1,5 @@
 -- Lines follow on lines, each with what was handed in for it.
-use Rattle.std.proofs.Common.{ap, refl, ◌∙◌}
-use Rattle.std.specs.Prelude.{string_bytes}
+use Rattle.std.proofs.Common.{ap, refl, ◌∙◌, string_bytes}
 use Rattle.line_editor.specs.LineRun.{helper_from_hooks}
 use Rattle.line_keys.specs.CustomBindings.{custom_of}
 use Rattle.line_keys.specs.KeyFeeds.{answer_map}

@@ -1,6 +1,5 @@
 -- The session by options, over what is said of its keys, and then its writers flushed.
-use Rattle.std.proofs.Common.{[], refl, sym}
-use Rattle.std.specs.Prelude.{unwrap_or}
+use Rattle.std.proofs.Common.{[], refl, sym, unwrap_or}
 use Rattle.line_config.specs.Adapters.{bytes_not_sent, bytes_sent}
 use Rattle.keyline.specs.Program.{word_texts}
 use Rattle.keyline.proofs.PlayedLemmas.{fails_still, fresh_coming, fresh_sink, handed_on, played}

@@ -1,6 +1,5 @@
 -- The line by `run`, and its end.
-use Rattle.std.proofs.Common.{Bool, rules, subst}
-use Rattle.std.specs.Prelude.{string_bytes}
+use Rattle.std.proofs.Common.{Bool, rules, subst, string_bytes}
 use Rattle.line_keys.specs.CustomBindings.{custom_of}
 use Rattle.line_keys.specs.KeyFeeds.{answer_map}
 use Rattle.line_editor.specs.LineRun.{helper_from_hooks, outcome_of}

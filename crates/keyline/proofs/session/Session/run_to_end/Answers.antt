@@ -1,6 +1,5 @@
 -- Lines follow on lines, and the last one ends the session.
-use Rattle.std.proofs.Common.{refl, subst, ap, ◌∙◌}
-use Rattle.std.specs.Prelude.{string_bytes}
+use Rattle.std.proofs.Common.{refl, subst, ap, ◌∙◌, string_bytes}
 use Rattle.line_keys.specs.KeyFeeds.{answer_map}
 use Rattle.keyline.specs.SessionEffects.{devices_by}
 use Rattle.keyline.specs.SessionCalls.{Finishes}
