@@ -57,7 +57,7 @@ record Next (n : ℕ) (runs slots : List (List ℕ)) (next : ℕ) : Type 0 where
   full : next < length slots → length slots ≡ suc n
   all : reverse (take next slots) ++ reverse (drop next slots) ≡ take (suc n) runs
 
--- the oldest of them goes, if there is no room
+-- the oldest of them goes, if no slot is free
 all_but_oldest : (n : ℕ) (runs slots : List (List ℕ)) (next : ℕ) → Next n runs slots next
     → older slots next ≡ take n (reverse (take next slots) ++ reverse (drop next slots))
 all_but_oldest n runs slots next h =
