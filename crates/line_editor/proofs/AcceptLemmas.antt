@@ -1,7 +1,6 @@
 -- A line that is accepted, or gets a newline.
-use Rattle.std.proofs.Common.{◌≡◌, Bool, ap, subst, ◌∙◌, refl}
+use Rattle.std.proofs.Common.{◌≡◌, Bool, subst, refl}
 use Rattle.std.specs.Prelude.{Result, Ok, Err, IsErrAnd}
-use Rattle.line_buffer.specs.Line.{Line}
 use Rattle.line_config.specs.declared.errors.ReadlineError.{ReadlineError}
 use Rattle.line_help.specs.declared.completion as completions
 use Rattle.line_help.specs.declared.helpers.hint as hints
@@ -22,16 +21,11 @@ behind middle s v = newline_if (accepts middle (verdict s v) v.line) (verdict s 
 module _ {Out H Hi K T : Type 0} {renderer : renderers.Renderer.Ghosts Out} {completer : completions.Completer.Ghosts H K} {candidate : completions.Candidate.Ghosts K}
     {hinter : hints.Hinter.Ghosts H T} {hint : hints.Hint.Ghosts T} {highlighter : highlights.Highlighter.Ghosts H} {validator : verdicts.Validator.Ghosts H} {history : histories.History.Ghosts Hi} where
   -- what was found decides what comes after it
-  newline_by : (middle accepted : Bool) (found : ValidationResult) (s m : State Out H Hi K T renderer completer candidate hinter hint highlighter validator history)
-      → found ≡ verdict (setting_of s) (value_of s) → m.recorded.line ≡ s.recorded.line → accepted ≡ accepts middle found m.recorded.line → newline_if accepted found ≡ behind middle (setting_of s) (value_of s)
-  newline_by middle accepted found s m is same test =
-      ap (λ (a : Bool). newline_if a found) (test ∙ ap (λ (l : Line). accepts middle found l) same ∙ ap (λ (f : ValidationResult). accepts middle f s.recorded.line) is)
-      ∙ ap (newline_if (accepts middle (verdict (setting_of s) (value_of s)) (value_of s).line)) is
-
   newline_is : {B : Type 0} (middle accepted : Bool) (found : ValidationResult) (s m t : State Out H Hi K T renderer completer candidate hinter hint highlighter validator history) (r : Result B ReadlineError)
       → found ≡ verdict (setting_of s) (value_of s) → m.recorded.line ≡ s.recorded.line → accepted ≡ accepts middle found m.recorded.line
       → Does (newline_if accepted found) m t r → Does (behind middle (setting_of s) (value_of s)) m t r
-  newline_is middle accepted found s m t r is same test k = subst (λ (edit : Transition). Does edit m t r) (newline_by middle accepted found s m is same test) k
+  newline_is middle accepted found s m t r is same test k =
+      let by : newline_if accepted found ≡ behind middle (setting_of s) (value_of s) = rw (test, same, is) in subst (λ (edit : Transition). Does edit m t r) by k
 
   pub accept_cut : {A B : Type 0} (middle : Bool) (s t : State Out H Hi K T renderer completer candidate hinter hint highlighter validator history) (e : ReadlineError) (r : Result B ReadlineError)
       → IsErrAnd r (λ x. x ≡ e) → Does {A = A} accept s t (Err e) → Does (accept_or_insert middle) s t r

@@ -59,13 +59,10 @@ put_there offers all i start l b o is begins found = cond-true (begins_word star
 abbrev text_by : List ℕ → Bool → Option (List ℕ)
 text_by text b = if b then None else Some text
 
-some_byte : (byte : ℕ) (bytes : List ℕ) → (length (byte ∷ bytes) == 0) ≡ false
-some_byte byte bytes = grind (arith, nat_tests)
-
 -- an empty text isn't put
 pub text_put_if : (text : List ℕ) (b : Bool) → (length text == 0) ≡ b → unless_empty text ≡ text_by text b
 text_put_if [] b h = ap (text_by []) h
-text_put_if (byte ∷ bytes) b h = ap (text_by (byte ∷ bytes)) (sym (some_byte byte bytes) ∙ h)
+text_put_if (byte ∷ bytes) b h = let some : (length (byte ∷ bytes) == 0) ≡ false = grind (arith, nat_tests) in ap (text_by (byte ∷ bytes)) (sym some ∙ h)
 
 -- the helper is asked, and its candidates decide what is done
 abbrev pub asking : (Completion → Transition) → Transition

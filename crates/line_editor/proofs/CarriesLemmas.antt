@@ -26,23 +26,15 @@ use Rattle.line_editor.specs.declared.commands.Status.{Status, TheVariants.Proce
 use Rattle.line_editor.specs.declared.renderer as renderers
 use Rattle.line_editor.specs.declared.state.State.{State}
 use Rattle.line_editor.proofs.CommandedLemmas.{edit_cause}
-use Rattle.line_editor.proofs.DoesLemmas.{does_both, is_err, stays_same, stays_both}
+use Rattle.line_editor.proofs.DoesLemmas.{is_err, stays_same, stays_both}
 use Rattle.line_editor.proofs.PhraseGoes.{world_stays, edit_drawn, edit_value, edit_stops}
+use Rattle.line_editor.proofs.MeetLemmas.{taken_then}
 
 -- bindings that stayed
 pub same_custom : {D : Type 0} (s s' : InputState D) (means : D → Meaning) → s.custom_bindings ≡ s'.custom_bindings → custom_in s means ≡ custom_in s' means
 same_custom s s' means same = ap (λ b. custom_of b.now means) same
 
 -- fuel for one turn
-record Fuel (m next : ℕ) : Type 0 where
-  less : ℕ
-  is : m ≡ suc less
-  enough : next < less
-
-fuel_for : (m bound next : ℕ) → bound < m → next < bound → Fuel m next
-fuel_for zero bound next h falls = absurd (omega arith)
-fuel_for (suc k) bound next h falls = record { less = k; is = refl; enough = omega arith }
-
 record Some (m : ℕ) : Type 0 where
   less : ℕ
   is : m ≡ suc less
@@ -73,10 +65,6 @@ module _ {Out H Hi K T : Type 0} {renderer : renderers.Renderer.Ghosts Out} {com
       → IfErr result (Reason t) → IfErr (result_and result (Ok text)) (λ e. Cause custom t feed e)
   caused custom t feed (Ok x) text why = tt
   caused custom t feed (Err e) text why = edit_cause custom t feed e why
-
-  -- memory was taken
-  taken : (s : State Out H Hi K T renderer completer candidate hinter hint highlighter validator history) → Does {A = Unit {0}} memory_effect s s (Ok (tt {0}))
-  taken s = record { value = refl; calls = refl; layout = refl; stays = stays_same s; reason = tt; stops = tt }
 
   -- an edit alone, whatever follows it
   module _ (s m t : State Out H Hi K T renderer completer candidate hinter hint highlighter validator history) (stays : Stays s m) (edit : Transition) (i : Input) (r : Ring) (q : Modal) (c : Coming) {X : Type 0} (later : Value → LineScript X) where
@@ -160,11 +148,11 @@ module _ {Out H Hi K T : Type 0} {renderer : renderers.Renderer.Ghosts Out} {com
         carried_next : (n : ℕ) → Carried n m i1 r1 q1 feed1 → feed2.bound < feed1.bound
             → ((k : ℕ) → feed1.bound < k → Goes (world_of m) (turn_script k kept) (stage_of m i1 r1 q1 feed1.coming) (Ok Proceed) (stage_of t i2 r2 q2 feed2.coming)) → Carried n t i2 r2 q2 feed2
         carried_next n at falls took =
-            let f = fuel_for at.fuel feed1.bound feed2.bound at.enough falls in
+            let f = some_fuel at.fuel feed1.bound at.enough in
             let enough : feed1.bound < suc f.less = subst (λ k. feed1.bound < k) f.is at.enough in
             record {
               fuel = f.less;
-              enough = f.enough;
+              enough = omega (arith, enough, falls);
               onward = λ result y goes. at.onward result y (subst (λ k. Goes (world_of s) (turns_script k custom) (stage_of m i1 r1 q1 feed1.coming) result y) (sym f.is)
                   (turns_on (world_of s) f.less custom Proceed result (stage_of m i1 r1 q1 feed1.coming) (stage_of t i2 r2 q2 feed2.coming) y (turn_here (suc f.less) (Ok Proceed) (took (suc f.less) enough)) goes));
             }
@@ -208,10 +196,6 @@ module _ {Out H Hi K T : Type 0} {renderer : renderers.Renderer.Ghosts Out} {com
 
   -- ---- the first drawing
 
-  -- memory was taken before it
-  begun : {A : Type 0} (s t : State Out H Hi K T renderer completer candidate hinter hint highlighter validator history) (result : Result A ReadlineError) → Does refresh_effect s t result → Does (then_do memory_effect refresh_effect) s t result
-  begun s t result h = does_both memory_effect refresh_effect s s t (tt {0}) result (taken s) h
-
   module _ (custom : Custom) (i : Input) (r : Ring) (q : Modal) (s : State Out H Hi K T renderer completer candidate hinter hint highlighter validator history) (feed : KeyFeed) where
     drawn_on : {B : Type 0} (n : ℕ) (x : B) (m : State Out H Hi K T renderer completer candidate hinter hint highlighter validator history) (result : Result (List ℕ) ReadlineError) (y : LineStage Out) → Does (then_do memory_effect refresh_effect) s m (Ok x)
         → Goes (world_of m) (turns_script n custom) (stage_of m i r q feed.coming) result y → Goes (world_of s) (line_script n custom) (stage_of s i r q feed.coming) result y
@@ -228,7 +212,7 @@ module _ {Out H Hi K T : Type 0} {renderer : renderers.Renderer.Ghosts Out} {com
         → Does refresh_effect s m (Ok x) → Takes turns_script custom m i r q feed t i2 r2 q2 feed2 (result_and result (Ok t.recorded.line.text))
         → Takes line_script custom s i r q feed t i2 r2 q2 feed2 (result_and result (Ok t.recorded.line.text))
     draws x m t i2 r2 q2 feed2 result drawn read = record {
-      goes = λ told n h. drawn_on n x m (result_and result (Ok t.recorded.line.text)) (stage_of t i2 r2 q2 feed2.coming) (begun s m (Ok x) drawn) (read.goes told n h);
+      goes = λ told n h. drawn_on n x m (result_and result (Ok t.recorded.line.text)) (stage_of t i2 r2 q2 feed2.coming) (taken_then refresh_effect s m (Ok x) drawn) (read.goes told n h);
       stays = λ told. stays_both s m t drawn.stays (read.stays told);
       told = read.told;
       keeps = read.keeps;
@@ -240,7 +224,7 @@ module _ {Out H Hi K T : Type 0} {renderer : renderers.Renderer.Ghosts Out} {com
     pub undrawn : {A B : Type 0} (t : State Out H Hi K T renderer completer candidate hinter hint highlighter validator history) (e : ReadlineError) (result : Result A ReadlineError)
         → IsErrAnd result (λ x. x ≡ e) → Does {A = B} refresh_effect s t (Err e) → Takes line_script custom s i r q feed t i r q feed (result_and result (Ok t.recorded.line.text))
     undrawn {A} {B} t e result is refused = subst (λ x. Takes line_script custom s i r q feed t i r q feed (result_and x (Ok t.recorded.line.text))) (sym (is_err e result is)) (record {
-      goes = λ told n h. not_drawn {B = B} n t e (begun {A = B} s t (Err e) refused);
+      goes = λ told n h. not_drawn {B = B} n t e (taken_then {A = B} refresh_effect s t (Err e) refused);
       stays = λ told. refused.stays;
       told = λ h. h;
       keeps = le_refl feed.bound;

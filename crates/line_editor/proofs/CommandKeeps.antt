@@ -5,7 +5,6 @@ use Rattle.line_buffer.specs.Insertions.{can_take_before, insert as insertion, y
 use Rattle.line_buffer.specs.Clusters.{place_forward, place_backward}
 use Rattle.line_buffer.specs.LetterCase.{edit_word as recased_in}
 use Rattle.line_buffer.specs.Range.{range_of, copied_range}
-use Rattle.line_buffer.specs.Transpositions.{transposes_chars, transposes_words}
 use Rattle.line_buffer.specs.declared.types.Anchor.{Anchor, TheVariants.After, TheVariants.Before}
 use Rattle.line_buffer.specs.declared.types.Movement.{Movement}
 use Rattle.line_buffer.specs.declared.types.Movement.TheVariants.{BeginningOfLine, EndOfLine, BackwardWord, ForwardWord, ViCharSearch, ViFirstPrint, BackwardChar, ForwardChar, LineUp, LineDown, BeginningOfBuffer, EndOfBuffer}
@@ -16,29 +15,27 @@ use Rattle.line_buffer.specs.declared.types.At.TheVariants.{Start}
 use Rattle.line_buffer.specs.declared.types.Word.TheVariants.{Big}
 use Rattle.line_buffer.specs.declared.types.WordAction.{WordAction, TheVariants.Capitalize, TheVariants.Lowercase, TheVariants.Uppercase}
 use Rattle.line_edits.specs.WriteSteps.{effect_of_steps, with_answer, no_steps, group_opened, group_closed}
-use Rattle.line_edits.specs.Edits.{replace_group, by, yank_steps, text_steps, overwrite_steps, transpose_chars_group, transpose_words_group, word_group, char_steps, pop_group, kill_steps, indent_steps, replace_group_if_any}
+use Rattle.line_edits.specs.Edits.{replace_group, by, yank_steps, text_steps, overwrite_steps, transpose_chars_group, transpose_words_group, word_group, char_steps, pop_group, kill_steps, indent_steps}
 use Rattle.line_help.specs.Hints.{Hinted}
 use Rattle.line_help.specs.History.{begins_with_space}
-use Rattle.line_help.specs.Validation.{is_valid, has_message}
 use Rattle.line_help.specs.declared.helpers.validate.ValidationResult.{ValidationResult, TheVariants.Incomplete, TheVariants.Invalid, TheVariants.Valid}
 use Rattle.line_keys.specs.declared.command.Cmd.{Cmd}
 use Rattle.line_keys.specs.declared.command.Cmd.TheVariants.{AcceptLine, BeginningOfHistory, CapitalizeWord, Complete, CompleteHint, Dedent, DowncaseWord, EndOfHistory, HistorySearchBackward, HistorySearchForward, Indent, Insert, Kill, Move, NextHistory, Overwrite, PreviousHistory, ReplaceChar, Replace, SelfInsert, TransposeChars, TransposeWords, Undo, UpcaseWord, ViYankTo, Yank, YankPop, LineUpOrPreviousHistory, LineDownOrNextHistory, Newline, AcceptOrInsertLine}
-use Rattle.line_keys.specs.declared.command.CmdKind.{CmdKind, TheVariants.ForcedRefresh, TheVariants.MoveCursor, TheVariants.Other}
+use Rattle.line_keys.specs.declared.command.CmdKind.{CmdKind, TheVariants.MoveCursor}
 use Rattle.line_record.specs.Held.{closes}
 use Rattle.line_record.specs.Ring.{yank_exchange}
-use Rattle.line_editor.specs.Accepting.{verdict_told, verdict, bare, accept, accepts, newline_if, group_and_verdict_effect, verdict_effect}
+use Rattle.line_editor.specs.Accepting.{verdict_told, verdict, bare, accept}
 use Rattle.line_editor.specs.Commands.{Means, in_vi_command, effect}
 use Rattle.line_editor.specs.Completing.{at_row_end, complete_hint_effect}
-use Rattle.line_editor.specs.Inserting.{insert_char, insert_text, clusters_replaced}
+use Rattle.line_editor.specs.Inserting.{insert_char, insert_text}
 use Rattle.line_editor.specs.Killing.{kill_effect}
 use Rattle.line_editor.specs.Moving.{to_found, to_place, move_home, move_to_next_word, move_to_first_print, move_by}
-use Rattle.line_editor.specs.Transforms.{edit_word_effect, undo, transpose_chars_effect, transpose_words_effect}
+use Rattle.line_editor.specs.Transforms.{edit_word_effect, undo}
 use Rattle.line_editor.specs.Values.{Value, Setting, Effect, then_do, value_with_edit, line_and_record_of, at_line, no_effect}
 use Rattle.line_editor.specs.Yanking.{line_at_anchor, steps_over, behind_yank, value_after_yank, yank_text, yank_lent, pop_lent}
 use Rattle.line_editor.proofs.MeetKeeps.{Fact, KeptByEdits, complete_keeps, Holds}
-use Rattle.line_editor.specs.Drawing.{effect_if, message_effect}
 use Rattle.std.specs.Option.{option_map_or}
-use Rattle.std.specs.Prelude.{◌&&◌}
+use Rattle.std.proofs.lemmas.Bool.{cond_both}
 
 -- the edits of commands keep a fact, if the line is `sound` where an edit asks for that
 pub record KeptByCommands (fact : Fact) (sound : Value → Type 0) (s : Setting) : Type 0 where
@@ -69,8 +66,7 @@ recalls (LineDownOrNextHistory n) = true
 recalls cmd = false
 
 pub either_holds : (fact : Fact) (b : Bool) (e f : Effect) → Holds fact e.value → Holds fact f.value → Holds fact (if b then e else f).value
-either_holds fact true e f h k = h
-either_holds fact false e f h k = k
+either_holds fact b e f h k = cond_both b e f (λ (x : Effect). Holds fact x.value) (λ t. h) (λ t. k)
 
 pub found_holds : (fact : Fact) (o : Option ℕ) (s : Setting) (v : Value) → Holds fact v → Holds fact (to_found o s v).value
 found_holds fact o s v h = either_holds fact (is_some o) _ _ h h
@@ -117,10 +113,6 @@ module _ (fact : Fact) (sound : Value → Type 0) (s : Setting) (edits : KeptByE
   text_if None v h = h
   text_if (Some text) v h = either_holds fact (length text == 0) _ _ h (k.inserted text v h)
 
-  one_holds : (b : Bool) (v w : Value) → Holds fact v → Holds fact w → Holds fact (if b then v else w)
-  one_holds true v w h i = h
-  one_holds false v w h i = i
-
   anchored : (anchor : Anchor) (v : Value) → Holds fact v → Holds fact (at_line (line_at_anchor anchor v.line) v)
   anchored After v h = h
   anchored Before v h = h
@@ -134,7 +126,7 @@ module _ (fact : Fact) (sound : Value → Type 0) (s : Setting) (edits : KeptByE
       let before = at_line (line_at_anchor anchor v.line) v in
       let w = value_with_edit (by (yank_steps text n)) before in
       let put : Holds fact w = k.yanked text n before (anchored anchor v h) in
-      let left : Holds fact (value_after_yank vi text n before) = one_holds (is_some (yanked_in text n before.line).answer) (at_line (behind_yank vi w.line) w) w (stepped_back vi w put) put in
+      let left : Holds fact (value_after_yank vi text n before) = cond_both (is_some (yanked_in text n before.line).answer) (at_line (behind_yank vi w.line) w) w (Holds fact) (λ e. stepped_back vi w put) (λ e. put) in
       either_holds fact (is_some (yanked_in text n before.line).answer || steps_over anchor v.line) _ _ left left
 
   lent : (vi : Bool) (anchor : Anchor) (n : ℕ) (o : Option (List ℕ)) (v : Value) → Holds fact v → Holds fact (yank_lent vi anchor n o s v).value
@@ -150,47 +142,21 @@ module _ (fact : Fact) (sound : Value → Type 0) (s : Setting) (edits : KeptByE
   replaced_if true c n v h made = made
   replaced_if false c n v h made = h
 
-  replacing : (c n : ℕ) (v : Value) → sound v → Holds fact v → Holds fact (clusters_replaced n (replace_group_if_any c n) s v).value
-  replacing c n v ok h =
-      let some = is_some (place_forward n v.line) in
-      let made = replaced_if some c n v h (k.replaced c n v ok h) in
-      either_holds fact some _ _ made made
-
-  overwriting : (c : ℕ) (v : Value) → sound v → Holds fact v → Holds fact (clusters_replaced 1 (overwrite_steps c) s v).value
-  overwriting c v ok h = let made = k.overwritten c v ok h in either_holds fact (is_some (place_forward 1 v.line)) _ _ made made
-
   recasing : (action : WordAction) (v : Value) → sound v → Holds fact v → Holds fact (edit_word_effect action s v).value
   recasing action v ok h = let made = k.recased action v ok h in either_holds fact (recased_in action v.line).answer _ _ made made
 
-  transposing : (v : Value) → sound v → Holds fact v → Holds fact (transpose_chars_effect s v).value
-  transposing v ok h = let made = k.transposed v ok h in either_holds fact (transposes_chars v.line) _ _ made made
-
-  swapping : (n : ℕ) (v : Value) → sound v → Holds fact v → Holds fact (transpose_words_effect n s v).value
-  swapping n v ok h =
-      let w = value_with_edit (by (transpose_words_group n)) v in
-      let made = k.swapped n v ok h in
-      either_holds fact (transposes_words n v.line || not (w.line.place == v.line.place)) _ _ made made
-
   -- ---- lines that are to be accepted, and hints
-
-  told_if : (draws : Bool) (text : Option (List ℕ)) (kind : CmdKind) (v : Value) → Holds fact v → Holds fact (effect_if (draws || is_some text) (message_effect text kind) s v).value
-  told_if draws text kind v h = either_holds fact (draws || is_some text) _ _ h h
 
   judged : (found : ValidationResult) (draws : Bool) (v : Value) → Holds fact v → Holds fact (verdict_told found draws s v).value
   judged Incomplete draws v h = h
-  judged (Invalid text) draws v h = told_if draws text Other v h
-  judged (Valid text) draws v h = told_if draws text ForcedRefresh v h
-
-  validated : (some : Bool) (v : Value) → Holds fact v → Holds fact (effect_if some (then_do group_and_verdict_effect (verdict_effect (verdict s v))) s v).value
-  validated some v h =
-      let w = value_with_edit group_opened v in
-      either_holds fact some _ _ (judged (verdict s v) (closes w.held || is_some w.hint) (value_with_edit group_closed w) (k.grouped v h)) h
+  judged (Invalid text) draws v h = either_holds fact (draws || is_some text) _ _ h h
+  judged (Valid text) draws v h = either_holds fact (draws || is_some text) _ _ h h
 
   accepted : (v : Value) → Holds fact v → Holds fact (accept s v).value
-  accepted v h = validated (is_some s.hooks) (bare s v).value h
-
-  newline : (done : Bool) (found : ValidationResult) (v : Value) → Holds fact v → Holds fact (newline_if done found s v).value
-  newline done found v h = either_holds fact (not done && (is_valid found || not (has_message found))) _ _ (typing 10 1 v h) h
+  accepted v h =
+      let u = (bare s v).value in
+      let w = value_with_edit group_opened u in
+      either_holds fact (is_some s.hooks) _ _ (judged (verdict s u) (closes w.held || is_some w.hint) (value_with_edit group_closed w) (k.grouped u h)) h
 
   hint_taken : (o : Option (List ℕ)) (v : Value) → Holds fact v → Holds fact (complete_hint_effect o s v).value
   hint_taken None v h = h
@@ -203,17 +169,9 @@ module _ (fact : Fact) (sound : Value → Type 0) (s : Setting) (edits : KeptByE
   -- ---- any command
 
   pub command_keeps : (m : Means) (cmd : Cmd) (v : Value) → recalls cmd ≡ false → sound v → Holds fact v → Holds fact (effect m cmd s v).value
-  command_keeps m PreviousHistory v other ok h = cc
-  command_keeps m NextHistory v other ok h = cc
-  command_keeps m BeginningOfHistory v other ok h = cc
-  command_keeps m EndOfHistory v other ok h = cc
-  command_keeps m HistorySearchBackward v other ok h = cc
-  command_keeps m HistorySearchForward v other ok h = cc
-  command_keeps m (LineUpOrPreviousHistory n) v other ok h = cc
-  command_keeps m (LineDownOrNextHistory n) v other ok h = cc
   command_keeps m AcceptLine v other ok h = accepted v h
   command_keeps m Newline v other ok h = typing 10 1 (bare s v).value h
-  command_keeps m (AcceptOrInsertLine middle) v other ok h = newline (accepts middle (verdict s v) v.line) (verdict s v) (accept s v).value (accepted v h)
+  command_keeps m (AcceptOrInsertLine middle) v other ok h = let done = accepted v h in either_holds fact _ _ _ (typing 10 1 (accept s v).value done) done
   command_keeps m CapitalizeWord v other ok h = recasing Capitalize v ok h
   command_keeps m DowncaseWord v other ok h = recasing Lowercase v ok h
   command_keeps m UpcaseWord v other ok h = recasing Uppercase v ok h
@@ -228,10 +186,10 @@ module _ (fact : Fact) (sound : Value → Type 0) (s : Setting) (edits : KeptByE
   command_keeps m (Kill movement) v other ok h = killing movement v ok h
   command_keeps m (ViYankTo movement) v other ok h = either_holds fact (is_some (copied_range movement v.line)) _ _ h h
   command_keeps m (Replace movement text) v other ok h = text_if text (kill_effect movement s v).value (killing movement v ok h)
-  command_keeps m (ReplaceChar n c) v other ok h = replacing c n v ok h
-  command_keeps m (Overwrite c) v other ok h = overwriting c v ok h
+  command_keeps m (ReplaceChar n c) v other ok h = let made = replaced_if (is_some (place_forward n v.line)) c n v h (k.replaced c n v ok h) in either_holds fact _ _ _ made made
+  command_keeps m (Overwrite c) v other ok h = let made = k.overwritten c v ok h in either_holds fact _ _ _ made made
   command_keeps m (SelfInsert n c) v other ok h = typing c n v h
-  command_keeps m TransposeChars v other ok h = transposing v ok h
-  command_keeps m (TransposeWords n) v other ok h = swapping n v ok h
+  command_keeps m TransposeChars v other ok h = let made = k.transposed v ok h in either_holds fact _ _ _ made made
+  command_keeps m (TransposeWords n) v other ok h = let made = k.swapped n v ok h in either_holds fact _ _ _ made made
   command_keeps m (Undo n) v other ok h = k.undone n v h
-  command_keeps m cmd v other ok h = h
+  command_keeps m cmd v other ok h = first_of (assumption, cc)

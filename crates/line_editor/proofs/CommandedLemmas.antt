@@ -2,7 +2,7 @@
 use Rattle.std.proofs.Common.{◌≡◌, inl, inr, ℕ, suc, ◌<◌, le_refl, Bool, true, false, if◌then◌else◌, refl, sym, ap, subst, ◌∙◌}
 use Rattle.std.specs.Prelude.{Result, Ok, Err, IfErr, OnOk, IsErrAnd, length, ◌==◌}
 use Rattle.line_config.specs.declared.errors.ReadlineError.{ReadlineError}
-use Rattle.line_config.specs.declared.errors.ReadlineError.TheVariants.{Eof, Interrupted, NotUtf8, PasteOutOfPlace, Reader, Display, Lines, HistoryText, Helper, Handler, Memory}
+use Rattle.line_config.specs.declared.errors.ReadlineError.TheVariants.{Eof, Display, Helper, Handler, Memory}
 use Rattle.script.specs.Scripts.{Goes, then, Asks, Ends}
 use Rattle.script.proofs.ScriptLaws.{then_goes, then_cut}
 use Rattle.line_help.specs.declared.completion as completions
@@ -40,25 +40,16 @@ module _ {Out H Hi K T : Type 0} {renderer : renderers.Renderer.Ghosts Out} {com
   -- ---- causes
 
   phrase_cause : (custom : Custom) (t : State Out H Hi K T renderer completer candidate hinter hint highlighter validator history) (f : KeyFeed) (e : ReadlineError) → Because display_of custom t f e → Cause custom t f e
-  phrase_cause custom t f Eof why = tt
-  phrase_cause custom t f Interrupted why = tt
-  phrase_cause custom t f NotUtf8 (inl why) = why.1
-  phrase_cause custom t f PasteOutOfPlace (inl why) = why.1
-  phrase_cause custom t f Reader (inl why) = why.1
-  phrase_cause custom t f Display (inr why) = why.3.reason
-  phrase_cause custom t f Helper (inr why) = why.3.reason
   phrase_cause custom t f Handler why = why
   phrase_cause custom t f Memory why = tt
-  phrase_cause custom t f _ (inl why) = absurd why.0
-  phrase_cause custom t f _ (inr why) = absurd why.0
+  phrase_cause custom t f Display (inr why) = why.3.reason
+  phrase_cause custom t f Helper (inr why) = why.3.reason
+  phrase_cause custom t f _ (inl why) = search
+  phrase_cause custom t f _ (inr why) = search
 
   pub edit_cause : (custom : Custom) (t : State Out H Hi K T renderer completer candidate hinter hint highlighter validator history) (f : KeyFeed) (e : ReadlineError) → Reason t e → Cause custom t f e
   edit_cause custom t f Eof why = tt
-  edit_cause custom t f Interrupted why = tt
-  edit_cause custom t f Display why = why
-  edit_cause custom t f Helper why = why
-  edit_cause custom t f Memory why = tt
-  edit_cause custom t f _ why = absurd why
+  edit_cause custom t f _ why = search
 
   if_cause : (custom : Custom) (t : State Out H Hi K T renderer completer candidate hinter hint highlighter validator history) (f : KeyFeed) (b : Bool) (x y : Result Status ReadlineError)
       → IfErr x (λ e. Cause custom t f e) → IfErr y (λ e. Cause custom t f e) → IfErr (if b then x else y) (λ e. Cause custom t f e)

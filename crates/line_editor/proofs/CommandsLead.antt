@@ -10,7 +10,6 @@ use Rattle.line_buffer.specs.Line.{Line, with_cursor_at}
 use Rattle.line_buffer.specs.Range.{copied_range}
 use Rattle.line_buffer.specs.Transpositions.{transposes_words, transpose_words as exchanged_in, swap as swapped_in, words_around, before_transposed}
 use Rattle.line_buffer.specs.declared.types.Anchor.{Anchor, TheVariants.After, TheVariants.Before}
-use Rattle.line_buffer.specs.declared.types.Movement.{Movement}
 use Rattle.line_buffer.specs.declared.types.WordAction.{WordAction, TheVariants.Capitalize, TheVariants.Lowercase, TheVariants.Uppercase}
 use Rattle.line_edits.specs.Edits.{yank_steps, pop_group, update_steps, update_group, overwrite_steps, replace_group, replace_group_if_any, indent_steps, transpose_words_group, word_group, after_undo, by}
 use Rattle.line_edits.proofs.StepLemmas.{overwrite_steps_to}
@@ -26,16 +25,15 @@ use Rattle.line_keys.specs.declared.command.Cmd.TheVariants.{AcceptLine, Beginni
 use Rattle.line_keys.specs.declared.command.CmdKind.{CmdKind, TheVariants.ForcedRefresh, TheVariants.Other}
 use Rattle.line_record.specs.Held.{has_step, closes}
 use Rattle.line_record.specs.Ring.{yank_exchange}
-use Rattle.line_editor.specs.Accepting.{bare, verdict, verdict_told, verdict_effect, group_and_verdict_effect, validate, newline, accept, accepts, newline_if, accept_or_insert}
-use Rattle.line_editor.specs.Commands.{in_vi_command, line_up_or_previous, line_down_or_next}
+use Rattle.line_editor.specs.Accepting.{bare, verdict, verdict_told, verdict_effect, group_and_verdict_effect, validate, accept, accepts, newline_if, accept_or_insert}
+use Rattle.line_editor.specs.Commands.{in_vi_command}
 use Rattle.line_editor.specs.Completing.{common_text, word_replaced, updates, complete_effect, candidates_given, candidates_asked, complete, word_completed, at_row_end, complete_hint_effect}
 use Rattle.line_editor.specs.Drawing.{since, draw_effect_behind, ask_anew_effect, refresh_effect, refresh_effect_since, cursor_end_effect, effect_if, message_effect, beep_effect, draw_effect_since}
 use Rattle.line_editor.specs.Inserting.{insert_char}
-use Rattle.line_editor.specs.Killing.{copy_effect}
 use Rattle.line_editor.specs.Leads.{Leads, CommandsLead, SubmittingLeads, AsksLead}
 use Rattle.line_editor.specs.Moving.{move_buffer_end}
 use Rattle.line_editor.specs.Redraws.Redraw.{Drawn, Bared, Beeped}
-use Rattle.line_editor.specs.History.{at_place, leave_effect, recall, recall_earlier_effect, history_step, history_end, history_search, entry_shown, save_effect}
+use Rattle.line_editor.specs.History.{at_place, leave_effect, recall, recall_earlier_effect, history_step, history_end, history_search, entry_shown}
 use Rattle.line_editor.specs.Transforms.{transpose_words_effect, edit_word_effect, undo}
 use Rattle.line_editor.specs.Sights.{sight_with, sight_of, ended_sight, Turns, info_after}
 use Rattle.line_editor.specs.Values.{Value, Setting, Effect, without_hint, with_mark, help_steps, hint_reply, verdict_reply, completion_reply, update_reply, shown_hint, shown_marks, no_effect, value_with_edit, line_and_record_of, at_line, then_do}
@@ -140,11 +138,7 @@ recall_leads place None s v w h = rest_leads s v w h
 recall_leads place (Some hit) s v w h = redraw_leads (update_group hit.entry (length hit.entry)) s v (at_place place w)
 
 leaving_leads : (s : Setting) (v : Value) → Leads s v (leave_effect s v)
-leaving_leads s v = by_test (v.history == length s.entries)
-  where
-    by_test : (b : Bool) → Leads s v (if b then save_effect s v else no_effect s v)
-    by_test true info = record { fits = (tt, tt); leads = refl }
-    by_test false info = record { fits = tt; leads = refl }
+leaving_leads s v = either s v (v.history == length s.entries) _ _ (λ e info. record { fits = (tt, tt); leads = refl }) (λ e. rest_leads s v v (refl, refl, refl))
 
 recall_left : (place : ℕ) (s : Setting) (v : Value) → Leads s v (recall_earlier_effect place s v)
 recall_left place s v =
@@ -203,16 +197,13 @@ validate_leads true s v =
 accept_leads : (s : Setting) (v : Value) → Leads s v (accept s v)
 accept_leads s v = both_lead s v bare validate (bare_leads s v) (validate_leads (is_some s.hooks) s (bare s v).value)
 
-newline_leads : (s : Setting) (v : Value) → Leads s v (newline s v)
-newline_leads s v = both_lead s v bare (insert_char 10 1) (bare_leads s v) (insertion_leads 10 1 s (bare s v).value)
-
-newline_if_leads : (accepted : Bool) (found : ValidationResult) (s : Setting) (v : Value) → Leads s v (newline_if accepted found s v)
-newline_if_leads accepted found s v =
-    either s v (not accepted && (is_valid found || not (has_message found))) _ _ (λ e. insertion_leads 10 1 s v) (λ e. rest_leads s v v (refl, refl, refl))
-
 accept_or_insert_leads : (middle : Bool) (s : Setting) (v : Value) → Leads s v (accept_or_insert middle s v)
 accept_or_insert_leads middle s v =
-    both_lead s v accept (newline_if (accepts middle (verdict s v) v.line) (verdict s v)) (accept_leads s v) (newline_if_leads (accepts middle (verdict s v) v.line) (verdict s v) s (accept s v).value)
+    let found = verdict s v in
+    let accepted = accepts middle found v.line in
+    let w = (accept s v).value in
+    both_lead s v accept (newline_if accepted found) (accept_leads s v)
+    (either s w (not accepted && (is_valid found || not (has_message found))) _ _ (λ e. insertion_leads 10 1 s w) (λ e. rest_leads s w w (refl, refl, refl)))
 
 -- ---- hints
 
@@ -244,19 +235,6 @@ complete_leads s v =
     either s v (is_some s.hooks) _ _
     (λ e. both_lead s v candidates_asked (complete_effect found) (asking_leads v (completion_reply s v) s v v (refl, refl, refl)) (elected_leads found.start (common_text found v.line) s v))
     (λ e. rest_leads s v v (refl, refl, refl))
-
--- ---- rows, or the history
-
-up_leads : (n : ℕ) (s : Setting) (v : Value) → Leads s v (line_up_or_previous n s v)
-up_leads n s v = either s v (is_some (line_up s.mode s.tabs s.column n v.line)) _ _ (λ e. step_leads _ _ _ s v refl) (λ e. step_back_leads true s v)
-
-down_leads : (n : ℕ) (s : Setting) (v : Value) → Leads s v (line_down_or_next n s v)
-down_leads n s v = either s v (is_some (line_down s.mode s.tabs s.column n v.line)) _ _ (λ e. step_leads _ _ _ s v refl) (λ e. step_back_leads false s v)
-
--- ---- a copy
-
-copy_leads : (movement : Movement) (s : Setting) (v : Value) → Leads s v (copy_effect movement s v)
-copy_leads movement s v = either s v (is_some (copied_range movement v.line)) _ _ (λ e. take_leads s v v (no_effect s v) (rest_leads s v v (refl, refl, refl))) (λ e. rest_leads s v v (refl, refl, refl))
 
 -- ---- the laws
 
@@ -292,12 +270,15 @@ commands_lead m TransposeChars s v = chars_lead s v
 commands_lead m (TransposeWords n) s v = words_lead n s v
 commands_lead m (Undo n) s v = undo_leads n s v
 commands_lead m UpcaseWord s v = word_leads Uppercase s v
-commands_lead m (ViYankTo movement) s v = copy_leads movement s v
+commands_lead m (ViYankTo movement) s v =
+    let rests = rest_leads s v v (refl, refl, refl) in either s v (is_some (copied_range movement v.line)) _ _ (λ e. take_leads s v v (no_effect s v) rests) (λ e. rests)
 commands_lead m (Yank n anchor) s v = lent_leads (in_vi_command m) anchor n (slice_get m.ring.slots m.ring.place) s v
 commands_lead m YankPop s v = pop_leads (yank_exchange m.ring) s v
-commands_lead m (LineUpOrPreviousHistory n) s v = up_leads n s v
-commands_lead m (LineDownOrNextHistory n) s v = down_leads n s v
-commands_lead m Newline s v = newline_leads s v
+commands_lead m (LineUpOrPreviousHistory n) s v =
+    either s v (is_some (line_up s.mode s.tabs s.column n v.line)) _ _ (λ e. step_leads _ _ _ s v refl) (λ e. step_back_leads true s v)
+commands_lead m (LineDownOrNextHistory n) s v =
+    either s v (is_some (line_down s.mode s.tabs s.column n v.line)) _ _ (λ e. step_leads _ _ _ s v refl) (λ e. step_back_leads false s v)
+commands_lead m Newline s v = both_lead s v bare (insert_char 10 1) (bare_leads s v) (insertion_leads 10 1 s (bare s v).value)
 commands_lead m (AcceptOrInsertLine middle) s v = accept_or_insert_leads middle s v
 commands_lead m cmd s v = rest_leads s v v (refl, refl, refl)
 

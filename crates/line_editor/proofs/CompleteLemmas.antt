@@ -1,6 +1,6 @@
 -- What is put in place of a word, and what a state makes of completing one.
-use Rattle.std.specs.Prelude.{⊤, Option, Some, None, is_some, option_map, Result, Ok, Err, OnErr, IfErr, IsErrAnd, IsFalse, IsUtf8}
-use Rattle.std.proofs.Common.{◌≡◌, ◌⊎◌, inl, inr, ℕ, true, List, map, refl, sym, ap, subst, ◌∙◌}
+use Rattle.std.specs.Prelude.{⊤, Option, Some, is_some, option_map, Result, Ok, Err, OnErr, IfErr, IsErrAnd, IsFalse, IsUtf8}
+use Rattle.std.proofs.Common.{◌≡◌, ◌⊎◌, inl, inr, ℕ, true, List, map, refl, sym, ap, subst, ◌∙◌, []}
 use Rattle.std.proofs.lemmas.Simd.{map-map}
 use Rattle.line_buffer.specs.Line.{Line}
 use Rattle.line_buffer.specs.Event.{replacement}
@@ -26,7 +26,7 @@ use Rattle.line_editor.specs.Values.{Value, Setting, Hooks, then_do, completion_
 use Rattle.line_editor.specs.declared.renderer as renderers
 use Rattle.line_editor.specs.declared.state.State.{State}
 use Rattle.line_editor.proofs.DoesLemmas.{does_as, does_both, does_cut_by, does_refused, stays_same}
-use Rattle.line_editor.proofs.HelpedLemmas.{completion_reason, update_reason, fault_told}
+use Rattle.line_editor.proofs.HelpedLemmas.{fault_told, hook_reason, has_hooks}
 use Rattle.std.specs.Option.{option_map_or}
 
 -- the texts that candidates put in
@@ -75,14 +75,6 @@ put_refused reply before after old marked new fault (Err e) is why mark left =
 
 -- ---- with a helper
 
-pub some_mapped : {A B C : Type 0} (f : B → C) (g : A → B) (o : Option A) → is_some (option_map f (option_map g o)) ≡ is_some o
-some_mapped f g None = refl
-some_mapped f g (Some x) = refl
-
-has_hooks : {A B : Type 0} (f : A → B) (o : Option A) → is_some (option_map f o) ≡ is_some o
-has_hooks f None = refl
-has_hooks f (Some x) = refl
-
 completed_is : (found given : Completion) (o : Option (List ℕ)) (s : Setting) (v : Value) → found ≡ given → common_text found v.line ≡ o → option_map_or (word_completed found.start) o beep_effect s v ≡ complete_effect given s v
 completed_is found given o s v same is = ap (λ x. option_map_or (word_completed found.start) x beep_effect s v) (sym is) ∙ ap (λ f. complete_effect f s v) same
 
@@ -111,7 +103,8 @@ module _ {Out H Hi K T : Type 0} {renderer : renderers.Renderer.Ghosts Out} {com
   refused_behind start text s t h e is why marked same stays touches =
       let reply = update_reply start text (setting_of s) (value_of s) in
       let fault : IsHelpFault reply e = update_faults s h start text e is why in
-      does_refused (word_updated start text) s t e stays (update_reason (setting_of s).hooks s.recorded.line start text (renderer.canvas.failed t.out) e fault)
+      does_refused (word_updated start text) s t e stays (hook_reason (λ h. h.updates s.recorded.line start text) (setting_of s).hooks (renderer.canvas.failed t.out) e
+      (λ h k. (s.recorded.line, [], 0, start, text, inr (inr (inr k)))) fault)
       (stops_updating renderer.canvas (renderer.canvas.ruler s.out) (value_of s) reply (surface_of s) (surface_of t) e (value_of t) fault same
       (touched s t (group_opened (line_and_record_in s.recorded)) touches marked))
 
@@ -122,7 +115,7 @@ module _ {Out H Hi K T : Type 0} {renderer : renderers.Renderer.Ghosts Out} {com
       let reply = update_reply start text (setting_of s) (value_of s) in
       does_refused (word_updated start text) s t Memory stays tt
       (stops_marking renderer.canvas (renderer.canvas.ruler s.out) (value_of s) reply (surface_of s) (surface_of t) Memory (value_of t)
-      (some_mapped (λ (k : Hooks). k.updates s.recorded.line start text) (hooks_of completer hinter validator) s.helper ∙ ap is_some is) refl same (touched s t (line_and_record_in s.recorded) touches stood))
+      (ap (λ (o : Option H). is_some (option_map (λ (k : Hooks). k.updates s.recorded.line start text) (option_map (hooks_of completer hinter validator) o))) is) refl same (touched s t (line_and_record_in s.recorded) touches stood))
 
   -- the same of what the call has told
   pub updating_cut : {A : Type 0} (start : ℕ) (text : List ℕ) (s t : State Out H Hi K T renderer completer candidate hinter hint highlighter validator history) (h : H) (fault : HookFault) → s.helper ≡ Some h
@@ -139,19 +132,15 @@ module _ {Out H Hi K T : Type 0} {renderer : renderers.Renderer.Ghosts Out} {com
       → IsFalse (fails_by (completion_reply (setting_of s) (value_of s))) → Does candidates_asked s s (Ok x)
   asked_made s x works =
       let reply = completion_reply (setting_of s) (value_of s) in
-      record {
-        value = refl;
-        calls = help_made renderer.canvas (renderer.canvas.ruler s.out) s.layout (value_of s) reply s.out s.out works refl;
-        layout = sym (help_layout (renderer.canvas.ruler s.out) s.layout (value_of s) reply);
-        stays = stays_same s;
-        reason = tt;
-        stops = tt;
-      }
+      let calls = help_made renderer.canvas (renderer.canvas.ruler s.out) s.layout (value_of s) reply s.out s.out works refl in
+      let layout = sym (help_layout (renderer.canvas.ruler s.out) s.layout (value_of s) reply) in
+      record { value = refl; calls = calls; layout = layout; stays = stays_same s; reason = tt; stops = tt }
 
   pub asked_refused : (s : State Out H Hi K T renderer completer candidate hinter hint highlighter validator history) (e : ReadlineError)
       → IsHelpFault (completion_reply (setting_of s) (value_of s)) e → Does {A = ⊤} candidates_asked s s (Err e)
   asked_refused s e why = does_refused candidates_asked s s e (stays_same s)
-      (completion_reason (setting_of s).hooks s.recorded.line (setting_of s).entries (value_of s).history (renderer.canvas.failed s.out) e why)
+      (let v = value_of s in hook_reason (λ h. h.completes v.line.text v.line.place (setting_of s).entries v.history) (setting_of s).hooks (renderer.canvas.failed s.out) e
+      (λ h k. (v.line, (setting_of s).entries, v.history, 0, [], inr (inr (inl k)))) why)
       (stops_asking renderer.canvas (renderer.canvas.ruler s.out) (value_of s) (completion_reply (setting_of s) (value_of s)) (surface_of s) (surface_of s) e (value_of s) why refl refl)
 
   complete_is : (s : State Out H Hi K T renderer completer candidate hinter hint highlighter validator history) → is_some s.helper ≡ true

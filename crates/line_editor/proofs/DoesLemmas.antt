@@ -1,6 +1,6 @@
 -- One edit, then another.
-use Rattle.std.proofs.Common.{◌≡◌, Bool, List, [], ◌∷◌, ◌++◌, refl, sym, ap, subst, ◌∙◌, if◌then◌else◌, Option, None, option_map}
-use Rattle.std.specs.Prelude.{⊤, ℕ, Result, Ok, Err, OnOk, IfErr, IsErrAnd}
+use Rattle.std.proofs.Common.{◌≡◌, Bool, List, [], ◌∷◌, ◌++◌, refl, sym, ap, subst, ◌∙◌, if◌then◌else◌, Option, None}
+use Rattle.std.specs.Prelude.{⊤, ℕ, Result, Ok, Err, OnOk, IfErr, IsErrAnd, option_map}
 use Rattle.std.proofs.lemmas.Result.{on_ok_weaker}
 use Rattle.line_config.specs.declared.config.Config.{Config}
 use Rattle.line_buffer.specs.Cells.{origin}
@@ -17,7 +17,7 @@ use Rattle.line_editor.specs.RenderCalls.{Marks, Ruler, MadeIn}
 use Rattle.line_editor.specs.Redraws.{RedrawCalls, then_asked}
 use Rattle.line_editor.specs.EditSteps.{calls_of_steps, Surface, surface, CutEditSteps}
 use Rattle.line_editor.specs.Transforms.{indent_effect, indent_by_setting}
-use Rattle.line_editor.specs.States.{hooks_of, value_of, setting_of, reason_of, surface_of, Stays, Does, Renders}
+use Rattle.line_editor.specs.States.{value_of, setting_of, reason_of, surface_of, Stays, Does, Renders, hooks_of}
 use Rattle.line_editor.specs.Values.{Value, Setting, Hooks, Effect, Transition, IsFailing, then_do}
 use Rattle.line_editor.specs.Values.EditStep.{Edits}
 use Rattle.line_editor.specs.declared.renderer as renderers
@@ -47,33 +47,19 @@ setting_by r prompt hooks marks entries config = record {
 module _ {Out H Hi K T : Type 0} {renderer : renderers.Renderer.Ghosts Out} {completer : completions.Completer.Ghosts H K} {candidate : completions.Candidate.Ghosts K}
     {hinter : hints.Hinter.Ghosts H T} {hint : hints.Hint.Ghosts T} {highlighter : highlights.Highlighter.Ghosts H} {validator : verdicts.Validator.Ghosts H} {history : histories.History.Ghosts Hi} where
   pub setting_stays : (s t : State Out H Hi K T renderer completer candidate hinter hint highlighter validator history) → Stays s t → setting_of t ≡ setting_of s
-  setting_stays s t h =
-      ap (λ r. setting_by r t.prompt.now (option_map (hooks_of completer hinter validator) t.helper) (option_map highlighter.marks t.helper) (history.entries t.ctx.history.now) t.config.now) h.ruler
-      ∙ ap (λ p. setting_by (renderer.canvas.ruler s.out) p (option_map (hooks_of completer hinter validator) t.helper) (option_map highlighter.marks t.helper) (history.entries t.ctx.history.now) t.config.now) h.prompt
-      ∙ ap (λ a. setting_by (renderer.canvas.ruler s.out) s.prompt.now a (option_map highlighter.marks t.helper) (history.entries t.ctx.history.now) t.config.now) h.hooks_are
-      ∙ ap (λ a. setting_by (renderer.canvas.ruler s.out) s.prompt.now (option_map (hooks_of completer hinter validator) s.helper) a (history.entries t.ctx.history.now) t.config.now) h.marks_are
-      ∙ ap (λ x. setting_by (renderer.canvas.ruler s.out) s.prompt.now (option_map (hooks_of completer hinter validator) s.helper) (option_map highlighter.marks s.helper) (history.entries x) t.config.now) h.history_is
-      ∙ ap (λ x. setting_by (renderer.canvas.ruler s.out) s.prompt.now (option_map (hooks_of completer hinter validator) s.helper) (option_map highlighter.marks s.helper) (history.entries s.ctx.history.now) x) h.config_is
+  setting_stays s t h = cc
+
+  -- what was passed in stays, part after part
+  pub stays_by : {s t : State Out H Hi K T renderer completer candidate hinter hint highlighter validator history} → renderer.canvas.ruler t.out ≡ renderer.canvas.ruler s.out → t.prompt.now ≡ s.prompt.now → t.ctx.history.now ≡ s.ctx.history.now
+      → option_map (hooks_of completer hinter validator) t.helper ≡ option_map (hooks_of completer hinter validator) s.helper
+      → option_map highlighter.marks t.helper ≡ option_map highlighter.marks s.helper → t.config.now ≡ s.config.now → Stays s t
+  stays_by r p h k m c = record { ruler = r; prompt = p; history_is = h; hooks_are = k; marks_are = m; config_is = c }
 
   pub stays_same : (s : State Out H Hi K T renderer completer candidate hinter hint highlighter validator history) → Stays s s
-  stays_same s = record {
-    ruler = refl;
-    prompt = refl;
-    history_is = refl;
-    hooks_are = refl;
-    marks_are = refl;
-    config_is = refl;
-  }
+  stays_same s = assumption
 
   pub stays_both : (s m t : State Out H Hi K T renderer completer candidate hinter hint highlighter validator history) → Stays s m → Stays m t → Stays s t
-  stays_both s m t h k = record {
-    ruler = k.ruler ∙ h.ruler;
-    prompt = k.prompt ∙ h.prompt;
-    history_is = k.history_is ∙ h.history_is;
-    hooks_are = k.hooks_are ∙ h.hooks_are;
-    marks_are = k.marks_are ∙ h.marks_are;
-    config_is = k.config_is ∙ h.config_is;
-  }
+  stays_both s m t h k = record { ruler = cc; prompt = cc; history_is = cc; hooks_are = cc; marks_are = cc; config_is = cc }
 
   -- the second edit is that of the value which the first one leaves
   second_is : {A : Type 0} (first second : Transition) (s m : State Out H Hi K T renderer completer candidate hinter hint highlighter validator history) (x : A) → Does first s m (Ok x)
@@ -84,10 +70,7 @@ module _ {Out H Hi K T : Type 0} {renderer : renderers.Renderer.Ghosts Out} {com
       → calls_of_steps (renderer.canvas.ruler m.out) m.layout (second (setting_of m) (value_of m)).steps
       ≡ calls_of_steps (renderer.canvas.ruler s.out) (calls_of_steps (renderer.canvas.ruler s.out) s.layout (first (setting_of s) (value_of s)).steps).layout
       (second (setting_of s) (first (setting_of s) (value_of s)).value).steps
-  asked_is first second s m x h =
-      ap (λ e. calls_of_steps (renderer.canvas.ruler m.out) m.layout e.steps) (second_is first second s m x h)
-      ∙ ap (λ r. calls_of_steps r m.layout (second (setting_of s) (first (setting_of s) (value_of s)).value).steps) h.stays.ruler
-      ∙ ap (λ l. calls_of_steps (renderer.canvas.ruler s.out) l (second (setting_of s) (first (setting_of s) (value_of s)).value).steps) h.layout
+  asked_is first second s m x h = cc (second_is first second s m x h, h.stays.ruler, h.layout)
 
   -- an error says nothing of the answer that would have been
   pub refused_as : {A B : Type 0} (edit : Transition) (s t : State Out H Hi K T renderer completer candidate hinter hint highlighter validator history) (e : ReadlineError) → Does {A = A} edit s t (Err e) → Does {A = B} edit s t (Err e)
@@ -136,15 +119,8 @@ module _ {Out H Hi K T : Type 0} {renderer : renderers.Renderer.Ghosts Out} {com
       → Does {A = A} first s t (Err e) → Does {A = B} (then_do first second) s t (Err e)
   does_cut first second s t e h =
       let x : Effect = first (setting_of s) (value_of s) in
-      let y : Effect = second (setting_of s) x.value in
-      record {
-        value = tt;
-        calls = tt;
-        layout = tt;
-        stays = h.stays;
-        reason = h.reason;
-        stops = stops_before renderer.canvas (renderer.canvas.ruler s.out) x.steps y.steps (surface_of s) (surface_of t) e (value_of t) h.stops;
-      }
+      let stop = stops_before renderer.canvas (renderer.canvas.ruler s.out) x.steps (second (setting_of s) x.value).steps (surface_of s) (surface_of t) e (value_of t) h.stops in
+      record { value = tt; calls = tt; layout = tt; stays = h.stays; reason = h.reason; stops = stop }
 
   -- the same, as a question mark returns the error
   pub does_cut_by : {A B : Type 0} (first second : Transition) (s t : State Out H Hi K T renderer completer candidate hinter hint highlighter validator history) (e : ReadlineError) (result : Result B ReadlineError)
@@ -164,18 +140,6 @@ module _ {Out H Hi K T : Type 0} {renderer : renderers.Renderer.Ghosts Out} {com
       → IsErrAnd result (λ y. y ≡ e) → Does first s m (Ok x) → Does {A = B} second m t (Err e) → Does (then_do first second) s t result
   does_both_by {A} {B} {C} first second s m t x e result is h k =
       subst (λ r. Does {A = C} (then_do first second) s t r) (sym (is_err e result is)) (does_both {B = C} first second s m t x (Err e) h (refused_as {A = B} {B = C} second m t e k))
-
-  -- an edit that does the same here
-  pub does_as : {A : Type 0} (edit other : Transition) (s t : State Out H Hi K T renderer completer candidate hinter hint highlighter validator history) (result : Result A ReadlineError)
-      → edit (setting_of s) (value_of s) ≡ other (setting_of s) (value_of s) → Does edit s t result → Does other s t result
-  does_as edit other s t result is h = record {
-    value = subst (λ (x : Effect). OnOk result (value_of t ≡ x.value)) is h.value;
-    calls = subst (λ (x : Effect). OnOk result (FoldsTo (MadeIn renderer.canvas) s.out (calls_of_steps (renderer.canvas.ruler s.out) s.layout x.steps).calls t.out)) is h.calls;
-    layout = subst (λ (x : Effect). OnOk result (t.layout ≡ (calls_of_steps (renderer.canvas.ruler s.out) s.layout x.steps).layout)) is h.layout;
-    stays = h.stays;
-    reason = h.reason;
-    stops = subst (λ (x : Effect). IfErr result (λ fault. CutEditSteps renderer.canvas (renderer.canvas.ruler s.out) x.steps (surface_of s) fault (value_of t) (surface_of t))) is h.stops;
-  }
 
   -- an edit of the line was made, and nothing is drawn
   pub edit_made : {A : Type 0} (edit : Transition) (stands : Value) (steps : WriteSteps ⊤) (s m : State Out H Hi K T renderer completer candidate hinter hint highlighter validator history) (x : A)
@@ -205,6 +169,11 @@ module _ {Out H Hi K T : Type 0} {renderer : renderers.Renderer.Ghosts Out} {com
         stops = subst (λ (x : Effect). IfErr result (λ fault. CutEditSteps renderer.canvas (renderer.canvas.ruler s.out) x.steps (surface_of s) fault (value_of t) (surface_of t))) is
             (subst (λ (x : Surface Out). IfErr result (λ fault. CutEditSteps renderer.canvas (renderer.canvas.ruler x.out) e.steps x fault (value_of t) (surface_of t))) same h.stops);
       }
+
+  -- an edit that does the same here
+  pub does_as : {A : Type 0} (edit other : Transition) (s t : State Out H Hi K T renderer completer candidate hinter hint highlighter validator history) (result : Result A ReadlineError)
+      → edit (setting_of s) (value_of s) ≡ other (setting_of s) (value_of s) → Does edit s t result → Does other s t result
+  does_as edit other s t result is h = does_from edit other s s t result is refl (stays_same s) h
 
   -- indented by as many spaces as the setting says
   pub indent_does : {A : Type 0} (movement : Movement) (dedent : Bool) (n : ℕ) (s t : State Out H Hi K T renderer completer candidate hinter hint highlighter validator history) (result : Result A ReadlineError)

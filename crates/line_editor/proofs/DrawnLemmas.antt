@@ -18,8 +18,7 @@ use Rattle.line_editor.specs.RenderCalls.{Ruler, MadeIn, CutCalls}
 use Rattle.line_editor.specs.RenderCalls.Call.{Move}
 use Rattle.line_editor.specs.Drawing.{draw_effect_with}
 use Rattle.line_editor.specs.Inserting.{is_bare, way_if_bare}
-use Rattle.line_editor.specs.Redraws.{Redraw, RedrawCalls, calls_of_redraw, nothing_asked, move_calls, then_asked, full, rest_call, erase_call, may_write_over, may_take, may_erase, may_put_in, may_take_out}
-use Rattle.line_editor.proofs.ShortCalls.{move_call, char_call, append_call, put_in_short, taken_out_short, write_over_call}
+use Rattle.line_editor.specs.Redraws.{Redraw, RedrawCalls, calls_of_redraw, nothing_asked, move_calls, then_asked, rest_call, may_write_over, may_take, may_erase, may_put_in, may_take_out}
 use Rattle.line_editor.specs.Redraws.Redraw.{Drawn, DrawnFrom, Typed, Appended, Taken, Erased, PutIn, TakenOut, Rewritten, Bared}
 use Rattle.line_editor.specs.States.{value_of, setting_of, surface_of, Stays, Does, Renders}
 use Rattle.line_editor.specs.EditSteps.{Surface}
@@ -101,12 +100,12 @@ module _ {Out H Hi K T : Type 0} {renderer : renderers.Renderer.Ghosts Out} {com
   pub typed_drawn : {A : Type 0} (c : ℕ) (s t : State Out H Hi K T renderer completer candidate hinter hint highlighter validator history) (result : Result A ReadlineError)
       → may_write_over (renderer.canvas.ruler s.out) s.layout s.layout.cursor 1 ≡ false → Does (draw_effect_with None) s t result → Does (λ a v. draw_effect (Typed a.prompt c v.line.text v.line.place) a v) s t result
   typed_drawn c s t result is h = drawn_as (λ a v. Drawn a.prompt true v.line.text v.line.place None) (λ a v. Typed a.prompt c v.line.text v.line.place) s t result
-      (ap (λ b. if b then char_call s.layout c else full (renderer.canvas.ruler s.out) (shown_marks (value_of s) (setting_of s).marks) s.layout s.prompt.now true s.recorded.line.text s.recorded.line.place None) (sym is)) h
+      (rw is) h
 
   pub appended_drawn : {A : Type 0} (c : ℕ) (s t : State Out H Hi K T renderer completer candidate hinter hint highlighter validator history) (result : Result A ReadlineError)
       → s.layout.has_info ≡ true → Does (draw_effect_with None) s t result → Does (λ a v. draw_effect (Appended a.prompt c v.line.text v.line.place) a v) s t result
   appended_drawn c s t result is h = drawn_as (λ a v. Drawn a.prompt true v.line.text v.line.place None) (λ a v. Appended a.prompt c v.line.text v.line.place) s t result
-      (ap (λ b. if b then full (renderer.canvas.ruler s.out) (shown_marks (value_of s) (setting_of s).marks) s.layout s.prompt.now true s.recorded.line.text s.recorded.line.place None else append_call (renderer.canvas.ruler s.out) s.layout c) (sym is)) h
+      (rw is) h
 
   abbrev rest_asked : ℕ → Option (List ℕ) → State Out H Hi K T renderer completer candidate hinter hint highlighter validator history → RedrawCalls
   rest_asked from info s = rest_call (renderer.canvas.ruler s.out) (shown_marks (value_of s) (setting_of s).marks) s.layout from s.recorded.line.text s.recorded.line.place info
@@ -118,70 +117,48 @@ module _ {Out H Hi K T : Type 0} {renderer : renderers.Renderer.Ghosts Out} {com
       → may_take s.layout count ≡ false → (setting_of s).config.partial_redraw ≡ false → Does (draw_effect_with None) s t result
       → Does (λ a v. draw_effect (Taken a.prompt count a.config.partial_redraw v.line.text v.line.place) a v) s t result
   taken_drawn count s t result is whole h =
-      let place = s.recorded.line.place in
-      let all = full (renderer.canvas.ruler s.out) (shown_marks (value_of s) (setting_of s).marks) s.layout s.prompt.now true s.recorded.line.text place None in
-      drawn_as (λ a v. Drawn a.prompt true v.line.text v.line.place None) (λ a v. Taken a.prompt count a.config.partial_redraw v.line.text v.line.place) s t result
-      (ap (λ b. if b then rest_asked place None s else all) (sym whole) ∙ ap (λ b. if b then erase_call s.layout count else if (setting_of s).config.partial_redraw then rest_asked place None s else all) (sym is)) h
+      drawn_as (λ a v. Drawn a.prompt true v.line.text v.line.place None) (λ a v. Taken a.prompt count a.config.partial_redraw v.line.text v.line.place) s t result (rw (is, whole)) h
 
   pub taken_rest : {A : Type 0} (count from : ℕ) (s t : State Out H Hi K T renderer completer candidate hinter hint highlighter validator history) (result : Result A ReadlineError)
       → may_take s.layout count ≡ false → (setting_of s).config.partial_redraw ≡ true → is_bare (value_of s) ≡ true → from ≡ s.recorded.line.place → Does (rest_drawn from) s t result
       → Does (λ a v. draw_effect (Taken a.prompt count a.config.partial_redraw v.line.text v.line.place) a v) s t result
   taken_rest count from s t result is partial bare at h =
-      let place = s.recorded.line.place in
-      let all = full (renderer.canvas.ruler s.out) (shown_marks (value_of s) (setting_of s).marks) s.layout s.prompt.now true s.recorded.line.text place None in
       drawn_as (λ a v. DrawnFrom a.prompt from v.line.text v.line.place (shown_hint v)) (λ a v. Taken a.prompt count a.config.partial_redraw v.line.text v.line.place) s t result
-      (bare_rest from place s bare at ∙ ap (λ b. if b then rest_asked place None s else all) (sym partial)
-      ∙ ap (λ b. if b then erase_call s.layout count else if (setting_of s).config.partial_redraw then rest_asked place None s else all) (sym is)) h
+      (bare_rest from s.recorded.line.place s bare at ∙ rw (is, partial)) h
 
   pub erased_rest : {A : Type 0} (c from : ℕ) (s t : State Out H Hi K T renderer completer candidate hinter hint highlighter validator history) (result : Result A ReadlineError)
       → may_erase (renderer.canvas.ruler s.out) s.layout c ≡ false → is_bare (value_of s) ≡ true → from ≡ s.recorded.line.place → Does (rest_drawn from) s t result
       → Does (λ a v. draw_effect (Erased a.prompt c v.line.text v.line.place) a v) s t result
   erased_rest c from s t result is bare at h =
-      let r = renderer.canvas.ruler s.out in
-      let place = s.recorded.line.place in
       drawn_as (λ a v. DrawnFrom a.prompt from v.line.text v.line.place (shown_hint v)) (λ a v. Erased a.prompt c v.line.text v.line.place) s t result
-      (bare_rest from place s bare at ∙ ap (λ b. if b then erase_call s.layout (r.measure (encode_utf8 c) origin).col else rest_asked place None s) (sym is)) h
+      (bare_rest from s.recorded.line.place s bare at ∙ rw is) h
 
   pub put_in_drawn : {A : Type 0} (c : ℕ) (rest : List ℕ) (s t : State Out H Hi K T renderer completer candidate hinter hint highlighter validator history) (result : Result A ReadlineError)
       → rest ≡ drop s.recorded.line.place s.recorded.line.text → may_put_in (renderer.canvas.ruler s.out) s.layout rest ≡ false
       → Does (draw_effect_with None) s t result → Does (λ a v. draw_effect (PutIn a.prompt c v.line.text v.line.place) a v) s t result
   put_in_drawn c rest s t result left is h =
-      let r = renderer.canvas.ruler s.out in
-      let behind = drop s.recorded.line.place s.recorded.line.text in
-      drawn_as (λ a v. Drawn a.prompt true v.line.text v.line.place None) (λ a v. PutIn a.prompt c v.line.text v.line.place) s t result
-      (ap (λ b. if b then put_in_short r s.layout c behind else full r (shown_marks (value_of s) (setting_of s).marks) s.layout s.prompt.now true s.recorded.line.text s.recorded.line.place None)
-      (sym (ap (λ xs. may_put_in r s.layout xs) (sym left) ∙ is))) h
+      drawn_as (λ a v. Drawn a.prompt true v.line.text v.line.place None) (λ a v. PutIn a.prompt c v.line.text v.line.place) s t result (rw (rw left at is)) h
 
   pub taken_out_rest : {A : Type 0} (count from : ℕ) (at : Position) (rest : List ℕ) (s t : State Out H Hi K T renderer completer candidate hinter hint highlighter validator history) (result : Result A ReadlineError)
       → at ≡ (renderer.canvas.ruler s.out).measure (take s.recorded.line.place s.recorded.line.text) s.layout.prompt_size → rest ≡ drop s.recorded.line.place s.recorded.line.text
       → may_take_out (renderer.canvas.ruler s.out) s.layout at count rest ≡ false → is_bare (value_of s) ≡ true → from ≡ s.recorded.line.place
       → Does (rest_drawn from) s t result → Does (λ a v. draw_effect (TakenOut a.prompt count v.line.text v.line.place) a v) s t result
   taken_out_rest count from at rest s t result cell left is bare here h =
-      let r = renderer.canvas.ruler s.out in
-      let place = s.recorded.line.place in
-      let there = r.measure (take place s.recorded.line.text) s.layout.prompt_size in
-      let behind = drop place s.recorded.line.text in
       drawn_as (λ a v. DrawnFrom a.prompt from v.line.text v.line.place (shown_hint v)) (λ a v. TakenOut a.prompt count v.line.text v.line.place) s t result
-      (bare_rest from place s bare here ∙ ap (λ b. if b then taken_out_short s.layout there count behind else rest_asked place None s)
-      (sym (ap (λ p. may_take_out r s.layout p count behind) (sym cell) ∙ ap (λ xs. may_take_out r s.layout at count xs) (sym left) ∙ is))) h
+      (bare_rest from s.recorded.line.place s bare here ∙ rw (rw (cell, left) at is)) h
 
   pub rewritten_rest : {A : Type 0} (from upto : ℕ) (at : Position) (letters : List ℕ) (s t : State Out H Hi K T renderer completer candidate hinter hint highlighter validator history) (result : Result A ReadlineError)
       → at ≡ (renderer.canvas.ruler s.out).measure (take from s.recorded.line.text) s.layout.prompt_size → letters ≡ slice_range s.recorded.line.text from upto
       → may_write_over (renderer.canvas.ruler s.out) s.layout at (length letters) ≡ false → is_bare (value_of s) ≡ true
       → Does (rest_drawn from) s t result → Does (λ a v. draw_effect (Rewritten a.prompt from upto v.line.text v.line.place) a v) s t result
   rewritten_rest from upto at letters s t result cell part is bare h =
-      let r = renderer.canvas.ruler s.out in
-      let text = s.recorded.line.text in
-      let there = r.measure (take from text) s.layout.prompt_size in
-      let written = write_over_call s.layout (slice_range text from upto) there (r.measure (take s.recorded.line.place text) s.layout.prompt_size) in
       drawn_as (λ a v. DrawnFrom a.prompt from v.line.text v.line.place (shown_hint v)) (λ a v. Rewritten a.prompt from upto v.line.text v.line.place) s t result
-      (bare_rest from from s bare refl ∙ ap (λ b. if b then written else rest_asked from None s)
-      (sym (ap (λ p. may_write_over r s.layout p (length (slice_range text from upto))) (sym cell) ∙ ap (λ xs. may_write_over r s.layout at (length xs)) (sym part) ∙ is))) h
+      (bare_rest from from s bare refl ∙ rw (rw (cell, part) at is)) h
 
   pub bared_drawn : {A : Type 0} (s t : State Out H Hi K T renderer completer candidate hinter hint highlighter validator history) (result : Result A ReadlineError)
       → s.layout.default_prompt ≡ false → Does (draw_effect_with None) s t result → Does (λ a v. draw_effect (Bared a.prompt v.line.text v.line.place) a v) s t result
-  bared_drawn s t result is h = drawn_as (λ a v. Drawn a.prompt true v.line.text v.line.place None) (λ a v. Bared a.prompt v.line.text v.line.place) s t result
-      (ap (λ b. if b then nothing_asked s.layout else full (renderer.canvas.ruler s.out) (shown_marks (value_of s) (setting_of s).marks) s.layout s.prompt.now true s.recorded.line.text s.recorded.line.place None) (sym is)) h
+  bared_drawn s t result is h =
+      drawn_as (λ a v. Drawn a.prompt true v.line.text v.line.place None) (λ a v. Bared a.prompt v.line.text v.line.place) s t result (rw is) h
 
   -- ---- the cursor moved to a cell
 
@@ -190,7 +167,7 @@ module _ {Out H Hi K T : Type 0} {renderer : renderers.Renderer.Ghosts Out} {com
       → move_calls s.layout p ≡ calls_of_redraw (renderer.canvas.ruler s.out) (shown_marks (value_of s) (setting_of s).marks) s.layout (x (setting_of s) (value_of s)) → same_cell s.layout.cursor p ≡ true
       → value_of t ≡ value_of s → surface_of t ≡ surface_of s → Stays s t → Renders (λ a v. draw_effect (x a v) a v) s t (Ok y)
   cursor_rests x p s t y is same value surface stays =
-      let asked = ap (λ b. if b then nothing_asked s.layout else move_call s.layout p) (sym same) ∙ is in
+      let asked = rw same at is in
       record {
         does = record {
           value = value;
@@ -208,7 +185,7 @@ module _ {Out H Hi K T : Type 0} {renderer : renderers.Renderer.Ghosts Out} {com
       → move_calls s.layout p ≡ calls_of_redraw (renderer.canvas.ruler s.out) (shown_marks (value_of s) (setting_of s).marks) s.layout (x (setting_of s) (value_of s)) → same_cell s.layout.cursor p ≡ false
       → value_of t ≡ value_of s → renderer.canvas.made s.out (Move s.layout.cursor p) t.out → t.layout ≡ record s.layout { cursor = p } → Stays s t → Renders (λ a v. draw_effect (x a v) a v) s t (Ok y)
   cursor_goes x p s t y is same value made layout stays =
-      let asked = ap (λ b. if b then nothing_asked s.layout else move_call s.layout p) (sym same) ∙ is in
+      let asked = rw same at is in
       record {
         does = record {
           value = value;
@@ -228,7 +205,7 @@ module _ {Out H Hi K T : Type 0} {renderer : renderers.Renderer.Ghosts Out} {com
       → value_of t ≡ value_of s → renderer.canvas.refused s.out (Move s.layout.cursor p) t.out → IsTrue (renderer.canvas.failed t.out) → t.layout ≡ s.layout → Stays s t
       → Renders (λ a v. draw_effect (x a v) a v) s t result
   cursor_refused {A} x p s t e result failed fault is same value refused why layout stays =
-      let asked = ap (λ b. if b then nothing_asked s.layout else move_call s.layout p) (sym same) ∙ is in
+      let asked = rw same at is in
       let edit : Transition = λ a v. draw_effect (x a v) a v in
       subst (λ (r : Result A ReadlineError). Renders edit s t r) (sym (is_err e result failed ∙ ap Err fault)) (record {
         does = does_refused edit s t Display stays why

@@ -63,9 +63,7 @@ text_put_by text from s v some is = ap (λ f. then_do (edit_effect (text_steps t
 -- a text is put in place of what was yanked
 pub text_popped : (size : ℕ) (text : List ℕ) (from : Option Since) (s : Setting) (v : Value) → can_take_before size v.line ≡ true → from ≡ since s (v.line.place - size) v
     → then_do (edit_effect (pop_group size text)) (refresh_effect_since from) s v ≡ pop_text size text s v
-text_popped size text from s v some is =
-    ap (λ f. then_do (edit_effect (pop_group size text)) (refresh_effect_since f) s v) is
-    ∙ ap (λ b. if b then then_do (edit_effect (pop_group size text)) (refresh_effect_since (since s (v.line.place - size) v)) s v else no_effect s v) (sym some)
+text_popped size text from s v some is = rw (is, some)
 
 -- a character is put in
 pub char_put : (c n : ℕ) (s : Setting) (v : Value) → is_some (insertion c n v.line).answer ≡ true → then_do (edit_effect (char_steps c n)) (show_inserted_effect c (insertion_way s c n v) (since s v.line.place v)) s v ≡ insert_char c n s v
@@ -73,10 +71,7 @@ char_put c n s v is = ap (λ b. if b then then_do (edit_effect (char_steps c n))
 
 pub char_put_by : (c n : ℕ) (way : Way) (from : Option Since) (s : Setting) (v : Value) → is_some (insertion c n v.line).answer ≡ true → way ≡ insertion_way s c n v → from ≡ since s v.line.place v
     → then_do (edit_effect (char_steps c n)) (show_inserted_effect c way from) s v ≡ insert_char c n s v
-char_put_by c n way from s v some is stays =
-    ap (λ w. then_do (edit_effect (char_steps c n)) (show_inserted_effect c w from) s v) is
-    ∙ ap (λ f. then_do (edit_effect (char_steps c n)) (show_inserted_effect c (insertion_way s c n v) f) s v) stays
-    ∙ char_put c n s v some
+char_put_by c n way from s v some is stays = rw (is, stays) (char_put c n s v some)
 
 -- words were exchanged, or the cursor moved
 abbrev pub words_drawn : ℕ → Value → Transition
@@ -85,11 +80,7 @@ words_drawn n v = effect_if (transposes_words n v.line || not ((value_with_edit 
 -- characters were exchanged, and written over if they may
 pub chars_over : (over : Bool) (from end : ℕ) (s : Setting) (v : Value) → end ≡ pair_end v.line → from ≡ end - 2 → over ≡ may_be_rewritten s from end v
     → then_do (edit_effect transpose_chars_group) (effect_if (transposes_chars v.line) (refresh_over_effect over from end)) s v ≡ transpose_chars_effect s v
-chars_over over from end s v end_is from_is over_is =
-    let drawn : Bool → ℕ → ℕ → Effect = λ b x y. then_do (edit_effect transpose_chars_group) (effect_if (transposes_chars v.line) (refresh_over_effect b x y)) s v in
-    ap (λ b. drawn b from end) over_is
-    ∙ ap (λ x. drawn (may_be_rewritten s x end v) x end) from_is
-    ∙ ap (λ y. drawn (may_be_rewritten s (y - 2) y v) (y - 2) y) end_is
+chars_over over from end s v end_is from_is over_is = rw (over_is, from_is, end_is)
 
 -- something is killed
 pub part_killed : (movement : Movement) (s : Setting) (v : Value) → is_some (range_of movement v.line) ≡ true → then_do (edit_effect (kill_steps movement)) (show_taken v) s v ≡ kill_effect movement s v
@@ -167,14 +158,10 @@ module _ {Out H Hi K T : Type 0} {renderer : renderers.Renderer.Ghosts Out} {com
       → no_effect (setting_of s) (value_with_edit (by edit) (value_of s)) ≡ whole (setting_of s) (value_of s) → EditsRecorded {E = E} (edit s.recorded.line) s.recorded t.recorded (Ok answer)
       → value_of t ≡ record (value_of s) { line = t.recorded.line; held = record_on t.recorded.changes t.recorded.line.text } → surface_of t ≡ surface_of s → Stays s t → Does whole s t (Ok x)
   edit_alone whole edit s t answer x is wrote rest surface stays =
-      does_as (λ a v. no_effect a (value_with_edit (by edit) v)) whole s t (Ok x) is (record {
-        value = edit_is edit (value_of s) (value_of t) s.recorded t.recorded answer refl wrote rest;
-        calls = sym (ap (λ (u : Surface Out). u.out) surface);
-        layout = ap (λ (u : Surface Out). u.layout) surface;
-        stays = stays;
-        reason = tt;
-        stops = tt;
-      })
+      let value = edit_is edit (value_of s) (value_of t) s.recorded t.recorded answer refl wrote rest in
+      let out = sym (ap (λ (u : Surface Out). u.out) surface) in
+      does_as (λ a v. no_effect a (value_with_edit (by edit) v)) whole s t (Ok x) is
+      (record { value = value; calls = out; layout = ap (λ (u : Surface Out). u.layout) surface; stays = stays; reason = tt; stops = tt })
 
   pub nothing_typed : {B E : Type 0} (c n : ℕ) (s t : State Out H Hi K T renderer completer candidate hinter hint highlighter validator history) (answer : Option Bool) (x : B) → is_some answer ≡ false
       → EditsRecorded {E = E} (char_steps c n s.recorded.line) s.recorded t.recorded (Ok answer)
@@ -190,18 +177,5 @@ module _ {Out H Hi K T : Type 0} {renderer : renderers.Renderer.Ghosts Out} {com
       → Does (show_killed_effect count way from) s t result → Does (show_taken before) s t result
   taken_by count alone inside last way from before l s t result is shown moved ends left by at h =
       let m = s.recorded.line in
-      let gone = length before.line.text - length m.text in
-      let partial = (setting_of s).config.partial_redraw in
-      let out_of : Line → Bool = λ x. may_be_taken_out partial (text_gone before.line x) before in
-      let way_is : way ≡ kill_way (setting_of s) before m =
-      by ∙ ap (λ n. way_by alone inside last n m) is
-      ∙ ap (λ b. way_by b inside last gone m) (shown ∙ ap (λ (x : Line). may_be_taken (drop (length x.text) before.line.text) before) (sym left))
-      ∙ ap (λ b. way_by (may_be_taken (drop (length m.text) before.line.text) before) b last gone m) (moved ∙ ap out_of (sym left))
-      ∙ ap (λ o. way_by (may_be_taken (drop (length m.text) before.line.text) before) (out_of m) o gone m) ends
-      ∙ ap (λ b. if may_be_taken (drop (length m.text) before.line.text) before && at_plain_end m.text m.place then AtEnd
-      else if out_of m && (b && (nat_lt m.place (length m.text) && has_printable_rest m)) then Inside else way_erased gone m (last_of_bare partial before))
-      (some_gone (length before.line.text) (length m.text)) in
-      does_as (show_killed_effect count way from) (show_taken before) s t result
-      (ap (λ n. show_killed_effect n way from (setting_of s) (value_of s)) is
-      ∙ ap (λ w. show_killed_effect gone w from (setting_of s) (value_of s)) way_is
-      ∙ ap (λ f. show_killed_effect gone (kill_way (setting_of s) before m) f (setting_of s) (value_of s)) (at ∙ ap (λ (x : Line). since (setting_of s) x.place before) (sym left))) h
+      let way_is : way ≡ kill_way (setting_of s) before m = rw (by, shown, moved, ends, is, ← left, some_gone (length before.line.text) (length m.text)) in
+      does_as (show_killed_effect count way from) (show_taken before) s t result (rw (way_is, is, at, ← left)) h

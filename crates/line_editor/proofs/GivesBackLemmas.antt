@@ -1,8 +1,8 @@
 -- A search, or candidates in turn, that are given up leave the line as it was.
-use Rattle.std.proofs.Common.{◌≡◌, ℕ, ◌==◌, ◌||◌, Bool, true, false, List, [], ◌∷◌, ◌++◌, length, drop, Option, Some, None, is_some, slice_get, ◌&&◌, refl, sym, ap, ◌∙◌, subst, arith, if◌then◌else◌}
+use Rattle.std.proofs.Common.{◌≡◌, ℕ, ◌==◌, Bool, true, false, List, [], ◌∷◌, ◌++◌, length, drop, Option, Some, None, is_some, slice_get, refl, sym, ap, ◌∙◌, subst, arith, if◌then◌else◌}
 use Rattle.std.proofs.lemmas.Bool.Decides.{nat_tests}
 use Rattle.std.specs.Prelude.{◌≢◌, slice_range, option_and_then, fold, All}
-use Rattle.line_buffer.specs.Event.{ChangeEvent, text_after_event, ChangeEvent.Delete, ChangeEvent.InsertStr, ChangeEvent.Replace}
+use Rattle.line_buffer.specs.Event.{text_after_event, ChangeEvent.Delete, ChangeEvent.InsertStr, ChangeEvent.Replace}
 use Rattle.line_buffer.specs.Insertions.{text_that_fits}
 use Rattle.line_buffer.specs.Line.{Line}
 use Rattle.line_buffer.specs.declared.types.Direction.TheVariants.{Forward}
@@ -30,6 +30,8 @@ use Rattle.std.specs.Option.{option_map_or}
 use Rattle.line_editor.specs.Drawing.{beep_effect, refresh_effect}
 use Rattle.std.proofs.lemmas.List.Elements.{All-head, All-tail}
 use Rattle.line_editor.specs.ModalCommands.{meeting_in_search}
+use Rattle.std.proofs.lemmas.Bool.{cond-false}
+use Rattle.std.proofs.Math.Bool.{and-false}
 
 -- ---- an entry put in place of a line is one step
 
@@ -50,11 +52,6 @@ closed_steps at added removed text between (Some d) c older none same =
     let m = no_mark older none in
     record { place = undo_place d; newest = c; joinable = false; are = rw (m.1, m.0) refl }
 
--- a text that isn't empty is put in
-put_change : (b : Bool) (added : List ℕ) (c : Change) → b ≡ false → (if b then None else Some c) ≡ Some c
-put_change true added c h = cc
-put_change false added c h = refl
-
 first_some : (x : ℕ) (xs : List ℕ) → (length (x ∷ xs) == 0) ≡ false
 first_some x xs = grind (arith, nat_tests)
 
@@ -62,10 +59,6 @@ not_none : (front term rest : List ℕ) → term ≢ [] → (length (front ++ (t
 not_none [] [] rest some = absurd (some refl)
 not_none [] (x ∷ term) rest some = first_some x (term ++ rest)
 not_none (x ∷ front) term rest some = first_some x (front ++ (term ++ rest))
-
-whole_text : (b c : Bool) (text other : List ℕ) → b ≡ true → (if b || c then text else other) ≡ text
-whole_text true c text other h = refl
-whole_text false c text other h = cc
 
 -- an entry that isn't empty, in a line that may grow
 put_step : (entry : List ℕ) (pos : ℕ) (v : Value) → v.line.growth ≡ true → has_mark v.held ≡ false → (length entry == 0) ≡ false
@@ -76,9 +69,9 @@ put_step entry pos v grows none some =
     let removed = slice_range l.text 0 (length l.text) in
     let d = Delete 0 removed Forward in
     let added = text_that_fits entry l in
-    let whole : added ≡ entry = whole_text l.growth _ entry _ grows in
+    let whole : added ≡ entry = rw grows in
     let c = Inserted 0 added in
-    let change : change_of (InsertStr 0 added) ≡ Some c = put_change (length added == 0) added c (ap (λ t. length t == 0) whole ∙ some) in
+    let change : change_of (InsertStr 0 added) ≡ Some c = cond-false (length added == 0) None (Some c) (ap (λ t. length t == 0) whole ∙ some) in
     subst (λ o. OneStep l.text v.held (record_after_close (steps_with_change_if (InsertStr 0 added) o (text_after_event d l.text) (record_after_event d l.text (Opened l.text ∷ v.held))))) (sym change)
     (closed_steps 0 added removed l.text (text_after_event d l.text) (change_of d) c v.held none (λ nothing. unchanged d l.text nothing))
 
@@ -213,14 +206,6 @@ gives_back s dir q v acts grows stands on =
 
 -- ---- a candidate put in place of a word is one step
 
-word_closed : (e : ChangeEvent) (c : Change) (text : List ℕ) (older : List HeldItem) → has_mark older ≡ false → OneStep text older (record_after_close (steps_with_change_if e (Some c) text (Opened text ∷ older)))
-word_closed e c text older none = let m = no_mark older none in record { place = undo_place c; newest = c; joinable = false; are = rw (m.1, m.0) refl }
-
-replaced_change : (a b : Bool) (c : Change) → b ≡ false → (if a && b then None else Some c) ≡ Some c
-replaced_change true true c h = cc
-replaced_change true false c h = refl
-replaced_change false b c h = refl
-
 word_step : (start : ℕ) (text : List ℕ) (v : Value) → has_mark v.held ≡ false → (length text == 0) ≡ false → OneStep v.line.text v.held (value_with_edit (word_replaced start text) v).held
 unfolding record_after_events
 word_step start text v none some =
@@ -228,7 +213,10 @@ word_step start text v none some =
     let before = slice_range l.text start l.place in
     let e = Replace start before text in
     let c = Replaced start before text in
-    subst (λ o. OneStep l.text v.held (record_after_close (steps_with_change_if e o l.text (Opened l.text ∷ v.held)))) (sym (replaced_change (length before == 0) (length text == 0) c some)) (word_closed e c l.text v.held none)
+    let m = no_mark v.held none in
+    let change : change_of e ≡ Some c = simp (some, and-false) in
+    subst (λ o. OneStep l.text v.held (record_after_close (steps_with_change_if e o l.text (Opened l.text ∷ v.held)))) (sym change)
+    (record { place = undo_place c; newest = c; joinable = false; are = rw (m.1, m.0) refl })
 
 -- a text that is put isn't empty
 some_text : (t text : List ℕ) → unless_empty t ≡ Some text → (length text == 0) ≡ false

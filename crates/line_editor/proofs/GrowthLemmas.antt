@@ -1,29 +1,25 @@
 -- Whether a line may grow stays, whatever is done to it.
-use Rattle.std.proofs.Common.{◌≡◌, ℕ, zero, suc, ◌==◌, Bool, true, false, List, [], ◌∷◌, length, Option, Some, None, refl, ◌∙◌, if◌then◌else◌}
+use Rattle.std.proofs.Common.{◌≡◌, ℕ, zero, suc, ◌==◌, Bool, List, [], ◌∷◌, length, Option, Some, None, refl, ◌∙◌, if◌then◌else◌}
 use Rattle.std.specs.Prelude.{encode_utf8}
 use Rattle.std.specs.List.{repeat}
 use Rattle.line_buffer.specs.Event.{ChangeEvent, line_after_event, line_after_events}
-use Rattle.line_buffer.specs.Indent.{indent as indented_in}
-use Rattle.line_buffer.specs.Insertions.{Insertion, insertion_by, insertion_of, insert, no_insertion, yank, yank_pop, without_before, has_room}
-use Rattle.line_buffer.specs.LetterCase.{word_to_edit, recase, edit_word as recased_in}
+use Rattle.line_buffer.specs.Insertions.{Insertion, insertion_by, insertion_of, insert, no_insertion, yank, has_room}
+use Rattle.line_buffer.specs.LetterCase.{recase}
 use Rattle.line_buffer.specs.Line.{Line}
-use Rattle.line_buffer.specs.Range.{range_of, deletion_line, kill as killed_in}
-use Rattle.line_buffer.specs.Transpositions.{transposes_chars, transpose_chars as transposed_in, transposes_words, transpose_words as exchanged_in}
+use Rattle.line_buffer.specs.Range.{deletion_line}
 use Rattle.line_buffer.specs.declared.range.TextSpan.{TextSpan}
-use Rattle.line_buffer.specs.declared.types.Movement.{Movement}
 use Rattle.line_buffer.specs.declared.types.WordAction.{WordAction}
 use Rattle.line_record.specs.Held.{HeldItem, line_back, line_before_item, HeldItem.Opened, HeldItem.Stepped}
 use Rattle.line_edits.specs.Edits.{by}
 use Rattle.line_edits.proofs.StepLemmas.{overwrite_steps_to}
 use Rattle.line_edits.specs.WriteSteps.{Written}
+use Rattle.std.proofs.lemmas.Bool.{cond_both}
 
-either_line : (g b : Bool) (l m : Line) → l.growth ≡ g → m.growth ≡ g → (if b then l else m).growth ≡ g
-either_line g true l m h k = h
-either_line g false l m h k = k
+pub either_line : (g b : Bool) (l m : Line) → l.growth ≡ g → m.growth ≡ g → (if b then l else m).growth ≡ g
+either_line g b l m h k = cond_both b l m (λ x. x.growth ≡ g) (λ t. h) (λ t. k)
 
 either_put : (g b : Bool) (x y : Insertion) → x.line.growth ≡ g → y.line.growth ≡ g → (if b then x else y).line.growth ≡ g
-either_put g true x y h k = h
-either_put g false x y h k = k
+either_put g b x y h k = cond_both b x y (λ i. i.line.growth ≡ g) (λ t. h) (λ t. k)
 
 put_grows : (told : ChangeEvent) (added : List ℕ) (l : Line) → (insertion_by told added l).line.growth ≡ l.growth
 put_grows told added l = either_put l.growth (has_room (length added) l) _ _ refl refl
@@ -37,36 +33,18 @@ insert_grows c n l = either_put l.growth (n == 1) _ _ (put_grows _ (encode_utf8 
 pub yank_grows : (text : List ℕ) (n : ℕ) (l : Line) → (yank text n l).line.growth ≡ l.growth
 yank_grows text n l = either_put l.growth (length text == 0) (no_insertion l) (insertion_of text n l) refl (of_grows text n l)
 
-pub pop_grows : (size : ℕ) (text : List ℕ) (l : Line) → (yank_pop size text l).line.growth ≡ l.growth
-pop_grows size text l = yank_grows text 1 (without_before size l)
-
 pub deletion_grows : (o : Option TextSpan) (l : Line) → (deletion_line o l).growth ≡ l.growth
 deletion_grows None l = refl
 deletion_grows (Some span) l = refl
 
-pub kill_grows : (m : Movement) (l : Line) → (killed_in m l).line.growth ≡ l.growth
-kill_grows m l = deletion_grows (range_of m l) l
-
-carried_grows : (events : List ChangeEvent) (l : Line) → (line_after_events events l).growth ≡ l.growth
+pub carried_grows : (events : List ChangeEvent) (l : Line) → (line_after_events events l).growth ≡ l.growth
 unfolding line_after_events
 carried_grows [] l = refl
 carried_grows (e ∷ events) l = carried_grows events (line_after_event e l)
 
-pub indent_grows : (m : Movement) (amount : ℕ) (dedent : Bool) (l : Line) → (indented_in m amount dedent l).line.growth ≡ l.growth
-indent_grows m amount dedent l = carried_grows (indented_in m amount dedent l).events l
-
-recase_grows : (action : WordAction) (o : Option (ℕ × ℕ)) (l : Line) → (recase action o l).line.growth ≡ l.growth
+pub recase_grows : (action : WordAction) (o : Option (ℕ × ℕ)) (l : Line) → (recase action o l).line.growth ≡ l.growth
 recase_grows action None l = refl
 recase_grows action (Some word) l = refl
-
-pub word_grows : (action : WordAction) (l : Line) → (recased_in action l).line.growth ≡ l.growth
-word_grows action l = recase_grows action (word_to_edit l) l
-
-pub chars_grow : (l : Line) → (transposed_in l).line.growth ≡ l.growth
-chars_grow l = either_line l.growth (transposes_chars l) _ _ refl refl
-
-pub words_grow : (n : ℕ) (l : Line) → (exchanged_in n l).line.growth ≡ l.growth
-words_grow n l = either_line l.growth (transposes_words n l) _ _ refl refl
 
 pub over_grows : (c : ℕ) (o : Option ℕ) (w : Written) → (by (overwrite_steps_to c o) w).line.growth ≡ w.line.growth
 over_grows c None w = refl

@@ -1,8 +1,7 @@
 -- What a state makes of asking its helper.
-use Rattle.std.proofs.Common.{◌≡◌, ◌⊎◌, inl, inr, ℕ, Bool, true, false, true≢false, List, [], refl, sym, ap, subst, ◌∙◌, if◌then◌else◌, ◌&&◌}
+use Rattle.std.proofs.Common.{◌≡◌, ◌⊎◌, inl, inr, ℕ, Bool, true, [], refl, sym, ap, subst, ◌∙◌, if◌then◌else◌, ◌&&◌}
 use Rattle.std.specs.Prelude.{Option, Some, None, is_some, option_map, Result, Ok, Err, IsErrAnd, IsTrue}
 use Rattle.std.specs.List.{FoldsTo}
-use Rattle.line_buffer.specs.Line.{Line}
 use Rattle.line_config.specs.declared.errors.ReadlineError.{ReadlineError, TheVariants.Helper, TheVariants.Memory}
 use Rattle.line_edits.specs.WriteSteps.{group_opened}
 use Rattle.line_config.specs.declared.errors.HookFault.{HookFault}
@@ -17,7 +16,7 @@ use Rattle.line_help.specs.declared.history as histories
 use Rattle.line_keys.specs.declared.command.CmdKind.TheVariants.{Other}
 use Rattle.line_editor.specs.Accepting.{verdict, group_and_verdict_effect, verdict_effect, validate}
 use Rattle.line_editor.specs.RenderCalls.{MadeIn}
-use Rattle.line_editor.specs.Drawing.{Since, draw_effect_since, hint_asked, ask_anew_effect, redraw_of, effect_if}
+use Rattle.line_editor.specs.Drawing.{Since, draw_effect_since, hint_asked, ask_anew_effect, redraw_of}
 use Rattle.line_editor.specs.Inserting.{way_if_bare, put_redraw, show_inserted_effect}
 use Rattle.line_editor.specs.Killing.{taken_redraw, show_killed_effect}
 use Rattle.line_editor.specs.EditSteps.{calls_of_steps}
@@ -25,7 +24,7 @@ use Rattle.line_editor.specs.declared.way.Way.{Way, TheVariants.Alone, TheVarian
 use Rattle.line_editor.specs.Redraws.Redraw.{Rewritten}
 use Rattle.line_editor.specs.Transforms.{has_letters, show_rewritten_effect, refresh_over_effect}
 use Rattle.line_editor.specs.States.{hooks_of, value_of, setting_of, error_of, reason_of, surface_of, Stays, Does}
-use Rattle.line_editor.specs.Values.{Value, Setting, Hooks, Effect, draw_effect, then_do, hint_reply, verdict_reply, help_steps, IsFailing, with_mark, value_with_edit}
+use Rattle.line_editor.specs.Values.{Value, Setting, Hooks, Effect, draw_effect, then_do, hint_reply, verdict_reply, help_steps, IsFailing, with_mark, value_with_edit, Transition}
 use Rattle.line_editor.specs.Values.EditStep.{Takes}
 use Rattle.line_editor.specs.declared.renderer as renderers
 use Rattle.line_editor.specs.declared.state.State.{State}
@@ -35,31 +34,12 @@ use Rattle.line_editor.proofs.DoesLemmas.{is_err, does_as, does_both, does_both_
 -- ---- a hook that fails at what it is shown fails at something
 
 -- by a hook that is shown a line, entries, a place in them, and a text to be put in from a start
-hook_reason : {A : Type 0} (hook : Hooks → Reply A) (hooks : Option Hooks) (failed : Bool) (e : ReadlineError) → ((h : Hooks) → IsTrue (fails (hook h)) → IsFailing (Some h))
+pub hook_reason : {A : Type 0} (hook : Hooks → Reply A) (hooks : Option Hooks) (failed : Bool) (e : ReadlineError) → ((h : Hooks) → IsTrue (fails (hook h)) → IsFailing (Some h))
     → IsHelpFault (option_map hook hooks) e → reason_of failed (IsFailing hooks) e
 hook_reason hook None failed e at why = absurd why
 hook_reason hook (Some h) failed Helper at why = at h why
 hook_reason hook (Some h) failed Memory at why = tt
 hook_reason hook (Some h) failed _ at why = absurd why
-
-hint_reason : (hooks : Option Hooks) (line : Line) (entries : List (List ℕ)) (history : ℕ) (failed : Bool) (e : ReadlineError)
-    → IsHelpFault (option_map (λ (h : Hooks). h.hints line.text line.place entries history) hooks) e → reason_of failed (IsFailing hooks) e
-hint_reason hooks line entries history failed e why = hook_reason (λ h. h.hints line.text line.place entries history) hooks failed e
-    (λ h k. (line, entries, history, 0, [], inl k)) why
-
-verdict_reason : (hooks : Option Hooks) (line : Line) (failed : Bool) (e : ReadlineError) → IsHelpFault (option_map (λ (h : Hooks). h.judge line.text) hooks) e → reason_of failed (IsFailing hooks) e
-verdict_reason hooks line failed e why = hook_reason (λ h. h.judge line.text) hooks failed e
-    (λ h k. (line, [], 0, 0, [], inr (inl k))) why
-
-pub completion_reason : (hooks : Option Hooks) (line : Line) (entries : List (List ℕ)) (history : ℕ) (failed : Bool) (e : ReadlineError)
-    → IsHelpFault (option_map (λ (h : Hooks). h.completes line.text line.place entries history) hooks) e → reason_of failed (IsFailing hooks) e
-completion_reason hooks line entries history failed e why = hook_reason (λ h. h.completes line.text line.place entries history) hooks failed e
-    (λ h k. (line, entries, history, 0, [], inr (inr (inl k)))) why
-
-pub update_reason : (hooks : Option Hooks) (line : Line) (start : ℕ) (text : List ℕ) (failed : Bool) (e : ReadlineError) → IsHelpFault (option_map (λ (h : Hooks). h.updates line start text) hooks) e
-    → reason_of failed (IsFailing hooks) e
-update_reason hooks line start text failed e why = hook_reason (λ h. h.updates line start text) hooks failed e
-    (λ h k. (line, [], 0, start, text, inr (inr (inr k)))) why
 
 -- ---- one of two drawings
 
@@ -74,13 +54,9 @@ rewritten from upto b s v = draw_effect (if b then Rewritten s.prompt from upto 
 
 -- ---- with a helper
 
-has_hooks : {A B : Type 0} (f : A → B) (o : Option A) → is_some (option_map f o) ≡ is_some o
+pub has_hooks : {A B : Type 0} (f : A → B) (o : Option A) → is_some (option_map f o) ≡ is_some o
 has_hooks f None = refl
 has_hooks f (Some x) = refl
-
-validated_by : (helped : Bool) (s : Setting) (v : Value) → helped ≡ true → (let edit = then_do group_and_verdict_effect (verdict_effect (verdict s v)) in edit s v ≡ effect_if helped edit s v)
-validated_by false s v some = absurd (true≢false (sym some))
-validated_by true s v some = refl
 
 -- a hook's fault, told as an error
 pub fault_told : {A : Type 0} (reply : Reply A) (fault : HookFault) → IsFaultOf reply fault → IsHelpFault (Some reply) (error_of fault)
@@ -94,7 +70,8 @@ module _ {Out H Hi K T : Type 0} {renderer : renderers.Renderer.Ghosts Out} {com
   pub hint_refused : {A : Type 0} (s : State Out H Hi K T renderer completer candidate hinter hint highlighter validator history) (e : ReadlineError) (result : Result A ReadlineError)
       → IsErrAnd result (λ x. x ≡ e) → IsHelpFault (hint_reply (setting_of s) (value_of s)) e → Does hint_asked s s result
   hint_refused {A} s e result is why = subst (λ (r : Result A ReadlineError). Does {A = A} hint_asked s s r) (sym (is_err e result is))
-      (does_refused hint_asked s s e (stays_same s) (hint_reason (setting_of s).hooks s.recorded.line (setting_of s).entries (value_of s).history (renderer.canvas.failed s.out) e why)
+      (does_refused hint_asked s s e (stays_same s) (let v = value_of s in hook_reason (λ h. h.hints v.line.text v.line.place (setting_of s).entries v.history) (setting_of s).hooks (renderer.canvas.failed s.out) e
+      (λ h k. (v.line, (setting_of s).entries, v.history, 0, [], inl k)) why)
       (stops_asking renderer.canvas (renderer.canvas.ruler s.out) (value_of s) (hint_reply (setting_of s) (value_of s)) (surface_of s) (surface_of s) e (value_of s) why refl refl))
 
   -- and highlighted characters
@@ -116,13 +93,16 @@ module _ {Out H Hi K T : Type 0} {renderer : renderers.Renderer.Ghosts Out} {com
 
   -- ---- what is drawn then
 
+  asked_then : {A B : Type 0} (drawn shown : Transition) (s m t : State Out H Hi K T renderer completer candidate hinter hint highlighter validator history) (x : A) (result : Result B ReadlineError)
+      → Does ask_anew_effect s m (Ok x) → shown (setting_of m) (value_of m) ≡ drawn (setting_of m) (value_of m) → Does shown m t result → Does (then_do ask_anew_effect drawn) s t result
+  asked_then drawn shown s m t x result h is k = does_both ask_anew_effect drawn s m t x result h (does_as shown drawn m t result is k)
+
   module _ (c : ℕ) (way : Way) (from : Option Since) where
     -- in one of the ways, or by a drawing of the line
     pub put_made : {A B : Type 0} (shown : Way) (s m t : State Out H Hi K T renderer completer candidate hinter hint highlighter validator history) (x : A) (result : Result B ReadlineError)
         → way_if_bare way (value_of m) ≡ shown → Does ask_anew_effect s m (Ok x) → Does (put c shown from) m t result → Does (show_inserted_effect c way from) s t result
     put_made shown s m t x result is h k =
-        does_both ask_anew_effect (λ s v. draw_effect (put_redraw (way_if_bare way v) c from s v) s v) s m t x result h
-        (does_as (put c shown from) (λ s v. draw_effect (put_redraw (way_if_bare way v) c from s v) s v) m t result (ap (λ w. put c w from (setting_of m) (value_of m)) (sym is)) k)
+        asked_then (λ s v. put c (way_if_bare way v) from s v) (put c shown from) s m t x result h (ap (λ w. put c w from (setting_of m) (value_of m)) (sym is)) k
 
     pub put_drawn : {A B : Type 0} (s m t : State Out H Hi K T renderer completer candidate hinter hint highlighter validator history) (x : A) (result : Result B ReadlineError)
         → ((d : ℕ) × (way_if_bare way (value_of m) ≡ Back d)) ⊎ (way_if_bare way (value_of m) ≡ Whole) → Does ask_anew_effect s m (Ok x)
@@ -134,8 +114,7 @@ module _ {Out H Hi K T : Type 0} {renderer : renderers.Renderer.Ghosts Out} {com
     pub taken_made : {A B : Type 0} (shown : Way) (s m t : State Out H Hi K T renderer completer candidate hinter hint highlighter validator history) (x : A) (result : Result B ReadlineError)
         → way_if_bare way (value_of m) ≡ shown → Does ask_anew_effect s m (Ok x) → Does (taken count shown from) m t result → Does (show_killed_effect count way from) s t result
     taken_made shown s m t x result is h k =
-        does_both ask_anew_effect (λ s v. draw_effect (taken_redraw (way_if_bare way v) count from s v) s v) s m t x result h
-        (does_as (taken count shown from) (λ s v. draw_effect (taken_redraw (way_if_bare way v) count from s v) s v) m t result (ap (λ w. taken count w from (setting_of m) (value_of m)) (sym is)) k)
+        asked_then (λ s v. taken count (way_if_bare way v) from s v) (taken count shown from) s m t x result h (ap (λ w. taken count w from (setting_of m) (value_of m)) (sym is)) k
 
     pub killed_drawn : {A B : Type 0} (s m t : State Out H Hi K T renderer completer candidate hinter hint highlighter validator history) (x : A) (result : Result B ReadlineError)
         → (way_if_bare way (value_of m) ≡ Alone) ⊎ (way_if_bare way (value_of m) ≡ Whole) → Does ask_anew_effect s m (Ok x)
@@ -144,17 +123,11 @@ module _ {Out H Hi K T : Type 0} {renderer : renderers.Renderer.Ghosts Out} {com
     killed_drawn s m t x result (inr is) h k = taken_made Whole s m t x result is h (does_as (draw_effect_since from) (taken count Whole from) m t result refl k)
 
   module _ (over : Bool) (from upto : ℕ) where
-    pub written_over : {A B : Type 0} (s m t : State Out H Hi K T renderer completer candidate hinter hint highlighter validator history) (x : A) (result : Result B ReadlineError)
-        → (over && has_letters from upto (value_of m)) ≡ true → Does ask_anew_effect s m (Ok x) → Does (rewritten from upto true) m t result → Does (refresh_over_effect over from upto) s t result
-    written_over s m t x result is h k =
-        does_both ask_anew_effect (show_rewritten_effect over from upto) s m t x result h
-        (does_as (rewritten from upto true) (show_rewritten_effect over from upto) m t result (ap (λ b. rewritten from upto b (setting_of m) (value_of m)) (sym is)) k)
-
-    pub drawn_anew : {A B : Type 0} (s m t : State Out H Hi K T renderer completer candidate hinter hint highlighter validator history) (x : A) (result : Result B ReadlineError)
-        → (over && has_letters from upto (value_of m)) ≡ false → Does ask_anew_effect s m (Ok x) → Does (draw_effect_since None) m t result → Does (refresh_over_effect over from upto) s t result
-    drawn_anew s m t x result is h k =
-        does_both ask_anew_effect (show_rewritten_effect over from upto) s m t x result h
-        (does_as (draw_effect_since None) (show_rewritten_effect over from upto) m t result (ap (λ b. rewritten from upto b (setting_of m) (value_of m)) (sym is)) k)
+    -- written over, or drawn anew
+    pub rewritten_made : {A B : Type 0} (b : Bool) (s m t : State Out H Hi K T renderer completer candidate hinter hint highlighter validator history) (x : A) (result : Result B ReadlineError)
+        → (over && has_letters from upto (value_of m)) ≡ b → Does ask_anew_effect s m (Ok x) → Does (rewritten from upto b) m t result → Does (refresh_over_effect over from upto) s t result
+    rewritten_made b s m t x result is h k =
+        asked_then (show_rewritten_effect over from upto) (rewritten from upto b) s m t x result h (ap (λ d. rewritten from upto d (setting_of m) (value_of m)) (sym is)) k
 
   -- ---- a verdict
 
@@ -164,13 +137,14 @@ module _ {Out H Hi K T : Type 0} {renderer : renderers.Renderer.Ghosts Out} {com
       let opened : Value = value_with_edit group_opened (value_of s) in
       let reply = verdict_reply (setting_of s) (value_of s) in
       let ruler = renderer.canvas.ruler s.out in
-      does_refused group_and_verdict_effect s t e stays (verdict_reason (setting_of s).hooks s.recorded.line (renderer.canvas.failed t.out) e why)
+      does_refused group_and_verdict_effect s t e stays
+      (hook_reason (λ h. h.judge s.recorded.line.text) (setting_of s).hooks (renderer.canvas.failed t.out) e (λ h k. (s.recorded.line, [], 0, 0, [], inr (inl k))) why)
       (stops_after renderer.canvas ruler (Takes (value_of s)) (help_steps opened reply) (surface_of s) (surface_of s) (surface_of t) e (value_of t) (refl, refl)
       (stops_asking renderer.canvas ruler opened reply (surface_of s) (surface_of t) e (value_of t) why same value)))
 
   pub validated : (s : State Out H Hi K T renderer completer candidate hinter hint highlighter validator history) → is_some s.helper ≡ true
       → then_do group_and_verdict_effect (verdict_effect (verdict (setting_of s) (value_of s))) (setting_of s) (value_of s) ≡ validate (setting_of s) (value_of s)
-  validated s some = validated_by (is_some (setting_of s).hooks) (setting_of s) (value_of s) (has_hooks (hooks_of completer hinter validator) s.helper ∙ some)
+  validated s some = rw (has_hooks (hooks_of completer hinter validator) s.helper, some) refl
 
   pub validate_unasked : {A B : Type 0} (s t : State Out H Hi K T renderer completer candidate hinter hint highlighter validator history) (e : ReadlineError) (result : Result B ReadlineError)
       → is_some s.helper ≡ true → IsErrAnd result (λ x. x ≡ e) → Does {A = A} group_and_verdict_effect s t (Err e) → Does validate s t result

@@ -15,25 +15,19 @@ use Rattle.line_help.specs.declared.helpers.highlight as highlights
 use Rattle.line_help.specs.declared.helpers.validate as verdicts
 use Rattle.line_help.specs.declared.history as histories
 use Rattle.line_editor.specs.Drawing.{beep_effect, refresh_effect}
-use Rattle.line_editor.specs.Completing.{at_row_end, complete_hint_effect, complete_hint}
+use Rattle.line_editor.specs.Completing.{at_row_end, complete_hint}
 use Rattle.line_editor.specs.States.{value_of, setting_of, surface_of, Stays, Does}
-use Rattle.line_editor.specs.Values.{Value, Setting, then_do, value_with_edit, edit_effect, line_and_record_of, no_effect}
+use Rattle.line_editor.specs.Values.{Value, Setting, then_do, value_with_edit, edit_effect, line_and_record_of}
 use Rattle.line_editor.specs.declared.renderer as renderers
 use Rattle.line_editor.specs.declared.state.State.{State}
 use Rattle.line_editor.proofs.DoesLemmas.{does_from, setting_stays}
 use Rattle.line_editor.proofs.EditLemmas.{edit_is, edit_then, edit_refused}
 use Rattle.line_editor.proofs.YankLemmas.{is_put}
-use Rattle.std.specs.Option.{option_map_or}
-
-completed_is : (hint : Hinted) (completion : Option (List ℕ)) (s : Setting) (v : Value) → v.hint ≡ Some hint → hint.completion ≡ completion → complete_hint_effect completion s (at_row_end v) ≡ complete_hint s v
-completed_is hint completion s v shown is = sym (ap (λ x. option_map_or (λ (h : Hinted). complete_hint_effect h.completion s (at_row_end v)) x (no_effect s v)) shown ∙ ap (λ x. complete_hint_effect x s (at_row_end v)) is)
 
 -- by whether its text was put in
 taken_is : (b : Bool) (hint : Hinted) (text : List ℕ) (s : Setting) (v : Value) → v.hint ≡ Some hint → hint.completion ≡ Some text → is_some (yanked_in text 1 (at_row_end v).line).answer ≡ b
     → (if b then then_do (edit_effect (yank_steps text 1)) refresh_effect s (at_row_end v) else then_do beep_effect refresh_effect s (value_with_edit (by (yank_steps text 1)) (at_row_end v))) ≡ complete_hint s v
-taken_is b hint text s v shown is put =
-    ap (λ c. if c then then_do (edit_effect (yank_steps text 1)) refresh_effect s (at_row_end v) else then_do beep_effect refresh_effect s (value_with_edit (by (yank_steps text 1)) (at_row_end v))) (sym put)
-    ∙ completed_is hint (Some text) s v shown is
+taken_is b hint text s v shown is put = rw (← put, shown, is)
 
 module _ {Out H Hi K T : Type 0} {renderer : renderers.Renderer.Ghosts Out} {completer : completions.Completer.Ghosts H K} {candidate : completions.Candidate.Ghosts K}
     {hinter : hints.Hinter.Ghosts H T} {hint : hints.Hint.Ghosts T} {highlighter : highlights.Highlighter.Ghosts H} {validator : verdicts.Validator.Ghosts H} {history : histories.History.Ghosts Hi} where

@@ -1,15 +1,12 @@
 -- What an edit behind a place leaves: each beginning of the text up to there, and what is known of it.
-use Rattle.std.proofs.Common.{◌≡◌, ℕ, ◌==◌, ◌<◌, ◌≤◌, Bool, true, false, List, [], ◌∷◌, ◌++◌, take, drop, length, length-append, refl, sym, ap, subst, ◌∙◌, arith, if◌then◌else◌, Option, Some, None, is_some, encode_utf8, ◌-◌}
+use Rattle.std.proofs.Common.{◌≡◌, ℕ, ◌==◌, ◌≤◌, Bool, true, false, List, [], ◌∷◌, ◌++◌, take, drop, length, length-append, refl, sym, ap, subst, ◌∙◌, arith, if◌then◌else◌, Option, Some, None, is_some, encode_utf8, ◌-◌}
 use Rattle.std.specs.Prelude.{nat_le, option_map}
-use Rattle.std.specs.List.{All, replace_range, repeat, slice_index_or}
+use Rattle.std.specs.List.{replace_range, repeat}
 use Rattle.std.specs.Str.{IsCharBoundary}
 use Rattle.std.proofs.lemmas.Bool.{leb-true}
-use Rattle.std.proofs.lemmas.Bool.Decides.{nat_tests}
 use Rattle.std.proofs.lemmas.Option.{same_Some}
 use Rattle.std.proofs.lemmas.List.{length-take, take-append-le, take-append-drop}
-use Rattle.std.proofs.lemmas.List.Sums.{AllPass-from_list_all}
 use Rattle.std.proofs.lemmas.Str.{IsCharBoundary-from_ascii}
-use Rattle.std.proofs.lemmas.Str.Ascii.{IsAscii-from_all}
 use Rattle.line_buffer.specs.declared.layout.Position.{Position}
 use Rattle.line_buffer.specs.Event.{ChangeEvent, InsertStr, ChangeEvent.InsertChar}
 use Rattle.line_buffer.specs.Clusters.{place_forward}
@@ -19,8 +16,9 @@ use Rattle.line_buffer.specs.Range.{deletion_line, from_cursor}
 use Rattle.line_edits.specs.Edits.{clusters_after, replace_group, replace_group_if_any, by}
 use Rattle.line_edits.proofs.StepLemmas.{overwrite_steps_to}
 use Rattle.line_edits.specs.WriteSteps.{with_answer, no_steps, effect_of_steps, Written}
-use Rattle.line_buffer.specs.Printable.{is_plain_byte, is_plain}
+use Rattle.line_buffer.specs.Printable.{is_plain}
 use Rattle.line_editor.specs.RenderCalls.{IsKnown, known_within}
+use Rattle.line_editor.proofs.KillLemmas.{plain_low}
 
 -- a prefix of a text is one of a longer text
 pub record Begins (k : ℕ) (before after : List ℕ) : Type 0 where
@@ -152,11 +150,5 @@ module _ (measure : List ℕ → Position → Position) (start : Position) where
 
 -- ---- a plain text's characters are bytes
 
-plain_low : (byte : ℕ) → is_plain_byte byte ≡ true → byte < 128
-plain_low byte h = grind (arith, nat_tests)
-
-all_low : (text : List ℕ) → is_plain text ≡ true → All (λ byte. byte < 128) text
-all_low text h = λ k d low. plain_low (slice_index_or text k d) (AllPass-from_list_all is_plain_byte text h k d low)
-
 pub plain_boundary : (text : List ℕ) (place : ℕ) → is_plain text ≡ true → place ≤ length text → IsCharBoundary text place
-plain_boundary text place h low = IsCharBoundary-from_ascii text place (IsAscii-from_all text (all_low text h)) low
+plain_boundary text place h low = IsCharBoundary-from_ascii text place (plain_low text h) low

@@ -2,25 +2,22 @@
 use Rattle.std.proofs.Common.{◌≡◌, ℕ, ◌+◌, ◌-◌, ◌==◌, ◌||◌, ◌&&◌, not, ◌<◌, ◌≤◌, nat_le, nat_lt, Bool, true, false, List, [], ◌∷◌, ◌++◌, take, drop, length, length-append, take_all, Option, Some, None, IfSome, is_some, encode_utf8, refl, sym, ap, ◌∙◌, subst, append_assoc, append-nil, arith, if◌then◌else◌}
 use Rattle.std.specs.Prelude.{⊤, chars}
 use Rattle.std.specs.List.{list_all, last_or, insert_slice, replace_range}
-use Rattle.std.proofs.lemmas.Bool.{and_parts, eqb-true, leb-true, ltb-true, not-true}
+use Rattle.std.proofs.lemmas.Bool.{and_parts, cond_both, eqb-true, leb-true, ltb-true, not-true}
 use Rattle.std.proofs.lemmas.List.{drop_all, take-append-drop, length-drop, length-take, length-take-le, take-take, drop-drop}
 use Rattle.std.proofs.lemmas.Str.{encode_ascii}
 use Rattle.unicode_segmentation.proofs.TextLemmas.{encode_utf8_nonempty}
 use Rattle.std.specs.Str.{is_utf8}
-use Rattle.line_buffer.specs.Clusters.{place_forward, place_backward}
-use Rattle.line_buffer.specs.Columns.{line_up, line_down}
 use Rattle.line_buffer.specs.Event.{ChangeEvent, ChangeEvent.InsertChar}
-use Rattle.line_buffer.specs.Hits.{search_place}
 use Rattle.line_buffer.specs.Insertions.{Insertion, insertion_by, insertion_of, no_insertion, with_text_at_cursor, insert as insertion}
 use Rattle.line_buffer.specs.Line.{Line, with_cursor_at, without_range}
 use Rattle.line_buffer.specs.Range.{range_of, deletion_line}
-use Rattle.line_buffer.specs.Rows.{row_start, row_end}
+use Rattle.line_buffer.specs.Rows.{row_start}
 use Rattle.line_buffer.specs.Printable.{is_printable, is_plain, at_plain_end}
-use Rattle.line_buffer.specs.Words.{prev_word, next_word}
+use Rattle.line_buffer.specs.Words.{next_word}
 use Rattle.line_buffer.specs.declared.range.TextSpan.{TextSpan}
 use Rattle.line_buffer.specs.declared.types.At.TheVariants.{Start}
 use Rattle.line_buffer.specs.declared.types.Movement.{Movement}
-use Rattle.line_buffer.specs.declared.types.Movement.TheVariants.{BeginningOfLine, EndOfLine, BackwardWord, ForwardWord, ViCharSearch, ViFirstPrint, BackwardChar, ForwardChar, LineUp, LineDown, BeginningOfBuffer, EndOfBuffer}
+use Rattle.line_buffer.specs.declared.types.Movement.TheVariants.{ViFirstPrint}
 use Rattle.line_buffer.specs.declared.types.Word.TheVariants.{Big}
 use Rattle.line_edits.specs.Edits.{by, char_steps, text_steps, kill_steps}
 use Rattle.line_edits.specs.WriteSteps.{with_answer, WriteSteps}
@@ -40,7 +37,7 @@ use Rattle.line_editor.specs.RenderCalls.{Marks}
 use Rattle.line_editor.specs.Redraws.{Redraw, info_text}
 use Rattle.line_editor.specs.Redraws.Redraw.{Drawn, DrawnFrom, Moved, Typed, Appended, Taken, Erased, PutIn, TakenOut, Cleared}
 use Rattle.line_editor.specs.SharedStyles.{styles_to, told_styles}
-use Rattle.line_editor.specs.Sights.{PartSpans, drawn_spans, Sight, InPart, sight_as, sight, sight_all, Fits, FitsAll, Turns, info_after, sight_of, no_sight}
+use Rattle.line_editor.specs.Sights.{PartSpans, drawn_spans, Sight, InPart, TypedFits, AppendedFits, TakenFits, Replaces, DrawnFromFits, sight_as, sight, sight_all, Fits, FitsAll, Turns, info_after, sight_of, no_sight}
 use Rattle.line_editor.specs.Values.{Value, Setting, EditStep, Effect, Transition, no_effect, then_do, hint_reply, help_steps, value_with_edit, edit_effect, at_line, with_mark, marks_seen, shown_marks, shown_hint, line_and_record_of, draw_effect}
 use Rattle.line_editor.specs.Values.EditStep.{Draws, Edits, TakesBack, Takes}
 use Rattle.line_editor.proofs.ApartLemmas.{apart_before}
@@ -143,8 +140,7 @@ or_none false b h = (refl, h)
 
 -- one of two
 pub either : (s : Setting) (v : Value) (b : Bool) (e f : Effect) → (b ≡ true → Leads s v e) → (b ≡ false → Leads s v f) → Leads s v (if b then e else f)
-either s v true e f h k = h refl
-either s v false e f h k = k refl
+either s v b e f h k = cond_both b e f (Leads s v) h k
 
 -- ---- steps before that show nothing
 
@@ -244,51 +240,37 @@ module _ (from : ℕ) (s : Setting) (v w : Value) (first : begins_apart_at v.lin
       let after = and_parts (nat_le kept (length w.line.text)) _ both.1 in
       let front : take kept w.line.text ≡ take kept v.line.text = sym (take-take kept from w.line.text styles.0) ∙ ap (take kept) same ∙ take-take kept from v.line.text styles.0 in
       let hint = info_text (shown_hint w) in
-      record {
-        fits = (
-          (
-            refl,
-            refl,
-            record {
-              before = take kept v.line.text;
-              gone = drop kept v.line.text;
-              rest = drop kept w.line.text;
-              whole = sym (take-append-drop kept v.line.text);
-              text_is = sym (take-append-drop kept w.line.text) ∙ ap (λ xs. xs ++ drop kept w.line.text) front;
-              from_is = sym (length-take-le kept v.line.text (leb-true kept (length v.line.text) before.0));
-              gone_apart = before.1;
-              rest_apart = ap (λ xs. begins_apart xs (drop kept w.line.text)) (sym front) ∙ after.1;
-              prompt_is = refl;
-              same_styles = ap (styles_to kept) (sym (same_line s w hint)) ∙ styles.1 ∙ ap (styles_to kept) (same_line s v (info_text info));
-              prompt_styles = same_prompt s.marks w.marked (not (is_some w.hint)) v.marked (not (is_some v.hint)) s.prompt w.line.text v.line.text w.line.place v.line.place hint (info_text info);
-            },
-          ),
-          tt,
-        );
-        leads = refl;
-      }
+      let seen : DrawnFromFits (sight_of s v info) (shown_marks w s.marks) s.prompt kept w.line.text w.line.place (shown_hint w) = record {
+        before = take kept v.line.text;
+        gone = drop kept v.line.text;
+        rest = drop kept w.line.text;
+        whole = sym (take-append-drop kept v.line.text);
+        text_is = sym (take-append-drop kept w.line.text) ∙ ap (λ xs. xs ++ drop kept w.line.text) front;
+        from_is = sym (length-take-le kept v.line.text (leb-true kept (length v.line.text) before.0));
+        gone_apart = before.1;
+        rest_apart = ap (λ xs. begins_apart xs (drop kept w.line.text)) (sym front) ∙ after.1;
+        prompt_is = refl;
+        same_styles = ap (styles_to kept) (sym (same_line s w hint)) ∙ styles.1 ∙ ap (styles_to kept) (same_line s v (info_text info));
+        prompt_styles = same_prompt s.marks w.marked (not (is_some w.hint)) v.marked (not (is_some v.hint)) s.prompt w.line.text v.line.text w.line.place v.line.place hint (info_text info);
+      } in
+      record { fits = ((refl, refl, seen), tt); leads = refl }
 
   noted_leads : Leads s v (record { value = w; steps = Draws w s.marks (redraw_since (Some noted) s w) ∷ [] })
-  noted_leads = by_test (begins_apart_at w.line.text noted.from && begins_apart_at w.line.text kept) refl
-    where
-      by_test : (b : Bool) → (begins_apart_at w.line.text noted.from && begins_apart_at w.line.text kept) ≡ b
-          → Leads s v (record { value = w; steps = Draws w s.marks (if b then DrawnFrom s.prompt kept w.line.text w.line.place (shown_hint w) else redraw_of s w) ∷ [] })
-      by_test true later = from_leads later
-      by_test false later = whole_leads s v w
+  noted_leads =
+      let drawn : Redraw → Type 0 = λ x. Leads s v (record { value = w; steps = Draws w s.marks x ∷ [] }) in
+      cond_both (begins_apart_at w.line.text noted.from && begins_apart_at w.line.text kept) _ _ drawn from_leads (λ later. whole_leads s v w)
 
 -- a change left the line up to there
 pub since_leads : (from : ℕ) (s : Setting) (v w : Value) → (from ≤ length v.line.text → Begins from v.line.text w.line.text)
     → Leads s v (record { value = w; steps = Draws w s.marks (redraw_since (since s from v) s w) ∷ [] })
-since_leads from s v w stays = by_test (s.config.partial_redraw && begins_apart_at v.line.text from) refl
-  where
-    by_test : (b : Bool) → (s.config.partial_redraw && begins_apart_at v.line.text from) ≡ b
-        → Leads s v (record { value = w; steps = Draws w s.marks (redraw_since (if b then Some (record { from = from; styles = told_styles from (line_spans s v) }) else None) s w) ∷ [] })
-    by_test false is = whole_leads s v w
-    by_test true is =
-        let first = (and_parts s.config.partial_redraw _ is).1 in
-        let inside = (and_parts (nat_le from (length v.line.text)) _ first).0 in
-        let begins = stays (leb-true from (length v.line.text) inside) in
-        noted_leads from s v w first begins.same
+since_leads from s v w stays =
+    let drawn : Option Since → Type 0 = λ o. Leads s v (record { value = w; steps = Draws w s.marks (redraw_since o s w) ∷ [] }) in
+    cond_both (s.config.partial_redraw && begins_apart_at v.line.text from) _ _ drawn
+    (λ is.
+    let first = (and_parts s.config.partial_redraw _ is).1 in
+    let inside = (and_parts (nat_le from (length v.line.text)) _ first).0 in
+    noted_leads from s v w first (stays (leb-true from (length v.line.text) inside)).same)
+    (λ is. whole_leads s v w)
 
 pub refresh_since_leads : (from : ℕ) (s : Setting) (v w : Value) → (from ≤ length v.line.text → Begins from v.line.text w.line.text) → Leads s v (refresh_effect_since (since s from v) s w)
 refresh_since_leads from s v w stays =
@@ -346,19 +328,8 @@ first_print_leads s v = either s v (begins_with_space v.line.text) (then_do move
     next v = found_leads (next_word Start Big 1 v.line) s v
 
 pub motion_leads : (m : Movement) (s : Setting) (v : Value) → Leads s v (move_by m s v)
-motion_leads BeginningOfLine s v = place_leads MoveCursor (row_start v.line.text v.line.place) s v
-motion_leads EndOfLine s v = place_leads MoveCursor (row_end v.line.text v.line.place) s v
-motion_leads (BackwardWord n word) s v = found_leads (prev_word word n v.line) s v
-motion_leads (ForwardWord n at word) s v = found_leads (next_word at word n v.line) s v
-motion_leads (ViCharSearch n search) s v = found_leads (search_place search n v.line) s v
 motion_leads ViFirstPrint s v = first_print_leads s v
-motion_leads (BackwardChar n) s v = found_leads (place_backward n v.line) s v
-motion_leads (ForwardChar n) s v = found_leads (place_forward n v.line) s v
-motion_leads (LineUp n) s v = found_leads (line_up s.mode s.tabs s.column n v.line) s v
-motion_leads (LineDown n) s v = found_leads (line_down s.mode s.tabs s.column n v.line) s v
-motion_leads BeginningOfBuffer s v = place_leads MoveCursor 0 s v
-motion_leads EndOfBuffer s v = place_leads MoveCursor (length v.line.text) s v
-motion_leads m s v = rest_leads s v v (refl, refl, refl)
+motion_leads m s v = search (found_leads, place_leads, rest_leads)
 
 -- ---- a typed character
 
@@ -406,21 +377,12 @@ module _ (s : Setting) (c n : ℕ) (v w : Value) (put : (n == 1) ≡ true → w.
       let end = eqb-true v.line.place (length v.line.text) (and_parts (v.line.place == length v.line.text) _ d.1).0 in
       let text : w.line.text ≡ insert_slice v.line.text v.line.place (encode_utf8 c) = ap (λ (l : Line). l.text) (put b.0) in
       let place : w.line.place ≡ v.line.place + length (encode_utf8 c) = ap (λ (l : Line). l.place) (put b.0) in
-      record {
-        fits = (
-          (
-            bare_styles s v w info (and_parts (is_bare v) _ b.1).0 bare,
-            refl,
-            record {
-              typed = typed_at_any (is_some s.tabs) c v.line.text v.line.place typed;
-              text_is = text ∙ put_at_end v.line.text v.line.place (encode_utf8 c) end ∙ ap (λ x. v.line.text ++ x) one;
-              behind = place ∙ ap (λ x. v.line.place + length x) one;
-            },
-          ),
-          tt,
-        );
-        leads = refl;
-      }
+      let seen : TypedFits (sight_of s v info) c w.line.text w.line.place = record {
+        typed = typed_at_any (is_some s.tabs) c v.line.text v.line.place typed;
+        text_is = text ∙ put_at_end v.line.text v.line.place (encode_utf8 c) end ∙ ap (λ x. v.line.text ++ x) one;
+        behind = place ∙ ap (λ x. v.line.place + length x) one;
+      } in
+      record { fits = ((bare_styles s v w info (and_parts (is_bare v) _ b.1).0 bare, refl, seen), tt); leads = refl }
 
   appended_leads : is_bare w ≡ true → may_be_appended s.config.partial_redraw c n v ≡ true → Leads s v (record { value = w; steps = Draws w s.marks (Appended s.prompt c w.line.text w.line.place) ∷ [] })
   appended_leads bare fits info =
@@ -432,22 +394,13 @@ module _ (s : Setting) (c n : ℕ) (v w : Value) (put : (n == 1) ≡ true → w.
       let end = eqb-true v.line.place (length text) e.0 in
       let new : w.line.text ≡ insert_slice text v.line.place (encode_utf8 c) = ap (λ (l : Line). l.text) (put b.0) in
       let place : w.line.place ≡ v.line.place + length (encode_utf8 c) = ap (λ (l : Line). l.place) (put b.0) in
-      record {
-        fits = (
-          (
-            bare_styles s v w info d.0 bare,
-            refl,
-            record {
-              at = end;
-              apart = e.1;
-              text_is = new ∙ put_at_end text v.line.place (encode_utf8 c) end;
-              behind = place ∙ ap (λ k. k + length (encode_utf8 c)) end ∙ sym (length-append text (encode_utf8 c));
-            },
-          ),
-          tt,
-        );
-        leads = refl;
-      }
+      let seen : AppendedFits (sight_of s v info) c w.line.text w.line.place = record {
+        at = end;
+        apart = e.1;
+        text_is = new ∙ put_at_end text v.line.place (encode_utf8 c) end;
+        behind = place ∙ ap (λ k. k + length (encode_utf8 c)) end ∙ sym (length-append text (encode_utf8 c));
+      } in
+      record { fits = ((bare_styles s v w info d.0 bare, refl, seen), tt); leads = refl }
 
   put_in_leads : is_bare w ≡ true → may_be_put_in s.config.partial_redraw c n v ≡ true → Leads s v (record { value = w; steps = Draws w s.marks (PutIn s.prompt c w.line.text w.line.place) ∷ [] })
   put_in_leads bare fits info =
@@ -464,40 +417,23 @@ module _ (s : Setting) (c n : ℕ) (v w : Value) (put : (n == 1) ≡ true → w.
       let size : length (take at text) ≡ at = length-take-le at text (omega arith) in
       let new : w.line.text ≡ insert_slice text at (encode_utf8 c) = ap (λ (l : Line). l.text) (put b.0) in
       let place : w.line.place ≡ at + length (encode_utf8 c) = ap (λ (l : Line). l.place) (put b.0) in
-      record {
-        fits = (
-          (
-            bare_styles s v w info d.0 bare,
-            refl,
-            record {
-              before = take at text;
-              rest = drop at text;
-              whole = sym (take-append-drop at text);
-              text_is = new ∙ append_assoc (take at text) (encode_utf8 c) (drop at text) ∙ ap (λ x. take at text ++ (x ++ drop at text)) one;
-              from_is = sym size;
-              plain = kept.0;
-              gone_printable = refl;
-              printable = ap (λ b. b && true) e.0;
-            },
-            place ∙ ap (λ x. at + length x) one,
-          ),
-          tt,
-        );
-        leads = refl;
-      }
+      let seen : Replaces (sight_of s v info) at [] (c ∷ []) w.line.text = record {
+        before = take at text;
+        rest = drop at text;
+        whole = sym (take-append-drop at text);
+        text_is = new ∙ append_assoc (take at text) (encode_utf8 c) (drop at text) ∙ ap (λ x. take at text ++ (x ++ drop at text)) one;
+        from_is = sym size;
+        plain = kept.0;
+        gone_printable = refl;
+        printable = ap (λ b. b && true) e.0;
+      } in
+      record { fits = ((bare_styles s v w info d.0 bare, refl, seen, place ∙ ap (λ x. at + length x) one), tt); leads = refl }
 
   put_by : (way : Way) → way_if_bare (insertion_way s c n v) w ≡ way → Leads s v (record { value = w; steps = Draws w s.marks (put_redraw way c (since s v.line.place v) s w) ∷ [] })
-  put_by AtEnd is =
-      let parts = way_says (is_bare w) (may_be_appended s.config.partial_redraw c n v) (may_be_typed (is_some s.tabs) c n v) (may_be_put_in s.config.partial_redraw c n v) 0 false AtEnd is in
-      typed_leads parts.0 parts.1
-  put_by Alone is =
-      let parts = way_says (is_bare w) (may_be_appended s.config.partial_redraw c n v) (may_be_typed (is_some s.tabs) c n v) (may_be_put_in s.config.partial_redraw c n v) 0 false Alone is in
-      appended_leads parts.0 parts.1
-  put_by Inside is =
-      let parts = way_says (is_bare w) (may_be_appended s.config.partial_redraw c n v) (may_be_typed (is_some s.tabs) c n v) (may_be_put_in s.config.partial_redraw c n v) 0 false Inside is in
-      put_in_leads parts.0 parts.1
-  put_by (Back d) is = since_leads v.line.place s v w stays
-  put_by Whole is = since_leads v.line.place s v w stays
+  put_by AtEnd is = let parts = way_says (is_bare w) _ _ _ 0 false AtEnd is in typed_leads parts.0 parts.1
+  put_by Alone is = let parts = way_says (is_bare w) _ _ _ 0 false Alone is in appended_leads parts.0 parts.1
+  put_by Inside is = let parts = way_says (is_bare w) _ _ _ 0 false Inside is in put_in_leads parts.0 parts.1
+  put_by way is = since_leads v.line.place s v w stays
 
 pub none_if : (told : ChangeEvent) (added : List ℕ) (l : Line) (b : Bool)
     → (let i : Insertion = if b then record { answer = Some (l.place == length l.text); events = told ∷ []; line = with_text_at_cursor added l } else no_insertion l in is_some i.answer ≡ false → i.line ≡ l)
@@ -564,22 +500,10 @@ module _ (s : Setting) (v w : Value) (from upto : ℕ) (text : w.line.text ≡ r
       let front : now ≡ take from before = text ∙ cut_text before from upto (at ∙ ap length text) (ap is_plain (sym text) ∙ d.1) low in
       let whole : before ≡ now ++ drop (length now) before =
       sym (take-append-drop (length now) before) ∙ ap (λ n. take n before ++ drop (length now) before) (sym at) ∙ ap (λ xs. xs ++ drop (length now) before) (sym front) in
-      record {
-        fits = (
-          (
-            bare_styles s v w info b.0 bare,
-            record {
-              killed = drop (length now) before;
-              whole = whole;
-              count_is = sym (length-drop (length now) before);
-              end = stands;
-              printable = b.1;
-            },
-          ),
-          tt,
-        );
-        leads = refl;
-      }
+      let killed = drop (length now) before in
+      let seen : TakenFits (sight_of s v info) count now w.line.place =
+      record { killed = killed; whole = whole; count_is = sym (length-drop (length now) before); end = stands; printable = b.1 } in
+      record { fits = ((bare_styles s v w info b.0 bare, seen), tt); leads = refl }
 
   taken_out_leads : is_bare w ≡ true → (may_be_taken_out s.config.partial_redraw (text_gone v.line w.line) v && is_cut_inside v.line w.line) ≡ true
       → Leads s v (record { value = w; steps = Draws w s.marks (TakenOut s.prompt count w.line.text w.line.place) ∷ [] })
@@ -605,31 +529,19 @@ module _ (s : Setting) (v w : Value) (from upto : ℕ) (text : w.line.text ≡ r
       let count_is : count ≡ length killed = omega arith in
       let many : upto - from ≡ count = omega arith in
       let at : w.line.place ≡ length (take from before) = omega arith in
-      record {
-        fits = (
-          (
-            bare_styles s v w info d.0 bare,
-            (
-              killed,
-              record {
-                before = take from before;
-                rest = drop upto before;
-                whole = sym (take-append-drop from before)
-                    ∙ ap (λ xs. take from before ++ xs) (sym (take-append-drop (upto - from) (drop from before))
-                    ∙ ap (λ xs. killed ++ xs) (drop-drop (upto - from) from before ∙ ap (λ n. drop n before) up));
-                text_is = whole;
-                from_is = at;
-                plain = p.0;
-                gone_printable = ap (λ n. list_all is_printable (take n (drop from before))) many ∙ ap (λ n. list_all is_printable (take count (drop n before))) (sym place) ∙ p.1;
-                printable = refl;
-              },
-              count_is,
-            ),
-          ),
-          tt,
-        );
-        leads = refl;
-      }
+      let seen : Replaces (sight_of s v info) w.line.place killed [] now = record {
+        before = take from before;
+        rest = drop upto before;
+        whole = sym (take-append-drop from before)
+            ∙ ap (λ xs. take from before ++ xs) (sym (take-append-drop (upto - from) (drop from before))
+            ∙ ap (λ xs. killed ++ xs) (drop-drop (upto - from) from before ∙ ap (λ n. drop n before) up));
+        text_is = whole;
+        from_is = at;
+        plain = p.0;
+        gone_printable = ap (λ n. list_all is_printable (take n (drop from before))) many ∙ ap (λ n. list_all is_printable (take count (drop n before))) (sym place) ∙ p.1;
+        printable = refl;
+      } in
+      record { fits = ((bare_styles s v w info d.0 bare, (killed, seen, count_is)), tt); leads = refl }
 
   erased_leads : (c : ℕ) → is_bare w ≡ true → last_of_bare s.config.partial_redraw v ≡ Some c → is_erased c count w.line ≡ true
       → Leads s v (record { value = w; steps = Draws w s.marks (Erased s.prompt c w.line.text w.line.place) ∷ [] })
@@ -651,16 +563,7 @@ module _ (s : Setting) (v w : Value) (from upto : ℕ) (text : w.line.text ≡ r
       let whole : before ≡ now ++ drop from before = sym (take-append-drop from before) ∙ ap (λ xs. xs ++ drop from before) (sym front) in
       let gone = length-drop from before in
       let killed : drop from before ≡ code = end_is_last before now (drop from before) c d.1 found.1 whole (gone ∙ ap (λ n. length before - n) at ∙ size) in
-      record {
-        fits = (
-          (
-            bare_styles s v w info d.0 bare,
-            record { whole = whole ∙ ap (λ xs. now ++ xs) killed; apart = b.1; end = end },
-          ),
-          tt,
-        );
-        leads = refl;
-      }
+      record { fits = ((bare_styles s v w info d.0 bare, record { whole = whole ∙ ap (λ xs. now ++ xs) killed; apart = b.1; end = end }), tt); leads = refl }
 
   taken_of : (way : Way) (c : ℕ) (back : Bool)
       → chosen (is_bare w) false (may_be_taken (drop (length w.line.text) v.line.text) v && at_plain_end w.line.text w.line.place) (may_be_taken_out s.config.partial_redraw (text_gone v.line w.line) v && is_cut_inside v.line w.line) c back ≡ way
@@ -672,8 +575,7 @@ module _ (s : Setting) (v w : Value) (from upto : ℕ) (text : w.line.text ≡ r
       let parts = way_says (is_bare w) false _ _ c back (Back d) is in
       let k = last parts.1 in
       erased_leads d parts.0 (k.0 ∙ ap Some parts.2) (ap (λ x. is_erased x count w.line) (sym parts.2) ∙ k.1)
-  taken_of Alone c back is last low = left_leads
-  taken_of Whole c back is last low = left_leads
+  taken_of way c back is last low = left_leads
 
   taken_by : (way : Way) (last : Option ℕ) → last_of_bare s.config.partial_redraw v ≡ last
       → way_if_bare (if may_be_taken (drop (length w.line.text) v.line.text) v && at_plain_end w.line.text w.line.place then AtEnd

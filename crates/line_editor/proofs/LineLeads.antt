@@ -55,11 +55,7 @@ ask_leads (Prompted prompt) s v info own x h = record {
   is = (asks_lead (Prompted prompt) s v x).leads ∙ ap (let w = (ask_effect (Prompted prompt) s v).value in sight_with (shown_marks w s.marks) false prompt w.line.text w.line.place) (sym (hint_stands s v false prompt info));
   ours = λ e. cc;
 }
-ask_leads DoingInsert s v info own x h = record { prompt = h.prompt; is = h.is; ours = h.ours }
-ask_leads DoneInserting s v info own x h = record { prompt = h.prompt; is = h.is; ours = h.ours }
-
-settled_sight : (s : Setting) (v : Value) (info : Option (List ℕ)) (x : Sight) → Behind s v info true x → x ≡ sight_of s v info
-settled_sight s v info x h = h.is ∙ ap (λ p. sight_with (shown_marks v s.marks) true p v.line.text v.line.place info) (h.ours refl)
+ask_leads mark s v info own x h = record { prompt = h.prompt; is = h.is; ours = h.ours }
 
 -- a change-to begins a group, which draws nothing
 begun_settles : (cmd : Cmd) (b : Bool) (n : ℕ) → Settles true (steps (if b then show_then DoingInsert (λ seen. answer_part cmd) else answer_part cmd) n)
@@ -119,13 +115,10 @@ module _ (s : Setting) where
       by (Ok status) h = record { fits = h.fits; leads = h.leads; closes = h.closes }
       by (Err e) h = record { fits = h.fits; leads = h.leads; closes = h.closes }
 
-  -- nothing is left to do
-  nothing_leads : (k : LineState) (info : Option (List ℕ)) → PlayLeads info (modal_seen k.modal s k.value info) k (played_from s (Asks (Obeys Unknown) (λ status. Ends status)) k)
-  nothing_leads k info = record { fits = tt; leads = λ status is. refl; closes = λ is. cc }
-
   -- what is left to do of a command that was met
   left_leads : (next : Cmd) (k : LineState) (info : Option (List ℕ)) → (next ≡ Unknown) ⊎ (shows_own k.modal.standing ≡ true) → PlayLeads info (modal_seen k.modal s k.value info) k (played_from s (Asks (Obeys next) (λ status. Ends status)) k)
-  left_leads next k info (inl is) = subst (λ c. PlayLeads info (modal_seen k.modal s k.value info) k (played_from s (Asks (Obeys c) (λ status. Ends status)) k)) (sym is) (nothing_leads k info)
+  left_leads next k info (inl is) = subst (λ c. PlayLeads info (modal_seen k.modal s k.value info) k (played_from s (Asks (Obeys c) (λ status. Ends status)) k)) (sym is)
+      (record { fits = tt; leads = λ status is. refl; closes = λ is. cc })
   left_leads next k info (inr rests) =
       subst (λ x. PlayLeads info x k (played_from s (Asks (Obeys next) (λ status. Ends status)) k)) (sym (seen_resting k.modal.standing k.modal s k.value info rests)) (command_leads next k info rests)
 
@@ -144,7 +137,7 @@ module _ (s : Setting) where
 
   phrase_leads : (own : Bool) (script : KeyScript Cmd) (k : LineState) (info : Option (List ℕ)) (x : Sight) → (shows_own k.modal.standing ≡ true → Settles own script)
       → (shows_own k.modal.standing ≡ true → Behind s k.value info own x) → PlayLeads info x k (played_from s (spoken script) k)
-  phrase_leads true (Ends cmd) k info x settles h = met_leads cmd k info x (λ rests. settled_sight s k.value info x (h rests))
+  phrase_leads true (Ends cmd) k info x settles h = met_leads cmd k info x (λ rests. (h rests).is ∙ ap (λ p. sight_with (shown_marks k.value s.marks) true p k.value.line.text k.value.line.place info) ((h rests).ours refl))
   phrase_leads false (Ends cmd) k info x settles h = met_leads cmd k info x (λ rests. absurd (true≢false (sym (settles rests))))
   phrase_leads own (Asks Needs later) k info x settles h =
       let p = played_from s (spoken (later tt)) k in
@@ -184,13 +177,9 @@ turn_leads n s custom k info =
 
 -- ---- a line
 
-fits_first : (own : List ℕ) (x : Sight) (xs ys : List EditStep) → FitsAll own x (xs ++ ys) → FitsAll own x xs
-fits_first own x [] ys h = tt
-fits_first own x (r ∷ xs) ys h = (h.0, fits_first own (sight x r) xs ys h.1)
-
-fits_later : (own : List ℕ) (x : Sight) (xs ys : List EditStep) → FitsAll own x (xs ++ ys) → FitsAll own (sight_all x xs) ys
-fits_later own x [] ys h = h
-fits_later own x (r ∷ xs) ys h = fits_later own (sight x r) xs ys h.1
+fits_parts : (own : List ℕ) (x : Sight) (xs ys : List EditStep) → FitsAll own x (xs ++ ys) → FitsAll own x xs × FitsAll own (sight_all x xs) ys
+fits_parts own x [] ys h = (tt, h)
+fits_parts own x (r ∷ xs) ys h = let parts = fits_parts own (sight x r) xs ys h.1 in ((h.0, parts.0), parts.1)
 
 module _ (s : Setting) where
   -- what is asked for a turn leads as its steps do, and what is asked after it
@@ -217,22 +206,18 @@ module _ (s : Setting) where
       let made = (effect_at s k (Meets cmd)).steps in
       let next = (meeting k.modal cmd s k.value).next in
       let p = played_from s (Asks (Obeys next) (λ status. Ends status)) left in
-      let rest = steps_along s left p.asks in (
-        fits_first s.prompt x made rest fits,
-        tt,
-        command_along next left (sight_all x made) o more (fits_later s.prompt x made rest fits) (subst (λ z. LeadsAlong s o p.rest z more) (sight_both x made rest) leads),
-      )
+      let rest = steps_along s left p.asks in
+      let parts = fits_parts s.prompt x made rest fits in
+      (parts.0, tt, command_along next left (sight_all x made) o more parts.1 (subst (λ z. LeadsAlong s o p.rest z more) (sight_both x made rest) leads))
   phrase_along (Asks ask later) k x o more =
       let left = left_at s k (Keys ask) in
       let made = (effect_at s k (Keys ask)).steps in
       let next : Answer ask → PlayedOf s Status = λ y. played_from s (spoken s (later y)) left in
       played_each (Along k x o more) next (Keys ask) left
       (λ y fits leads.
-      let rest = steps_along s left (next y).asks in (
-        fits_first s.prompt x made rest fits,
-        tt,
-        phrase_along (later y) left (sight_all x made) o more (fits_later s.prompt x made rest fits) (subst (λ z. LeadsAlong s o (next y).rest z more) (sight_both x made rest) leads),
-      ))
+      let rest = steps_along s left (next y).asks in
+      let parts = fits_parts s.prompt x made rest fits in
+      (parts.0, tt, phrase_along (later y) left (sight_all x made) o more parts.1 (subst (λ z. LeadsAlong s o (next y).rest z more) (sight_both x made rest) leads)))
       (λ e fits leads. let h = alone left x o more made fits leads in (h.0, tt, h.1)) (answer_at s k (Keys ask))
 
   abbrev LedFrom : LineState → Sight → PlayedOf s (List ℕ) → Type 0

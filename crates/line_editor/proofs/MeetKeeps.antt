@@ -1,7 +1,7 @@
 -- What the edits of a search and of candidates keep is kept by whatever they make of a command.
 use Rattle.std.proofs.Common.{◌≡◌, ℕ, ◌-◌, ◌≤◌, ◌==◌, ◌&&◌, not, map, Bool, true, false, List, length, Option, Some, None, slice_get, is_some, refl, if◌then◌else◌}
 use Rattle.std.specs.Prelude.{nat_le, option_and_then}
-use Rattle.std.proofs.lemmas.Bool.{leb-true}
+use Rattle.std.proofs.lemmas.Bool.{leb-true, cond_both}
 use Rattle.line_buffer.specs.Insertions.{is_inside_char}
 use Rattle.line_buffer.specs.Line.{Line}
 use Rattle.line_config.specs.declared.settings.CompletionType.{CompletionType}
@@ -10,16 +10,16 @@ use Rattle.line_edits.specs.Edits.{update_group}
 use Rattle.line_help.specs.Completion.{Offered, Completion, unless_empty}
 use Rattle.line_help.specs.Search.{Hit}
 use Rattle.line_help.specs.declared.history.search.SearchDirection.{SearchDirection, TheVariants.Forward, TheVariants.Reverse}
-use Rattle.line_keys.specs.declared.command.Cmd.{Cmd, TheVariants.EndOfHistory, TheVariants.HistorySearchBackward, TheVariants.HistorySearchForward}
+use Rattle.line_keys.specs.declared.command.Cmd.{Cmd}
 use Rattle.line_record.specs.Held.{HeldItem}
 use Rattle.line_editor.specs.Candidates.{only_text, candidate_at, several, is_ambiguous, modal_after_offer, cycle_at, cycle_back, cycle_effect, modal_after_ask, offer_effect, list_shown, only_put}
-use Rattle.line_editor.specs.Completing.{begins_word, common_text_among, common_text, word_updated, complete_effect, candidates_given, candidates_asked, word_completed}
+use Rattle.line_editor.specs.Completing.{begins_word, common_text_among, word_updated, complete_effect, candidates_given, candidates_asked, word_completed}
 use Rattle.line_editor.specs.Drawing.{refresh_effect, beep_effect, effect_if}
 use Rattle.line_editor.specs.History.{leave_effect}
 use Rattle.line_editor.specs.ModalCommands.{meeting_effect, meeting_at_rest, meeting_anew, meeting_in, meeting_in_search, meeting_on, is_prefix, is_own, earlier, later, rises}
-use Rattle.line_editor.specs.Modal.{Modal, modal_at_rest, pass_meeting, takes, goes, wish_of}
-use Rattle.line_editor.specs.Searching.{modal_after_erase, looks_again, modal_with_char, search_for, onward, hit_undo_effect, put_hit_effect, is_place, place_effect, give_up_effect, hit_again, search_again_meeting, act_of, begin_search, modal_at_search_start}
-use Rattle.line_editor.specs.Values.{Value, Setting, Saved, no_effect, then_do, completion_reply, edit_effect, at_line, close_groups}
+use Rattle.line_editor.specs.Modal.{Modal, modal_at_rest, pass_meeting, takes, wish_of, Meeting}
+use Rattle.line_editor.specs.Searching.{modal_after_erase, looks_again, modal_with_char, search_for, onward, hit_undo_effect, put_hit_effect, is_place, place_effect, give_up_effect, hit_again, search_again_meeting, act_of}
+use Rattle.line_editor.specs.Values.{Value, Setting, Saved, then_do, completion_reply, edit_effect, at_line, close_groups, Transition}
 use Rattle.line_editor.specs.declared.modal_state.Act.{Act}
 use Rattle.line_editor.specs.declared.modal_state.Act.TheVariants.{Types, Erases, Goes, Leaves, Ends}
 use Rattle.line_editor.specs.declared.modal_state.Standing.{Standing}
@@ -53,6 +53,9 @@ begun_before start l inside o text is = by_order (nat_le start l.place) refl is
     by_order false h k = cc
 
 module _ (fact : Fact) (s : Setting) (k : KeptByEdits fact s) where
+  one_of : (b : Bool) (x y : Meeting) → Holds fact x.effect.value → Holds fact y.effect.value → Holds fact (if b then x else y).effect.value
+  one_of b x y h i = cond_both b x y (λ (m : Meeting). Holds fact m.effect.value) (λ e. h) (λ e. i)
+
   -- ---- a search
 
   back : (put : Bool) (v : Value) → Holds fact v → Holds fact (hit_undo_effect put s v).value
@@ -63,12 +66,10 @@ module _ (fact : Fact) (s : Setting) (k : KeptByEdits fact s) where
   entry_put put None v h = h
   entry_put put (Some hit) v h = k.put hit.entry hit.pos (hit_undo_effect put s v).value (back put v h)
 
-  placed_if : (b : Bool) (place : ℕ) (v : Value) → Holds fact v → Holds fact (at_line (if b then record v.line { place = place } else v.line) v)
-  placed_if true place v h = h
-  placed_if false place v h = h
-
   placed : (put : Bool) (place : ℕ) (v : Value) → Holds fact v → Holds fact (then_do (hit_undo_effect put) (place_effect place) s v).value
-  placed put place v h = let w = (hit_undo_effect put s v).value in placed_if (is_place place w.line) place w (back put v h)
+  placed put place v h =
+      let w = (hit_undo_effect put s v).value in
+      cond_both (is_place place w.line) (record w.line { place = place }) w.line (λ (l : Line). Holds fact (at_line l w)) (λ e. back put v h) (λ e. back put v h)
 
   given_up : (q : Modal) (v : Value) → Holds fact v → Holds fact (give_up_effect q s v).value
   given_up q v h = placed q.put q.place v h
@@ -77,92 +78,68 @@ module _ (fact : Fact) (s : Setting) (k : KeptByEdits fact s) where
   again true q v h = placed q.put q.place v h
   again false q v h = entry_put q.put (search_for q.query q.dir (Some q.start) s.entries) v h
 
-  begun : (empty : Bool) (dir : SearchDirection) (q : Modal) (cmd : Cmd) (v : Value) → Holds fact v → Holds fact (if empty then pass_meeting q cmd v else takes (begin_search dir q) (modal_at_search_start dir (length s.entries) v q) s v).effect.value
-  begun true dir q cmd v h = h
-  begun false dir q cmd v h = k.closed v h
-
   found_again : (hit : Option Hit) (q : Modal) (v : Value) → Holds fact v → Holds fact (search_again_meeting hit q s v).effect.value
   found_again None q v h = h
   found_again (Some hit) q v h = k.put hit.entry hit.pos (close_groups s v).value (k.closed v h)
 
-  -- ---- entries that begin with the line
-
-  risen : (some : Bool) (q : Modal) (v : Value) → Holds fact v → Holds fact (if some then goes leave_effect (record q { standing = Prefixes }) HistorySearchBackward s v else takes beep_effect q s v).effect.value
-  risen false q v h = h
-  risen true q v h = k.left v h
-
-  risen_if : (own : Bool) (q : Modal) (cmd : Cmd) (v : Value) → Holds fact v → Holds fact (if own then rises q s v else pass_meeting q cmd v).effect.value
-  risen_if true q cmd v h = risen (is_some (earlier s v)) q v h
-  risen_if false q cmd v h = h
-
-  fallen : (some : Bool) (q : Modal) (v : Value) → Holds fact v → Holds fact (if some then goes no_effect q HistorySearchForward s v else goes no_effect (modal_at_rest q) EndOfHistory s v).effect.value
-  fallen false q v h = h
-  fallen true q v h = h
+  -- an entry that begins with the line
+  risen : (q : Modal) (v : Value) → Holds fact v → Holds fact (rises q s v).effect.value
+  risen q v h = one_of (is_some (earlier s v)) _ _ (k.left v h) h
 
   -- ---- candidates
 
-  completed : (start : ℕ) (o : Option (List ℕ)) (v : Value) → ((text : List ℕ) → o ≡ Some text → start ≤ v.line.place) → Holds fact v → Holds fact (option_map_or (word_completed start) o beep_effect s v).value
-  completed start None v below h = h
-  completed start (Some text) v below h = k.completed start text v (below text refl) h
+  completed : (start : ℕ) (o : Option (List ℕ)) (rest : Transition) (v : Value) → ((text : List ℕ) → o ≡ Some text → start ≤ v.line.place) → Holds fact v → Holds fact (rest s v).value
+      → Holds fact (option_map_or (word_completed start) o rest s v).value
+  completed start None rest v below h rested = rested
+  completed start (Some text) rest v below h rested = k.completed start text v (below text refl) h
 
-  word_done : (o : Option (List ℕ)) (found : Completion) (v : Value) → Holds fact v → Holds fact (option_map_or (word_completed found.start) (if begins_word found.start v.line then o else None) beep_effect s v).value
-  word_done o found v h =
-      completed found.start (if begins_word found.start v.line then o else None) v (λ text is. begun_before found.start v.line (not (is_inside_char v.line.text found.start)) o text is) h
+  word_done : (o : Option (List ℕ)) (found : Completion) (rest : Transition) (v : Value) → Holds fact v → Holds fact (rest s v).value
+      → Holds fact (option_map_or (word_completed found.start) (if begins_word found.start v.line then o else None) rest s v).value
+  word_done o found rest v h rested =
+      completed found.start (if begins_word found.start v.line then o else None) rest v (λ text is. begun_before found.start v.line (not (is_inside_char v.line.text found.start)) o text is) h rested
 
   pub complete_keeps : (some : Bool) (v : Value) → Holds fact v → Holds fact (effect_if some (then_do candidates_asked (complete_effect (candidates_given (completion_reply s v)))) s v).value
   complete_keeps false v h = h
   complete_keeps true v h =
       let found = candidates_given (completion_reply s v) in
-      word_done (common_text_among (v.line.place - found.start) (map (λ o. o.replacement) found.candidates)) found v h
-
-  turned_if : (start : ℕ) (o : Option (List ℕ)) (v : Value) → ((text : List ℕ) → o ≡ Some text → start ≤ v.line.place) → Holds fact v → Holds fact (option_map_or (word_completed start) o (then_do refresh_effect beep_effect) s v).value
-  turned_if start None v below h = h
-  turned_if start (Some text) v below h = k.completed start text v (below text refl) h
+      word_done (common_text_among (v.line.place - found.start) (map (λ o. o.replacement) found.candidates)) found beep_effect v h h
 
   turned : (at : ℕ) (found : Completion) (v : Value) → Holds fact v → Holds fact (option_map_or (word_completed found.start) (candidate_at at found v.line) (then_do refresh_effect beep_effect) s v).value
-  turned at found v h =
-      turned_if found.start (candidate_at at found v.line) v (λ text is. begun_before found.start v.line (not (is_inside_char v.line.text found.start)) (option_and_then (λ (p : Offered). unless_empty p.replacement) (slice_get found.candidates at)) text is) h
-
-  listed : (lists : Bool) (o : Option (List ℕ)) (limit : ℕ) (found : Completion) (v : Value) → Holds fact v → Holds fact (option_map_or (word_completed found.start) o beep_effect s v).value → Holds fact (option_map_or (word_completed found.start) o (if lists then list_shown limit found.candidates else beep_effect) s v).value
-  listed true (Some text) limit found v h done = done
-  listed false (Some text) limit found v h done = done
-  listed true None limit found v h done = h
-  listed false None limit found v h done = h
+  turned at found v h = word_done (option_and_then (λ (p : Offered). unless_empty p.replacement) (slice_get found.candidates at)) found (then_do refresh_effect beep_effect) v h h
 
   several_offered : (kind : CompletionType) (lists : Bool) (q : Modal) (found : Completion) (v : Value) → Holds fact v → Holds fact (several kind lists q found s v).value
   several_offered completion_type.Circular lists q found v h = turned 0 found (close_groups s v).value (k.closed v h)
   several_offered completion_type.List lists q found v h =
-      listed lists (common_text found v.line) q.limit found v h (word_done (common_text_among (v.line.place - found.start) (map (λ o. o.replacement) found.candidates)) found v h)
+      word_done (common_text_among (v.line.place - found.start) (map (λ o. o.replacement) found.candidates)) found (if lists then list_shown q.limit found.candidates else beep_effect) v h
+      (cond_both lists (list_shown q.limit found.candidates) beep_effect (λ (rest : Transition). Holds fact (rest s v).value) (λ e. h) (λ e. h))
 
   offered : (ambiguous lists : Bool) (q : Modal) (found : Completion) (v : Value) → Holds fact v → Holds fact (if ambiguous then several q.completion_type lists q found s v else option_map_or (word_completed found.start) (only_put found v.line) beep_effect s v).value
-  offered false lists q found v h = word_done (only_text found.candidates) found v h
+  offered false lists q found v h = word_done (only_text found.candidates) found beep_effect v h h
   offered true lists q found v h = several_offered q.completion_type lists q found v h
 
   tabbed : (some lists : Bool) (q : Modal) (cmd : Cmd) (v : Value) → Holds fact v → (let found = candidates_given (completion_reply s v) in
       Holds fact (if some then takes (then_do candidates_asked (offer_effect lists q found)) (modal_after_offer lists found v.line q) s v else pass_meeting q cmd v).effect.value)
-  tabbed false lists q cmd v h = h
-  tabbed true lists q cmd v h = let found = candidates_given (completion_reply s v) in offered (is_ambiguous found v.line) lists q found v h
+  tabbed some lists q cmd v h = let found = candidates_given (completion_reply s v) in one_of some _ _ (offered (is_ambiguous found v.line) lists q found v h) h
 
   cycled : (some : Bool) (dir : SearchDirection) (q : Modal) (cmd : Cmd) (v : Value) → Holds fact v
       → Holds fact (if some then takes (cycle_effect dir q) (modal_after_ask dir q s (cycle_back q s v).value) s v else pass_meeting q cmd v).effect.value
-  cycled false dir q cmd v h = h
-  cycled true dir q cmd v h =
+  cycled some dir q cmd v h =
       let w = (then_do (hit_undo_effect q.put) (place_effect q.place) s v).value in
       let found = candidates_given (completion_reply s w) in
-      turned (cycle_at dir q.candidate (length found.candidates)) found w (placed q.put q.place v h)
+      one_of some _ _ (turned (cycle_at dir q.candidate (length found.candidates)) found w (placed q.put q.place v h)) h
 
   -- ---- any command that is met
 
   at_rest : (wish : Wish) (q : Modal) (cmd : Cmd) (v : Value) → Holds fact v → Holds fact (meeting_at_rest wish q cmd s v).effect.value
-  at_rest (Search dir) q cmd v h = begun (length s.entries == 0) dir q cmd v h
-  at_rest Up q cmd v h = risen_if (is_own s v && is_prefix v.line) q cmd v h
+  at_rest (Search dir) q cmd v h = one_of (length s.entries == 0) _ _ h (k.closed v h)
+  at_rest Up q cmd v h = one_of (is_own s v && is_prefix v.line) _ _ (risen q v h) h
   at_rest Tab q cmd v h = tabbed (is_some s.hooks) q.lists_at_once q cmd v h
   at_rest (Again way) q cmd v h = found_again (hit_again way q s v) q v h
   at_rest wish q cmd v h = h
 
   in_prefixes : (wish : Wish) (q : Modal) (cmd : Cmd) (v : Value) → Holds fact v → Holds fact (meeting_on Prefixes wish q cmd s v).effect.value
-  in_prefixes Up q cmd v h = risen (is_some (earlier s v)) q v h
-  in_prefixes Down q cmd v h = fallen (is_some (later s v)) q v h
+  in_prefixes Up q cmd v h = risen q v h
+  in_prefixes Down q cmd v h = one_of (is_some (later s v)) _ _ h h
   in_prefixes wish q cmd v h = at_rest wish (modal_at_rest q) cmd v h
 
   after_tab : (wish : Wish) (q : Modal) (cmd : Cmd) (v : Value) → Holds fact v → Holds fact (meeting_on Tabbed wish q cmd s v).effect.value

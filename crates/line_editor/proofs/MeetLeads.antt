@@ -15,7 +15,7 @@ use Rattle.line_editor.specs.Completing.{common_text, updates, word_updated, wor
 use Rattle.line_edits.specs.Edits.{update_group}
 use Rattle.line_editor.specs.Drawing.{draw_effect_behind, ask_anew_effect, refresh_effect, refresh_effect_behind, beep_effect}
 use Rattle.line_editor.specs.Redraws.{Redraw}
-use Rattle.line_editor.specs.ModalCommands.{meeting_at_rest, meeting_anew, meeting_in, sight_in_mode, modal_seen, meeting_in_search, meeting_on, is_prefix, is_own, earlier, later, rises}
+use Rattle.line_editor.specs.ModalCommands.{meeting_at_rest, meeting_anew, meeting_in, sight_in_mode, modal_seen, meeting_in_search, meeting_on, is_prefix, is_own, earlier, later}
 use Rattle.line_editor.specs.Modal.{Modal, Meeting, modal_first, modal_at_rest, pass_meeting, takes, goes, wish_of}
 use Rattle.line_editor.specs.History.{with_saved_line, leave_effect, save_effect}
 use Rattle.line_editor.specs.Searching.{search_prompt, modal_with_query, modal_after_erase, search_for, modal_after_look, onward, hit_undo_effect, put_hit_effect, search_drawn, modal_with_char, looks, looks_typed, looks_again, modal_with_empty_query, place_effect, modal_at_search_start, begin_search, hit_again, search_again_meeting, act_of}
@@ -31,13 +31,12 @@ use Rattle.line_editor.specs.declared.modal_state.Wish.TheVariants.{Search, Up, 
 use Rattle.line_editor.proofs.CommandsLead.{asks_lead}
 use Rattle.line_editor.proofs.LeadLemmas.{fits_both, sight_both, info_both, help_info}
 use Rattle.std.specs.Option.{option_map_or}
+use Rattle.std.proofs.lemmas.Bool.{cond_both}
 
 -- with the hint that was asked for
 pub hint_stands : (s : Setting) (v : Value) (given : Bool) (prompt : List ℕ) (info : Option (List ℕ)) → (let w = (ask_anew_effect s v).value in
     info_after (help_steps v (hint_reply s v) ++ (draw_effect_behind prompt given s w).steps) info ≡ shown_hint w)
-hint_stands s v given prompt info =
-    let w = (ask_anew_effect s v).value in
-    help_info v (hint_reply s v) (draw_effect_behind prompt given s w).steps info
+hint_stands s v given prompt info = help_info v (hint_reply s v) _ info
 
 -- ---- what is to be seen if none stands
 
@@ -82,19 +81,11 @@ after_step step own info x steps y shown none h = record { fits = (tt, h.fits); 
 
 behind_drawn : (prompt : List ℕ) (s : Setting) (v : Value) (info : Option (List ℕ)) (x : Sight) → (let e = refresh_effect_behind prompt s v in
     Drawn s.prompt info x e.steps (sight_with (shown_marks e.value s.marks) false prompt e.value.line.text e.value.line.place (shown_hint e.value)) (shown_hint e.value))
-behind_drawn prompt s v info x = record {
-  fits = (asks_lead (Prompted prompt) s v x).fits;
-  leads = (asks_lead (Prompted prompt) s v x).leads;
-  info_is = hint_stands s v false prompt info;
-}
+behind_drawn prompt s v info x = let l = asks_lead (Prompted prompt) s v x in record { fits = l.fits; leads = l.leads; info_is = hint_stands s v false prompt info }
 
 own_drawn : (s : Setting) (v : Value) (info : Option (List ℕ)) (x : Sight) → (let e = refresh_effect s v in
     Drawn s.prompt info x e.steps (sight_of s e.value (shown_hint e.value)) (shown_hint e.value))
-own_drawn s v info x = record {
-  fits = (asks_lead Line s v x).fits;
-  leads = (asks_lead Line s v x).leads;
-  info_is = hint_stands s v true s.prompt info;
-}
+own_drawn s v info x = let l = asks_lead Line s v x in record { fits = l.fits; leads = l.leads; info_is = hint_stands s v true s.prompt info }
 
 -- ---- a command that is met
 
@@ -198,14 +189,6 @@ risen_met : (some : Bool) (q : Modal) (s : Setting) (v : Value) (info : Option (
 risen_met false q s v info x own from = beeped_met q s v info x own from
 risen_met true q s v info x own from = saved_met (v.history == length s.entries) (record q { standing = Prefixes }) HistorySearchBackward s v info x refl from
 
-rises_met : (own : Bool) (q : Modal) (cmd : Cmd) (s : Setting) (v : Value) (info : Option (List ℕ)) (x : Sight) → shows_own q.standing ≡ true → x ≡ sight_of s v info → Met s info x (if own then rises q s v else pass_meeting q cmd v)
-rises_met true q cmd s v info x own from = risen_met (is_some (earlier s v)) q s v info x own from
-rises_met false q cmd s v info x own from = passes_met q cmd s v info x own from
-
-fallen_met : (some : Bool) (q : Modal) (s : Setting) (v : Value) (info : Option (List ℕ)) (x : Sight) → shows_own q.standing ≡ true → x ≡ sight_of s v info → Met s info x (if some then goes no_effect q HistorySearchForward s v else goes no_effect (modal_at_rest q) EndOfHistory s v)
-fallen_met false q s v info x own from = passes_met (modal_at_rest q) EndOfHistory s v info x refl from
-fallen_met true q s v info x own from = passes_met q HistorySearchForward s v info x own from
-
 -- ---- candidates
 
 -- the helper is called before it
@@ -267,9 +250,7 @@ only_met start (Some text) q s v info x own from = own_met s info x (takes (word
 -- the common prefix, a list, or a beep
 listed_met : (lists : Bool) (text : Option (List ℕ)) (found : Completion) (q : Modal) (s : Setting) (v : Value) (info : Option (List ℕ)) (x : Sight) → x ≡ sight_of s v info
     → Met s info x (takes (option_map_or (word_completed found.start) text (if lists then list_shown q.limit found.candidates else beep_effect)) (record q { standing = option_map_or (λ text. Tabbed) text (if lists then Lists else Tabbed) }) s v)
-listed_met true (Some text) found q s v info x from =
-    own_met s info x (takes (word_completed found.start text) (record q { standing = Tabbed }) s v) _ (word_drawn found.start text s v info x) refl
-listed_met false (Some text) found q s v info x from =
+listed_met lists (Some text) found q s v info x from =
     own_met s info x (takes (word_completed found.start text) (record q { standing = Tabbed }) s v) _ (word_drawn found.start text s v info x) refl
 listed_met true None found q s v info x from = record { fits = (tt, ((λ e. refl), tt)); leads = refl; next = inl refl }
 listed_met false None found q s v info x from = beeped_met (record q { standing = Tabbed }) s v info x refl from
@@ -295,20 +276,15 @@ tab_met true lists q cmd s v info x own from =
     asked_met v (completion_reply s v) s info x (takes (offer_effect lists q found) (modal_after_offer lists found v.line q) s v) (offered_met (is_ambiguous found v.line) lists found q s v info x from)
 
 -- the next candidate, from any sight
+asks_drawn : (dir : SearchDirection) (q : Modal) (s : Setting) (w : Value) (info : Option (List ℕ)) (x : Sight) → (let e = ask_and_turn_effect dir q s w in Drawn s.prompt info x e.steps (sight_of s e.value (shown_hint e.value)) (shown_hint e.value))
+asks_drawn dir q s w info x =
+    let found = candidates_given (completion_reply s w) in
+    asked_drawn w (completion_reply s w) s.prompt info x _ _ _ (turned_drawn found.start (candidate_at (cycle_at dir q.candidate (length found.candidates)) found w.line) s w info x)
+
 next_drawn : (dir : SearchDirection) (put : Bool) (q : Modal) (s : Setting) (v : Value) (info : Option (List ℕ)) (x : Sight) → (let e = then_do (then_do (hit_undo_effect put) (place_effect q.place)) (ask_and_turn_effect dir q) s v in
     Drawn s.prompt info x e.steps (sight_of s e.value (shown_hint e.value)) (shown_hint e.value))
-next_drawn dir put q s v info x = by put
-  where
-    on : (w : Value) → (let e = ask_and_turn_effect dir q s w in Drawn s.prompt info x e.steps (sight_of s e.value (shown_hint e.value)) (shown_hint e.value))
-    on w =
-        let found = candidates_given (completion_reply s w) in
-        let at = cycle_at dir q.candidate (length found.candidates) in
-        asked_drawn w (completion_reply s w) s.prompt info x _ _ _ (turned_drawn found.start (candidate_at at found w.line) s w info x)
-
-    by : (put : Bool) → (let e = then_do (then_do (hit_undo_effect put) (place_effect q.place)) (ask_and_turn_effect dir q) s v in
-        Drawn s.prompt info x e.steps (sight_of s e.value (shown_hint e.value)) (shown_hint e.value))
-    by true = after_step (TakesBack v 1) s.prompt info x _ _ _ refl (on (then_do (hit_undo_effect true) (place_effect q.place) s v).value)
-    by false = on (then_do (hit_undo_effect false) (place_effect q.place) s v).value
+next_drawn dir true q s v info x = after_step (TakesBack v 1) s.prompt info x _ _ _ refl (asks_drawn dir q s (then_do (hit_undo_effect true) (place_effect q.place) s v).value info x)
+next_drawn dir false q s v info x = asks_drawn dir q s (place_effect q.place s v).value info x
 
 cycle_met : (some : Bool) (dir : SearchDirection) (q : Modal) (cmd : Cmd) (s : Setting) (v : Value) (info : Option (List ℕ)) (x : Sight) → shows_own q.standing ≡ true → x ≡ sight_of s v info
     → Met s info x (if some then takes (cycle_effect dir q) (modal_after_ask dir q s (cycle_back q s v).value) s v else pass_meeting q cmd v)
@@ -328,14 +304,16 @@ again_found_met (Some hit) q s v info x own from =
 
 resting_met : (wish : Wish) (q : Modal) (cmd : Cmd) (s : Setting) (v : Value) (info : Option (List ℕ)) (x : Sight) → shows_own q.standing ≡ true → x ≡ sight_of s v info → Met s info x (meeting_at_rest wish q cmd s v)
 resting_met (Search dir) q cmd s v info x own from = begun_met (length s.entries == 0) dir q cmd s v info x own from
-resting_met Up q cmd s v info x own from = rises_met (is_own s v && is_prefix v.line) q cmd s v info x own from
+resting_met Up q cmd s v info x own from =
+    cond_both (is_own s v && is_prefix v.line) _ _ (Met s info x) (λ e. risen_met (is_some (earlier s v)) q s v info x own from) (λ e. passes_met q cmd s v info x own from)
 resting_met Tab q cmd s v info x own from = tab_met (is_some s.hooks) q.lists_at_once q cmd s v info x own from
 resting_met (Again way) q cmd s v info x own from = again_found_met (hit_again way q s v) q s v info x own from
 resting_met wish q cmd s v info x own from = passes_met q cmd s v info x own from
 
 prefixes_met : (wish : Wish) (q : Modal) (cmd : Cmd) (s : Setting) (v : Value) (info : Option (List ℕ)) (x : Sight) → shows_own q.standing ≡ true → x ≡ sight_of s v info → Met s info x (meeting_on Prefixes wish q cmd s v)
 prefixes_met Up q cmd s v info x own from = risen_met (is_some (earlier s v)) q s v info x own from
-prefixes_met Down q cmd s v info x own from = fallen_met (is_some (later s v)) q s v info x own from
+prefixes_met Down q cmd s v info x own from = cond_both (is_some (later s v)) (goes no_effect q HistorySearchForward s v) (goes no_effect (modal_at_rest q) EndOfHistory s v) (Met s info x)
+    (λ e. passes_met q HistorySearchForward s v info x own from) (λ e. passes_met (modal_at_rest q) EndOfHistory s v info x refl from)
 prefixes_met wish q cmd s v info x own from = resting_met wish (modal_at_rest q) cmd s v info x refl from
 
 tabbed_met : (wish : Wish) (q : Modal) (cmd : Cmd) (s : Setting) (v : Value) (info : Option (List ℕ)) (x : Sight) → shows_own q.standing ≡ true → x ≡ sight_of s v info → Met s info x (meeting_on Tabbed wish q cmd s v)

@@ -41,15 +41,9 @@ module _ {Out H Hi K T : Type 0} {renderer : renderers.Renderer.Ghosts Out} {com
       → value_of t ≡ record (value_of s) { line = t.recorded.line; held = record_on t.recorded.changes t.recorded.line.text }
       → surface_of t ≡ surface_of s → Stays s t → Does (hit_undo_effect put) s t result
   back_refused {A} put s t result stands is part left same stays =
-      subst (λ b. Does {A = A} (hit_undo_effect b) s t result) (sym stands) (subst (λ (r : Result A ReadlineError). Does {A = A} (hit_undo_effect true) s t r) (sym (is_err Memory result is)) (record {
-        value = tt;
-        calls = tt;
-        layout = tt;
-        stays = stays;
-        reason = tt;
-        stops = stops_taking_back renderer.canvas (renderer.canvas.ruler s.out) (value_of s) 1 [] (surface_of s) (surface_of t) Memory (value_of t) refl same
-            (undone_partly 1 s t part left);
-      }))
+      subst (λ b. Does {A = A} (hit_undo_effect b) s t result) (sym stands) (subst (λ (r : Result A ReadlineError). Does {A = A} (hit_undo_effect true) s t r) (sym (is_err Memory result is))
+      (does_refused (hit_undo_effect true) s t Memory stays tt
+      (stops_taking_back renderer.canvas (renderer.canvas.ruler s.out) (value_of s) 1 [] (surface_of s) (surface_of t) Memory (value_of t) refl same (undone_partly 1 s t part left))))
 
   -- memory ran out before anything was done
   pub unmade : {A : Type 0} (second : Transition) (s : State Out H Hi K T renderer completer candidate hinter hint highlighter validator history) (result : Result A ReadlineError)

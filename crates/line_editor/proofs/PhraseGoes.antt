@@ -8,14 +8,14 @@ use Rattle.line_help.specs.declared.helpers.hint as hints
 use Rattle.line_help.specs.declared.helpers.highlight as highlights
 use Rattle.line_help.specs.declared.helpers.validate as verdicts
 use Rattle.line_help.specs.declared.history as histories
-use Rattle.script.specs.Scripts.{Ends, Asks, World, Goes}
+use Rattle.script.specs.Scripts.{Ends, Asks, Goes}
 use Rattle.line_keys.specs.KeyFeeds.{behind}
 use Rattle.line_keys.specs.InputStates.{key_world, Stage as KeyStage}
 use Rattle.line_keys.specs.PhraseScripts.{KeyScript, Needs, Shows, Reads, Becomes, Refuses}
 use Rattle.line_record.specs.Ring.{Ring}
 use Rattle.line_editor.specs.Drawing.{shown_in, ask_effect}
-use Rattle.line_editor.specs.RenderCalls.{Canvas, Ruler, MadeIn}
-use Rattle.line_editor.specs.LineScripts.{LineAsk, LineAnswer, LineScript, script_of_keys, line_state, LineStage, Answered, Stopped, line_world}
+use Rattle.line_editor.specs.RenderCalls.{Ruler, MadeIn}
+use Rattle.line_editor.specs.LineScripts.{LineScript, script_of_keys, line_state, LineStage, line_world}
 use Rattle.line_editor.specs.Modal.{Modal}
 use Rattle.line_editor.specs.States.{value_of, setting_of, surface_of, display_of, Stays, Does, stage_of, world_of}
 use Rattle.line_editor.specs.EditSteps.{calls_of_steps, CutEditSteps, CallsMade}
@@ -24,25 +24,6 @@ use Rattle.line_editor.specs.declared.renderer as renderers
 use Rattle.line_editor.specs.declared.state.State.{State}
 use Rattle.line_editor.proofs.DoesLemmas.{setting_stays, stays_both}
 use Rattle.line_editor.proofs.StopsLemmas.{stops_taking}
-
--- ---- one ask alone, and before others
-
-module _ {R : Type 0} (canvas : Canvas R) (r : Ruler) (s : Setting) where
-  abbrev w : World LineAsk LineAnswer (LineStage R) ReadlineError
-  w = line_world canvas r s
-
-  -- answered or failed as its own answer says, before what its answer leads to
-  pub answered_goes : {X : Type 0} (ask : LineAsk) (later : LineAnswer ask → LineScript X) (x : LineStage R) (y : LineStage R) (z : LineStage R) (a : LineAnswer ask) (result : Result X ReadlineError)
-      → Answered canvas r s x ask (Ok a) y → Goes w (later a) y result z → Goes w (Asks ask later) x result z
-  answered_goes ask later x y z a result made goes = inl (a, y, made, goes)
-
-  pub refused_goes : {X : Type 0} (ask : LineAsk) (later : LineAnswer ask → LineScript X) (x y : LineStage R) (e : ReadlineError) (result : Result X ReadlineError)
-      → result ≡ Err e → Answered canvas r s x ask (Err e) y → Goes w (Asks ask later) x result y
-  refused_goes ask later x y e result is made = inr (e, inl made, is)
-
-  pub stopped_goes : {X : Type 0} (ask : LineAsk) (later : LineAnswer ask → LineScript X) (x y : LineStage R) (e : ReadlineError) (result : Result X ReadlineError)
-      → result ≡ Err e → Stopped canvas r s x ask e y → Goes w (Asks ask later) x result y
-  stopped_goes ask later x y e result is stop = inr (e, inr stop, is)
 
 module _ {Out H Hi K T : Type 0} {renderer : renderers.Renderer.Ghosts Out} {completer : completions.Completer.Ghosts H K} {candidate : completions.Candidate.Ghosts K}
     {hinter : hints.Hinter.Ghosts H T} {hint : hints.Hint.Ghosts T} {highlighter : highlights.Highlighter.Ghosts H} {validator : verdicts.Validator.Ghosts H} {history : histories.History.Ghosts Hi} where

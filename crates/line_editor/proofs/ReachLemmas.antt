@@ -1,22 +1,17 @@
 -- Events, marks and undos leave a record that reaches the same text.
-use Rattle.std.proofs.Common.{◌≡◌, ℕ, zero, suc, Bool, true, false, List, [], ◌∷◌, drop, Option, Some, None, refl, sym, subst, if◌then◌else◌, IsUtf8, IsCharBoundary}
+use Rattle.std.proofs.Common.{◌≡◌, ℕ, zero, suc, Bool, true, false, List, [], ◌∷◌, drop, Option, Some, None, refl, sym, subst, if◌then◌else◌}
 use Rattle.std.specs.Prelude.{option_map, unwrap_or}
 use Rattle.line_buffer.specs.Event.{ChangeEvent, text_after_event, text_after_events}
-use Rattle.line_buffer.specs.Indent.{indent as indented_in}
-use Rattle.line_buffer.specs.Insertions.{update as updated_in, insert as insertion, yank as yanked_in}
+use Rattle.line_buffer.specs.Insertions.{update as updated_in, insert as insertion}
 use Rattle.line_buffer.specs.Line.{Line}
-use Rattle.line_buffer.specs.Range.{kill_events, kill as killed_in}
-use Rattle.line_buffer.specs.Transpositions.{transpose_chars as transposed_in}
-use Rattle.line_buffer.specs.declared.types.Movement.{Movement}
-use Rattle.line_buffer.proofs.ReplayedLemmas.{update_replayed, insert_replayed, yank_replayed, indent_replayed}
-use Rattle.line_buffer.proofs.SpanLemmas as spans
-use Rattle.line_edits.specs.Edits.{by, char_steps, yank_steps, update_steps, kill_steps, indent_steps}
+use Rattle.line_buffer.proofs.ReplayedLemmas.{update_replayed, insert_replayed}
+use Rattle.line_edits.specs.Edits.{by, char_steps, update_steps}
 use Rattle.line_record.specs.Change.{Change}
 use Rattle.line_record.specs.Held.{HeldItem, change_of, join_of, step_of, has_mark, closes, group_with_change, record_after_close, line_back, HeldItem.Opened, HeldItem.Stepped}
 use Rattle.line_record.specs.RecordCourse.{record_after_events}
 use Rattle.line_record.proofs.GroupLaws.{unchanged}
 use Rattle.line_editor.specs.Leads.{Reaches}
-use Rattle.line_edits.specs.WriteSteps.{steps_of_edit, Written, after_edit, group_opened, group_closed}
+use Rattle.line_edits.specs.WriteSteps.{Written, after_edit, group_opened, group_closed}
 use Rattle.line_record.proofs.StepLemmas.{steps_with_change, steps_with_change_if}
 
 on_reaches : (o : Option Change) (c d : Change) (place : ℕ) (first text after earlier : List ℕ) (held : List HeldItem) → Reaches first held earlier
@@ -98,21 +93,5 @@ group_reaches edit w first h r = ended_reaches first (edit (group_opened w)).hel
 pub typing_reaches : (c n : ℕ) (w : Written) (first : List ℕ) → Reaches first w.held w.line.text → Reaches first (by (char_steps c n) w).held (by (char_steps c n) w).line.text
 typing_reaches c n w first r = edit_reaches (insertion c n w.line).events (insertion c n w.line).line w first (sym (insert_replayed c n w.line)) r
 
-pub yanking_reaches : (text : List ℕ) (n : ℕ) (w : Written) (first : List ℕ) → Reaches first w.held w.line.text → Reaches first (by (yank_steps text n) w).held (by (yank_steps text n) w).line.text
-yanking_reaches text n w first r = edit_reaches (yanked_in text n w.line).events (yanked_in text n w.line).line w first (sym (yank_replayed text n w.line)) r
-
 pub updating_reaches : (text : List ℕ) (place : ℕ) (w : Written) (first : List ℕ) → Reaches first w.held w.line.text → Reaches first (by (update_steps text place) w).held (by (update_steps text place) w).line.text
 updating_reaches text place w first r = edit_reaches (updated_in text 0 w.line).events (updated_in text place w.line).line w first (sym (update_replayed text w.line)) r
-
-pub indenting_reaches : (movement : Movement) (amount : ℕ) (dedent : Bool) (w : Written) (first : List ℕ) → Reaches first w.held w.line.text
-    → Reaches first (by (indent_steps movement amount dedent) w).held (by (indent_steps movement amount dedent) w).line.text
-indenting_reaches movement amount dedent w first r =
-    edit_reaches (indented_in movement amount dedent w.line).events (indented_in movement amount dedent w.line).line w first (sym (indent_replayed movement amount dedent w.line)) r
-
-pub killing_reaches : (movement : Movement) (w : Written) (first : List ℕ) → IsUtf8 w.line.text → IsCharBoundary w.line.text w.line.place → Reaches first w.held w.line.text
-    → Reaches first (by (kill_steps movement) w).held (by (kill_steps movement) w).line.text
-killing_reaches movement w first u b r = edit_reaches (kill_events movement w.line) (killed_in movement w.line).line w first (sym (spans.kill_replays w.line u b movement)) r
-
-pub transposing_reaches : (w : Written) (first : List ℕ) → IsUtf8 w.line.text → IsCharBoundary w.line.text w.line.place → Reaches first w.held w.line.text
-    → Reaches first (by (λ l. steps_of_edit (transposed_in l)) w).held (by (λ l. steps_of_edit (transposed_in l)) w).line.text
-transposing_reaches w first u b r = edit_reaches (transposed_in w.line).events (transposed_in w.line).line w first (sym (spans.transpose_chars_replays w.line u b)) r

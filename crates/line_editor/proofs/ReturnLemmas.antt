@@ -1,9 +1,9 @@
 -- Coming back to the history's end gives the line that was left there.
-use Rattle.std.proofs.Common.{◌≡◌, ℕ, ◌+◌, ◌-◌, ◌==◌, ◌||◌, ◌<◌, ◌≤◌, min, max, Bool, true, false, List, [], ◌∷◌, length, Option, Some, None, is_some, refl, sym, ap, ◌∙◌, subst, arith, if◌then◌else◌, ◌≢◌}
+use Rattle.std.proofs.Common.{◌≡◌, ℕ, ◌+◌, ◌-◌, ◌==◌, ◌<◌, ◌≤◌, min, max, Bool, true, false, List, [], ◌∷◌, length, Option, Some, None, is_some, refl, sym, ap, ◌∙◌, subst, arith, if◌then◌else◌, ◌≢◌}
 use Rattle.std.specs.Prelude.{fold}
-use Rattle.std.proofs.lemmas.Bool.{eqb-false, cond-true, cond-false, eq-eqb, ne_eqb}
+use Rattle.std.proofs.lemmas.Bool.{eqb-false, cond-true, cond-false, eq-eqb, ne_eqb, cond_both}
 use Rattle.line_buffer.specs.Columns.{line_up, line_down}
-use Rattle.line_buffer.specs.Insertions.{text_that_fits}
+use Rattle.line_buffer.specs.Insertions.{text_that_fits, without_before}
 use Rattle.line_buffer.specs.Clusters.{place_forward}
 use Rattle.line_buffer.specs.Range.{range_of}
 use Rattle.line_buffer.specs.declared.types.Movement.TheVariants.{ForwardChar}
@@ -18,13 +18,17 @@ use Rattle.line_record.specs.Held.{has_step}
 use Rattle.line_editor.specs.Drawing.{ask_effect}
 use Rattle.line_editor.specs.Commands.{Means, effect}
 use Rattle.line_editor.specs.Moving.{to_found}
-use Rattle.line_editor.specs.History.{with_saved_line, recall, come_back_effect as back_at_end, history_step, history_end, leave_effect, save_effect}
+use Rattle.line_editor.specs.History.{with_saved_line, recall, come_back_effect as back_at_end, history_step, leave_effect, save_effect}
 use Rattle.line_editor.specs.Returns.{ValueStep, value_after, searches, ComesBack, Along, ValueStep.Done, ValueStep.Asked, ValueStep.Met}
 use Rattle.line_editor.specs.ModalCommands.{meeting_effect}
 use Rattle.line_editor.specs.Values.{Value, Setting, Effect, Saved, line_and_record_of, no_effect}
 use Rattle.line_editor.proofs.CommandKeeps.{KeptByCommands, either_holds, found_holds, command_keeps}
 use Rattle.line_editor.proofs.MeetKeeps.{Fact, Holds, KeptByEdits, meeting_keeps}
-use Rattle.line_editor.proofs.GrowthLemmas.{insert_grows, yank_grows, pop_grows, deletion_grows, kill_grows, indent_grows, word_grows, chars_grow, words_grow, over_grows, back_grows}
+use Rattle.line_editor.proofs.GrowthLemmas.{insert_grows, yank_grows, deletion_grows, over_grows, back_grows, either_line, recase_grows, carried_grows}
+use Rattle.std.proofs.lemmas.Bool.Decides.{nat_tests}
+use Rattle.line_buffer.specs.Transpositions.{transposes_chars, transposes_words}
+use Rattle.line_buffer.specs.LetterCase.{word_to_edit}
+use Rattle.line_buffer.specs.Indent.{indent as indented_in}
 
 -- ---- what keeps the place and the saved line, and whether the line may grow
 
@@ -60,33 +64,23 @@ recall_held place None s text at v below held away = held
 recall_held place (Some hit) s text at v below held away = record { saved = (λ h. held.saved away); line = (λ there. absurd (omega (arith, there, below))); grows = held.grows }
 
 -- the saved line, in a line that may grow
-update_whole : (b c : Bool) (text other : List ℕ) → b ≡ true → (if b || c then text else other) ≡ text
-update_whole true c text other h = refl
-update_whole false c text other h = cc
-
-min_within : (a b : ℕ) → a ≤ b → min a b ≡ a
-min_within a b h = omega (arith, h)
-
 back_held : (s : Setting) (text : List ℕ) (at : ℕ) (v : Value) → at ≤ length text → v.saved ≡ record { text = text; place = at } → v.line.growth ≡ true → Held s text at (back_at_end s v).value
 back_held s text at v inside saved grows =
-    let whole : text_that_fits v.saved.text v.line ≡ v.saved.text = update_whole v.line.growth _ v.saved.text _ grows in
+    let whole : text_that_fits v.saved.text v.line ≡ v.saved.text = rw grows in
+    let within : min at (length text) ≡ at = omega (arith, inside) in
     record {
       saved = (λ h. absurd (omega (arith, h)));
       line = (λ there. (
         whole ∙ ap (λ (x : Saved). x.text) saved,
-        ap (λ t. min v.saved.place (length t)) whole ∙ ap (λ (x : Saved). min x.place (length x.text)) saved ∙ min_within at (length text) inside,
+        ap (λ t. min v.saved.place (length t)) whole ∙ ap (λ (x : Saved). min x.place (length x.text)) saved ∙ within,
       ));
       grows = grows;
     }
 
 either_held : (s : Setting) (text : List ℕ) (at : ℕ) (b : Bool) (e f : Effect) → (b ≡ true → Held s text at e.value) → (b ≡ false → Held s text at f.value) → Held s text at (if b then e else f).value
-either_held s text at true e f h k = h refl
-either_held s text at false e f h k = k refl
+either_held s text at b e f h k = cond_both b e f (λ (x : Effect). Held s text at x.value) h k
 
 -- ---- the history's commands, away from its end
-
-next_below : (a b : ℕ) → a < b → (a + 1 == b) ≡ false → a + 1 < b
-next_below a b h e = let other : a + 1 ≢ b = eqb-false (a + 1) b e in omega (arith, h, other)
 
 -- away from the history's end no line is saved
 stays_away : (s : Setting) (v : Value) → Away s v → (leave_effect s v).value ≡ v
@@ -101,18 +95,11 @@ left_held place o s text at v below h away =
 previous_held : (s : Setting) (text : List ℕ) (at : ℕ) (v : Value) → Held s text at v → Away s v → Held s text at (history_step true s v).value
 previous_held s text at v h away = either_held s text at (v.history == 0) _ _ (λ e. h) (λ e. left_held (v.history - 1) _ s text at v (omega (arith, away)) h away)
 
-first_held : (s : Setting) (text : List ℕ) (at : ℕ) (v : Value) → Held s text at v → Away s v → Held s text at (history_end true s v).value
-first_held s text at v h away = either_held s text at (v.history == 0) _ _ (λ e. h) (λ e. left_held 0 _ s text at v (omega (arith, away)) h away)
-
 next_held : (s : Setting) (text : List ℕ) (at : ℕ) (v : Value) → at ≤ length text → Held s text at v → Away s v → Held s text at (history_step false s v).value
 next_held s text at v inside h away =
     either_held s text at (v.history == length s.entries) _ _ (λ e. h) (λ e.
     either_held s text at (v.history + 1 == length s.entries) _ _ (λ e. back_held s text at v inside (h.saved away) h.grows)
-    (λ e. recall_held (v.history + 1) _ s text at v (next_below v.history (length s.entries) away e) h away))
-
-last_held : (s : Setting) (text : List ℕ) (at : ℕ) (v : Value) → at ≤ length text → Held s text at v → Away s v → Held s text at (history_end false s v).value
-last_held s text at v inside h away =
-    either_held s text at (v.history == length s.entries) _ _ (λ e. h) (λ e. back_held s text at v inside (h.saved away) h.grows)
+    (λ e. recall_held (v.history + 1) _ s text at v (grind (arith, nat_tests, away, e)) h away))
 
 -- ---- what other commands keep
 
@@ -130,14 +117,14 @@ command_alike_kept s v = record {
   typed = λ c n w h. (h.0, h.1, insert_grows c n w.line ∙ h.2);
   inserted = λ text w h. h;
   yanked = λ text n w h. (h.0, h.1, yank_grows text n w.line ∙ h.2);
-  popped = λ size text w ok h. (h.0, h.1, pop_grows size text w.line ∙ h.2);
-  killed = λ m w ok h. (h.0, h.1, kill_grows m w.line ∙ h.2);
+  popped = λ size text w ok h. (h.0, h.1, yank_grows text 1 (without_before size w.line) ∙ h.2);
+  killed = λ m w ok h. (h.0, h.1, deletion_grows (range_of m w.line) w.line ∙ h.2);
   replaced = λ c n w ok h. (h.0, h.1, exchange_grows c n w ∙ h.2);
   overwritten = λ c w ok h. (h.0, h.1, over_grows c (place_forward 1 w.line) (line_and_record_of w) ∙ h.2);
-  transposed = λ w ok h. (h.0, h.1, chars_grow w.line ∙ h.2);
-  swapped = λ n w ok h. (h.0, h.1, words_grow n w.line ∙ h.2);
-  recased = λ action w ok h. (h.0, h.1, word_grows action w.line ∙ h.2);
-  indented = λ m amount dedent w h. (h.0, h.1, indent_grows m amount dedent w.line ∙ h.2);
+  transposed = λ w ok h. (h.0, h.1, either_line w.line.growth (transposes_chars w.line) _ _ refl refl ∙ h.2);
+  swapped = λ n w ok h. (h.0, h.1, either_line w.line.growth (transposes_words n w.line) _ _ refl refl ∙ h.2);
+  recased = λ action w ok h. (h.0, h.1, recase_grows action (word_to_edit w.line) w.line ∙ h.2);
+  indented = λ m amount dedent w h. (h.0, h.1, carried_grows (indented_in m amount dedent w.line).events w.line ∙ h.2);
   grouped = λ w h. h;
   undone = λ n w h. either_holds (alike v) (has_step (max n 1) w.held) _ _ (h.0, h.1, back_grows (max n 1) w.held w.line ∙ h.2) h;
 }
@@ -146,9 +133,10 @@ command_alike_kept s v = record {
 
 command_held : (m : Means) (cmd : Cmd) (s : Setting) (text : List ℕ) (at : ℕ) (v : Value) → searches (Done m cmd) ≡ false → at ≤ length text → Held s text at v → Away s v → Held s text at (effect m cmd s v).value
 command_held m PreviousHistory s text at v quiet inside h away = previous_held s text at v h away
-command_held m BeginningOfHistory s text at v quiet inside h away = first_held s text at v h away
+command_held m BeginningOfHistory s text at v quiet inside h away = either_held s text at (v.history == 0) _ _ (λ e. h) (λ e. left_held 0 _ s text at v (omega (arith, away)) h away)
 command_held m NextHistory s text at v quiet inside h away = next_held s text at v inside h away
-command_held m EndOfHistory s text at v quiet inside h away = last_held s text at v inside h away
+command_held m EndOfHistory s text at v quiet inside h away =
+    either_held s text at (v.history == length s.entries) _ _ (λ e. h) (λ e. back_held s text at v inside (h.saved away) h.grows)
 command_held m HistorySearchBackward s text at v quiet inside h away = cc
 command_held m HistorySearchForward s text at v quiet inside h away = cc
 command_held m (LineUpOrPreviousHistory n) s text at v quiet inside h away =

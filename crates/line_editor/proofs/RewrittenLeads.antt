@@ -1,8 +1,8 @@
 -- Characters that are replaced by as many lead from what is to be seen of the value before to the same of the value after.
-use Rattle.std.proofs.Common.{◌≡◌, ℕ, ◌+◌, ◌-◌, nat_le, Bool, true, false, ◌&&◌, List, [], ◌∷◌, ◌++◌, take, drop, length, refl, sym, ap, ◌∙◌, append_assoc, arith, if◌then◌else◌}
+use Rattle.std.proofs.Common.{◌≡◌, ℕ, ◌+◌, ◌-◌, nat_le, true, ◌&&◌, List, [], ◌∷◌, ◌++◌, take, drop, length, refl, sym, ap, ◌∙◌, append_assoc, arith}
 use Rattle.std.specs.Prelude.{slice_range}
 use Rattle.std.specs.List.{list_all, replace_range}
-use Rattle.std.proofs.lemmas.Bool.{and_parts, leb-true, cond-false}
+use Rattle.std.proofs.lemmas.Bool.{and_parts, leb-true, cond-false, cond_both}
 use Rattle.std.proofs.lemmas.List.{take-append-drop, length-take-le}
 use Rattle.std.proofs.lemmas.List.Folds.{drop_split}
 use Rattle.unicode_segmentation.proofs.TextLemmas.{length-slice_range}
@@ -11,7 +11,7 @@ use Rattle.line_buffer.specs.Printable.{is_printable, is_plain}
 use Rattle.line_buffer.specs.Transpositions.{transposes_chars, transpose_chars as transposed_in}
 use Rattle.line_edits.specs.Edits.{transpose_chars_group, by}
 use Rattle.line_edits.specs.WriteSteps.{with_answer}
-use Rattle.line_editor.specs.Drawing.{redraw_of, ask_anew_effect, effect_if}
+use Rattle.line_editor.specs.Drawing.{ask_anew_effect, effect_if}
 use Rattle.line_editor.specs.Inserting.{is_bare}
 use Rattle.line_editor.specs.Leads.{Leads}
 use Rattle.line_editor.specs.Redraws.Redraw.{Rewritten}
@@ -20,6 +20,8 @@ use Rattle.line_editor.specs.Values.{Value, Setting, no_effect, hint_reply, valu
 use Rattle.line_editor.specs.Values.EditStep.{Draws}
 use Rattle.line_editor.proofs.LeadLemmas.{either, bare_styles, edit_leads, help_leads, rest_leads, whole_leads}
 use Rattle.line_editor.proofs.TransposedLemmas.{exchanged}
+use Rattle.line_editor.specs.Sights.{Replaces, sight_of}
+use Rattle.line_editor.specs.Redraws.{Redraw}
 
 -- letters in a part of the text, replaced by as many
 module _ (s : Setting) (v w : Value) (from upto : ℕ) (letters : List ℕ) (text : w.line.text ≡ replace_range v.line.text from upto letters) (size : upto ≡ from + length letters)
@@ -35,31 +37,17 @@ module _ (s : Setting) (v w : Value) (from upto : ℕ) (letters : List ℕ) (tex
       let low = leb-true upto (length old) e.0 in
       let front : length (take from old) ≡ from = length-take-le from old (omega arith) in
       let count : length gone ≡ upto - from = length-slice_range old from upto low in
-      record {
-        fits = (
-          (
-            bare_styles s v w info b.0 (and_parts (is_bare w) _ has).0,
-            (
-              gone,
-              letters,
-              record {
-                before = take from old;
-                rest = drop upto old;
-                whole = sym (take-append-drop from old) ∙ ap (λ x. take from old ++ x) (drop_split old from upto (omega arith));
-                text_is = text ∙ append_assoc (take from old) letters (drop upto old);
-                from_is = sym front;
-                plain = d.0;
-                gone_printable = e.1;
-                printable = printable e.1;
-              },
-              omega arith,
-              omega arith,
-            ),
-          ),
-          tt,
-        );
-        leads = refl;
-      }
+      let seen : Replaces (sight_of s v info) from gone letters w.line.text = record {
+        before = take from old;
+        rest = drop upto old;
+        whole = sym (take-append-drop from old) ∙ ap (λ x. take from old ++ x) (drop_split old from upto (omega arith));
+        text_is = text ∙ append_assoc (take from old) letters (drop upto old);
+        from_is = sym front;
+        plain = d.0;
+        gone_printable = e.1;
+        printable = printable e.1;
+      } in
+      record { fits = ((bare_styles s v w info b.0 (and_parts (is_bare w) _ has).0, (gone, letters, seen, omega arith, omega arith)), tt); leads = refl }
 
 -- the transposed characters
 module _ (s : Setting) (v w : Value) (line : w.line ≡ (transposed_in v.line).line) (done : transposes_chars v.line ≡ true) where
@@ -79,13 +67,11 @@ module _ (s : Setting) (v w : Value) (line : w.line ≡ (transposed_in v.line).l
       let x = exchanged v.line d.0 done low in
       rewritten_leads s v w from end x.letters (ap (λ (l : Line). l.text) (line ∙ x.line)) x.size x.printable may has
 
-  by_test : (b : Bool) → (may_be_rewritten s from end v && has_letters from end w) ≡ b
-      → Leads s v (record { value = w; steps = Draws w s.marks (if b then Rewritten s.prompt from end w.line.text w.line.place else redraw_of s w) ∷ [] })
-  by_test true e = let parts = and_parts (may_be_rewritten s from end v) (has_letters from end w) e in letters_lead parts.0 parts.1
-  by_test false e = whole_leads s v w
-
   shown_leads : Leads s v (show_rewritten_effect (may_be_rewritten s from end v) from end s w)
-  shown_leads = by_test (may_be_rewritten s from end v && has_letters from end w) refl
+  shown_leads =
+      let drawn : Redraw → Type 0 = λ x. Leads s v (record { value = w; steps = Draws w s.marks x ∷ [] }) in
+      cond_both (may_be_rewritten s from end v && has_letters from end w) _ _ drawn
+      (λ e. let parts = and_parts (may_be_rewritten s from end v) (has_letters from end w) e in letters_lead parts.0 parts.1) (λ e. whole_leads s v w)
 
 pub chars_lead : (s : Setting) (v : Value) → Leads s v (transpose_chars_effect s v)
 chars_lead s v =

@@ -1,6 +1,6 @@
 -- A whole line.
 use Rattle.std.proofs.Common.{◌≡◌, inl, inr, ℕ, ◌<◌, Bool, List, refl, sym, ap, subst, ◌∙◌, IsTrue, le_refl}
-use Rattle.std.specs.Prelude.{Option, None, option_map, Result, Ok, Err, length, string_bytes, IfErr, OnOk}
+use Rattle.std.specs.Prelude.{Option, None, Result, Ok, Err, length, string_bytes, IfErr, OnOk}
 use Rattle.script.specs.Scripts.{Goes}
 use Rattle.std.specs.Result.{result_and}
 use Rattle.line_config.specs.declared.config.Config.{Config}
@@ -21,7 +21,7 @@ use Rattle.line_editor.specs.LineScripts.{LineStage, line_state, line_script, li
 use Rattle.line_editor.specs.Redraws.{fresh}
 use Rattle.line_editor.specs.LineRun.{Helping, helper_from_hooks, setting_by, stage_first, outcome_of, open_or, IsOpen, Runs}
 use Rattle.line_editor.specs.Modal.{Modal, modal_first}
-use Rattle.line_editor.specs.States.{hooks_of, value_of, setting_of, Stays, Starts, cause_of, Cause, Takes, stage_of, world_of}
+use Rattle.line_editor.specs.States.{value_of, setting_of, Stays, Starts, cause_of, Cause, Takes, stage_of, world_of}
 use Rattle.line_editor.specs.EditSteps.{surface}
 use Rattle.line_editor.specs.Values.{Value, Setting, Hooks, IsFailing, empty_at, first_value}
 use Rattle.line_editor.specs.declared.line_run.Ran.{Ran}
@@ -102,9 +102,7 @@ module _ {Out H Hi K T : Type 0} {renderer : renderers.Renderer.Ghosts Out} {com
   helps s helper = helper_from_hooks hinter.hint_of validator.verdict_of completer.completion_of completer.update_of highlighter.marks helper
 
   helper_same : (s t : State Out H Hi K T renderer completer candidate hinter hint highlighter validator history) → Stays s t → helps s t.helper ≡ helps s s.helper
-  helper_same s t h =
-      ap (λ x. helping x (option_map highlighter.marks t.helper)) h.hooks_are
-      ∙ ap (helping (option_map (hooks_of completer hinter validator) s.helper)) h.marks_are
+  helper_same s t h = cc
 
   -- bindings that stayed
   pub same_reads : (kept custom : Custom) (i i' : Input) (ring ring' : Ring) (modal modal' : Modal) (s t : State Out H Hi K T renderer completer candidate hinter hint highlighter validator history) (feed feed' : KeyFeed)
@@ -121,12 +119,7 @@ module _ {Out H Hi K T : Type 0} {renderer : renderers.Renderer.Ghosts Out} {com
     setting = setting_by (renderer.canvas.ruler out) prompt (helps s helper) (history.entries hist) config
 
     setting_same : setting_of s ≡ setting
-    setting_same =
-        ap (λ o. setting_by (renderer.canvas.ruler o) s.prompt.now (helps s s.helper) (history.entries s.ctx.history.now) s.config.now) starts.out_is
-        ∙ ap (λ p. setting_by (renderer.canvas.ruler out) p (helps s s.helper) (history.entries s.ctx.history.now) s.config.now) starts.prompt_is
-        ∙ ap (λ h. setting_by (renderer.canvas.ruler out) prompt (helps s h) (history.entries s.ctx.history.now) s.config.now) starts.helper_is
-        ∙ ap (λ x. setting_by (renderer.canvas.ruler out) prompt (helps s helper) (history.entries x) s.config.now) (starts.history_is ∙ shown_is)
-        ∙ ap (λ x. setting_by (renderer.canvas.ruler out) prompt (helps s helper) (history.entries hist) x) starts.config_is
+    setting_same = cc
 
     helper_same_as : Stays s t → helps s ran.helper ≡ helps s helper
     helper_same_as stays = ap (helps s) helper_is ∙ helper_same s t stays ∙ ap (helps s) starts.helper_is
@@ -135,25 +128,18 @@ module _ {Out H Hi K T : Type 0} {renderer : renderers.Renderer.Ghosts Out} {com
     last o = line_stage (surface o t.layout) (line_state (value_of t) i' ring' modal' feed'.coming)
 
     first_same : stage_of s i ring modal feed.coming ≡ stage_first out (renderer.canvas.ruler out) setting ring query feed.coming
-    first_same =
-        ap (λ o. line_stage (surface o s.layout) (line_state (value_of s) i ring modal feed.coming)) starts.out_is
-        ∙ ap (λ l. line_stage (surface out l) (line_state (value_of s) i ring modal feed.coming)) starts.layout
-        ∙ ap (λ v. line_stage (surface out (fresh (renderer.canvas.ruler out).mode)) (line_state v i ring modal feed.coming)) (starts.value ∙ ap empty_at place_is)
-        ∙ ap (λ j. line_stage (surface out (fresh (renderer.canvas.ruler out).mode)) (line_state (first_value setting) j ring modal feed.coming)) input_is
-        ∙ ap (λ x. line_stage (surface out (fresh (renderer.canvas.ruler out).mode)) (line_state (first_value setting) (new_input config) ring x feed.coming)) modal_is
+    first_same = cc (starts.out_is, starts.layout, starts.value ∙ ap empty_at place_is, input_is, modal_is)
 
     goes_by : (n : ℕ) → Goes (world_of s) (line_script n custom) (stage_of s i ring modal feed.coming) (result_and result (Ok t.recorded.line.text)) (stage_of t i' ring' modal' feed'.coming)
         → Goes (line_world renderer.canvas (renderer.canvas.ruler out) setting) (line_script n custom)
         (stage_first out (renderer.canvas.ruler out) setting ring query feed.coming) (outcome_of ran) (last ran.out)
     goes_by n goes =
-        let P : Ruler → Setting → LineStage Out → Result (List ℕ) ReadlineError → Out → Type 0 =
-        λ r a x q o. Goes (line_world renderer.canvas r a) (line_script n custom) x q (last o) in
+        let world : world_of s ≡ line_world renderer.canvas (renderer.canvas.ruler out) setting =
+        ap (λ o. line_world renderer.canvas (renderer.canvas.ruler o) (setting_of s)) starts.out_is ∙ ap (line_world renderer.canvas (renderer.canvas.ruler out)) setting_same in
         let first = stage_first out (renderer.canvas.ruler out) setting ring query feed.coming in
-        subst (P (renderer.canvas.ruler out) setting first (outcome_of ran)) (sym out_is)
-        (subst (λ q. P (renderer.canvas.ruler out) setting first q t.out) (sym outcome_is)
-        (subst (λ x. P (renderer.canvas.ruler out) setting x (result_and result (Ok t.recorded.line.text)) t.out) first_same
-        (subst (λ a. P (renderer.canvas.ruler out) a (stage_of s i ring modal feed.coming) (result_and result (Ok t.recorded.line.text)) t.out) setting_same
-        (subst (λ o. P (renderer.canvas.ruler o) (setting_of s) (stage_of s i ring modal feed.coming) (result_and result (Ok t.recorded.line.text)) t.out) starts.out_is goes))))
+        subst (λ w. Goes w (line_script n custom) first (outcome_of ran) (last ran.out)) world
+        (subst (λ x. Goes (world_of s) (line_script n custom) x (outcome_of ran) (last ran.out)) first_same
+        (subst (λ q. Goes (world_of s) (line_script n custom) (stage_of s i ring modal feed.coming) q (last ran.out)) (sym outcome_is) (rw out_is goes)))
 
     pub runs_by : Runs renderer.canvas (helps s) custom prompt helper (history.entries hist) config out ring query feed ran ring' query' feed'
     runs_by = record {

@@ -1,7 +1,6 @@
 -- Styles that a line has in two drawings.
-use Rattle.std.proofs.Common.{◌≡◌, ℕ, zero, suc, ◌+◌, ◌-◌, ◌==◌, ◌<◌, ◌≤◌, Bool, true, false, true≢false, cond, ◌&&◌, List, [], ◌∷◌, ◌++◌, take, drop, length, length-append, replicate, Some, None, refl, sym, ap, ap₂, ◌∙◌, subst, append_assoc, append-nil, arith, if◌then◌else◌, set, slice_get}
-use Rattle.std.specs.Cmp.{booleans_Decides}
-use Rattle.std.proofs.lemmas.Bool.{and_parts, eqb-true}
+use Rattle.std.proofs.Common.{◌≡◌, ℕ, zero, suc, ◌+◌, ◌-◌, ◌==◌, ◌<◌, ◌≤◌, Bool, true, false, cond, List, [], ◌∷◌, ◌++◌, take, drop, length, length-append, replicate, Some, None, refl, sym, ap, ap₂, ◌∙◌, subst, append_assoc, append-nil, arith, if◌then◌else◌, set, slice_get}
+use Rattle.std.proofs.lemmas.Bool.{eqb-true}
 use Rattle.std.proofs.lemmas.List.{length-replicate, length-drop, length-take, drop-replicate, take-replicate, replicate-append-replicate, take-append-drop, take-append-le, drop-append-le}
 use Rattle.std.proofs.Math.Seq.{take-append-add, set-append_seam}
 use Rattle.std.proofs.lemmas.Grind.{flat_map-append}
@@ -23,9 +22,7 @@ shared_styles old new = common_prefix_len same_style old new
 same_step : (x y : Style) (xs ys : List Style) (k : ℕ) (b : Bool) → same_style x y ≡ b → take k xs ≡ take k ys → take (cond b (1 + k) 0) (x ∷ xs) ≡ take (cond b (1 + k) 0) (y ∷ ys)
 same_step x y xs ys k true is h =
     let next : 1 + k ≡ suc k = omega arith in
-    ap (λ m. take m (x ∷ xs)) next
-    ∙ ap₂ (λ z zs. z ∷ zs) (same_style-equal x y is) h
-    ∙ ap (λ m. take m (y ∷ ys)) (sym next)
+    rw next (ap₂ (λ z zs. z ∷ zs) (same_style-equal x y is) h)
 same_step x y xs ys k false is h = refl
 
 shared_same : (old new : List Style) → take (shared_styles old new) old ≡ take (shared_styles old new) new
@@ -40,39 +37,30 @@ shared_in m xs ys = shared_styles (take m xs) (take m ys)
 run_shared : (k m : ℕ) (a b : Style) (xs ys : List Style) → (0 < k → same_style a b ≡ true) → k ≤ m
     → shared_in m (replicate k a ++ xs) (replicate k b ++ ys) ≡ k + shared_in (m - k) xs ys
 run_shared zero m a b xs ys h low =
-    let all : m - 0 ≡ m = omega arith in
-    let sum : shared_in m xs ys ≡ 0 + shared_in m xs ys = omega arith in
-    sum ∙ ap (λ n. 0 + shared_in n xs ys) (sym all)
+    let all : m - 0 ≡ m = omega arith in omega (arith, ap (λ n. shared_in n xs ys) all)
 run_shared (suc k) zero a b xs ys h low = absurd (omega (arith, low))
 run_shared (suc k) (suc m) a b xs ys h low =
     let is = h (omega arith) in
     let rest = run_shared k m a b xs ys (λ some. is) (omega (arith, low)) in
     let less : suc m - suc k ≡ m - k = omega arith in
-    let sum : 1 + shared_in m (replicate k a ++ xs) (replicate k b ++ ys) ≡ suc k + shared_in (m - k) xs ys = omega (arith, rest) in
-    ap (λ c. cond c (1 + shared_in m (replicate k a ++ xs) (replicate k b ++ ys)) 0) is
-    ∙ sum
-    ∙ ap (λ n. suc k + shared_in n xs ys) (sym less)
+    rw is (omega (arith, rest, ap (λ n. shared_in n xs ys) less))
 
 -- two runs that are long enough
 run_full : (m k l : ℕ) (a b : Style) (xs ys : List Style) → (0 < m → same_style a b ≡ true) → m ≤ k → m ≤ l
     → shared_in m (replicate k a ++ xs) (replicate l b ++ ys) ≡ m
 run_full zero k l a b xs ys h low short = refl
-run_full (suc m) zero l a b xs ys h low short = absurd (omega (arith, low))
-run_full (suc m) (suc k) zero a b xs ys h low short = absurd (omega (arith, short))
 run_full (suc m) (suc k) (suc l) a b xs ys h low short =
     let is = h (omega arith) in
     let rest = run_full m k l a b xs ys (λ some. is) (omega (arith, low)) (omega (arith, short)) in
-    let sum : 1 + shared_in m (replicate k a ++ xs) (replicate l b ++ ys) ≡ suc m = omega (arith, rest) in
-    ap (λ c. cond c (1 + shared_in m (replicate k a ++ xs) (replicate l b ++ ys)) 0) is ∙ sum
+    rw is (omega (arith, rest))
+run_full m k l a b xs ys h low short = absurd (omega (arith, low, short))
 
 -- two runs of other styles
 run_stops : (m k l : ℕ) (a b : Style) (xs ys : List Style) → same_style a b ≡ false → 0 < k → 0 < l
     → shared_in m (replicate k a ++ xs) (replicate l b ++ ys) ≡ 0
 run_stops zero k l a b xs ys h some more = refl
-run_stops (suc m) zero l a b xs ys h some more = absurd (omega (arith, some))
-run_stops (suc m) (suc k) zero a b xs ys h some more = absurd (omega (arith, more))
-run_stops (suc m) (suc k) (suc l) a b xs ys h some more =
-    ap (λ c. cond c (1 + shared_in m (replicate k a ++ xs) (replicate l b ++ ys)) 0) h
+run_stops (suc m) (suc k) (suc l) a b xs ys h some more = rw h
+run_stops m k l a b xs ys h some more = absurd (omega (arith, some, more))
 
 -- ---- spans, of the first of which some bytes are behind
 
@@ -108,8 +96,7 @@ passed used s rest low = by_test (used == s.len) refl
     by_test : (b : Bool) → (used == s.len) ≡ b
         → (left_in (if b then 0 else used) (if b then rest else s ∷ rest) ≡ left_in used (s ∷ rest)) × ((if b then 0 else used) ≤ first_len (if b then rest else s ∷ rest))
     by_test true is =
-        let at = eqb-true used s.len is in
-        let none : s.len - used ≡ 0 = omega (arith, at) in
+        let none : s.len - used ≡ 0 = omega (arith, eqb-true used s.len is) in
         (sym (opened used s rest low ∙ ap (λ n. replicate n s.style ++ span_styles rest) none), omega arith)
     by_test false is = (refl, low)
 
@@ -122,11 +109,9 @@ cut_at : (k : ℕ) (s : Span) (rest : List Span) (used : ℕ) → used ≤ s.len
     → left_in used (s ∷ rest) ≡ replicate k s.style ++ left_in (used + k) (s ∷ rest)
 cut_at k s rest used low near =
     let more : k + (s.len - (used + k)) ≡ s.len - used = omega (arith, low, near) in
-    opened used s rest low
-    ∙ ap (λ m. replicate m s.style ++ span_styles rest) (sym more)
-    ∙ ap (λ xs. xs ++ span_styles rest) (sym (replicate-append-replicate k (s.len - (used + k)) s.style))
-    ∙ append_assoc (replicate k s.style) (replicate (s.len - (used + k)) s.style) (span_styles rest)
-    ∙ ap (λ xs. replicate k s.style ++ xs) (sym (opened (used + k) s rest (omega (arith, low, near))))
+    let runs = replicate-append-replicate k (s.len - (used + k)) s.style in
+    let joined = append_assoc (replicate k s.style) (replicate (s.len - (used + k)) s.style) (span_styles rest) in
+    rw (opened used s rest low, opened (used + k) s rest (omega (arith, low, near)), ← more, ← runs) joined
 
 -- the first spans have `k` bytes in common that aren't behind
 module _ (upto : ℕ) (old new : List Span) (left : ℕ) (o : List Span) (i : ℕ) (n : List Span) (j : ℕ) (h : Walked upto old new left o i n j)
@@ -183,10 +168,7 @@ module _ (upto : ℕ) (old new : List Span) (left : ℕ) (o : List Span) (i : �
       let pi = is ∙ ap₂ used_behind u (head_is o a e).1 in
       let pn = ns ∙ ap₂ spans_behind w (head_is n b f).1 in
       let pj = js ∙ ap₂ used_behind w (head_is n b f).1 in
-      subst (λ x. Walked upto old new (left - k) x i2 n2 j2) (sym po)
-      (subst (λ x. Walked upto old new (left - k) (spans_behind (i + k) (a ∷ old_rest)) x n2 j2) (sym pi)
-      (subst (λ x. Walked upto old new (left - k) (spans_behind (i + k) (a ∷ old_rest)) (used_behind (i + k) (a ∷ old_rest)) x j2) (sym pn)
-      (subst (λ x. Walked upto old new (left - k) (spans_behind (i + k) (a ∷ old_rest)) (used_behind (i + k) (a ∷ old_rest)) (spans_behind (j + k) (b ∷ new_rest)) x) (sym pj) (goes same low))))
+      rw (po, pi, pn, pj) (goes same low)
 
 -- one of them has no more
 none_left : (xs : List Span) (used : ℕ) → None ≡ slice_get xs 0 → length (left_in used xs) ≡ 0
@@ -234,11 +216,8 @@ styles_front k n spans low =
     let all = span_styles spans in
     let sum : k + (n - k) ≡ n = omega (arith, low) in
     let parts : replicate k plain ++ replicate (n - k) plain ≡ replicate n plain = replicate-append-replicate k (n - k) plain ∙ ap (λ m. replicate m plain) sum in
-    sym (
-    ap (λ xs. take k (all ++ xs)) (sym parts)
-    ∙ ap (take k) (sym (append_assoc all (replicate k plain) (replicate (n - k) plain)))
-    ∙ take-append-le k (all ++ replicate k plain) (replicate (n - k) plain) (omega (arith, length-append all (replicate k plain), length-replicate k plain))
-    )
+    rw (← parts, ← append_assoc)
+    (sym (take-append-le k (all ++ replicate k plain) (replicate (n - k) plain) (omega (arith, length-append all (replicate k plain), length-replicate k plain))))
 
 told_is : (k n : ℕ) (spans : List Span) → k ≤ length (told_styles n spans) → styles_to k spans ≡ take k (told_styles n spans)
 told_is k n spans low =
@@ -259,19 +238,12 @@ kept_styles n old new k is =
 shared_plain : (n : ℕ) → shared_styles (replicate n plain) (replicate n plain) ≡ n
 shared_plain zero = refl
 shared_plain (suc n) =
-    let next : 1 + n ≡ suc n = omega arith in
-    ap (λ m. 1 + m) (shared_plain n) ∙ next
+    rw (shared_plain n) (omega arith)
 
 -- a line that had no spans and has none keeps all
 pub plain_kept : (n : ℕ) (styles : List Style) (spans : List Span) → styles ≡ replicate n plain → spans ≡ [] → n ≡ shared_styles styles (told_styles n spans)
 plain_kept n styles spans was is =
-    sym (
-    ap (λ xs. shared_styles xs (told_styles n spans)) was
-    ∙ ap (λ xs. shared_styles (replicate n plain) (told_styles n xs)) is
-    ∙ ap (λ xs. shared_styles (replicate n plain) (take n xs)) (append-nil (replicate n plain))
-    ∙ ap (shared_styles (replicate n plain)) (take-replicate n n plain (omega arith))
-    ∙ shared_plain n
-    )
+    rw (was, is, append-nil (replicate n plain), take-replicate n n plain (omega arith)) (sym (shared_plain n))
 
 -- ---- how they are collected
 
@@ -286,8 +258,7 @@ pub record Collected (n : ℕ) (all first : List Span) (count left : ℕ) (rest 
 -- the same behind a front
 front_same : (n : ℕ) (front xs ys : List Style) → take (n - length front) xs ≡ take (n - length front) ys → take n (front ++ xs) ≡ take n (front ++ ys)
 front_same n [] xs ys h =
-    let all : n - 0 ≡ n = omega arith in
-    subst (λ m. take m xs ≡ take m ys) all h
+    let all : n - 0 ≡ n = omega arith in subst (λ m. take m xs ≡ take m ys) all h
 front_same zero (s ∷ front) xs ys h = refl
 front_same (suc n) (s ∷ front) xs ys h =
     let less : suc n - length (s ∷ front) ≡ n - length front = omega arith in

@@ -2,7 +2,7 @@
 use Rattle.std.proofs.Common.{◌≡◌, ℕ, ◌&&◌, Bool, true, false, not, is_some, List, [], Option, Some, None, refl, sym, ap, ◌∙◌, if◌then◌else◌}
 use Rattle.std.proofs.lemmas.Option.{cond_some}
 use Rattle.line_help.specs.declared.helpers.style.Style.{Style}
-use Rattle.line_editor.specs.Drawing.{Since, redraw_of, line_spans, kept_upto, draw_effect_since, draw_effect_behind}
+use Rattle.line_editor.specs.Drawing.{Since, line_spans, kept_upto, draw_effect_since, draw_effect_behind}
 use Rattle.line_editor.specs.Redraws.{Redraw, Redraw.DrawnFrom}
 use Rattle.line_editor.specs.RenderCalls.{Marks}
 use Rattle.line_editor.specs.SharedStyles.{noted_styles, told_styles}
@@ -25,9 +25,7 @@ unmarked_noted from s v is = ap (told_styles from) (sym (no_line_spans s v is))
 
 pub since_noted : (b c : Bool) (from : ℕ) (styles told : List Style) (found : Since) → b ≡ true → c ≡ true → found ≡ record { from = from; styles = styles } → styles ≡ told
     → Some found ≡ (if b && c then Some (record { from = from; styles = told }) else None)
-since_noted true true from styles told found h k made is = ap (λ (x : Since). Some x) made ∙ ap (λ xs. Some (record { from = from; styles = xs })) is
-since_noted true false from styles told found h k made is = cc
-since_noted false c from styles told found h k made is = cc
+since_noted b c from styles told found h k made is = rw (h, k, made, is)
 
 no_place : (b : Bool) (kept : ℕ) → None ≡ (if b then Some kept else None) → b ≡ false
 no_place true kept h = cc
@@ -44,17 +42,11 @@ module _ (since : Option Since) (s : Setting) (v : Value) where
     abbrev kept : ℕ
     kept = kept_upto before s v
 
-    abbrev by_test : Bool → Redraw
-    by_test b = if b then drawn_at kept else redraw_of s v
-
     pub drawn_noted : (from : ℕ) → Some from ≡ (if (begins_apart_at v.line.text before.from && begins_apart_at v.line.text kept) then Some kept else None) → draw_effect (drawn_at from) s v ≡ draw_effect_since since s v
     drawn_noted from place =
         let found = cond_some ((begins_apart_at v.line.text before.from && begins_apart_at v.line.text kept)) kept from (sym place) in
-        ap (λ k. draw_effect (drawn_at k) s v) (sym found.1)
-        ∙ ap (λ b. draw_effect (by_test b) s v) (sym found.0)
-        ∙ ap (λ o. draw_effect_since o s v) (sym is)
+        rw (is, found.0, found.1)
 
     pub whole_noted : None ≡ (if (begins_apart_at v.line.text before.from && begins_apart_at v.line.text kept) then Some kept else None) → draw_effect_behind s.prompt true s v ≡ draw_effect_since since s v
     whole_noted none =
-        ap (λ b. draw_effect (by_test b) s v) (sym (no_place ((begins_apart_at v.line.text before.from && begins_apart_at v.line.text kept)) kept none))
-        ∙ ap (λ o. draw_effect_since o s v) (sym is)
+        rw (is, no_place ((begins_apart_at v.line.text before.from && begins_apart_at v.line.text kept)) kept none)

@@ -1,22 +1,21 @@
 -- Each step leaves a record that reaches the same text.
-use Rattle.std.proofs.Common.{◌≡◌, ℕ, ◌+◌, ◌-◌, ◌≤◌, min, ◌==◌, take, drop, ◌++◌, Bool, true, false, List, [], ◌∷◌, length, Option, Some, None, is_some, refl, sym, ap, ◌∙◌, subst, arith, if◌then◌else◌}
+use Rattle.std.proofs.Common.{◌≡◌, ℕ, ◌+◌, ◌-◌, ◌≤◌, min, ◌==◌, take, drop, ◌++◌, Bool, true, false, List, [], ◌∷◌, length, Option, Some, None, is_some, refl, sym, ap, ◌∙◌, subst, arith}
 use Rattle.std.specs.Prelude.{IsUtf8, IsCharBoundary, IfSome, nat_le, encode_utf8, slice_range, fold}
 use Rattle.std.specs.List.{replace_range}
 use Rattle.std.proofs.lemmas.Bool.{leb-true, leb-false}
 use Rattle.std.proofs.lemmas.List.{drop_all, length-take, length-drop}
 use Rattle.line_buffer.specs.Columns.{line_up, line_down}
-use Rattle.line_buffer.specs.Insertions.{yank_pop as popped_in}
+use Rattle.line_buffer.specs.Insertions.{yank_pop as popped_in, yank as yanked_in}
 use Rattle.line_buffer.specs.Clusters.{place_forward}
-use Rattle.line_buffer.specs.Line.{with_text_at, with_replacement}
+use Rattle.line_buffer.specs.Line.{with_text_at, with_replacement, Line}
 use Rattle.line_buffer.specs.LetterCase.{edit_word as recased_in}
-use Rattle.line_buffer.specs.Range.{range_of, deletion_events, deletion_line}
-use Rattle.line_buffer.specs.Event.{InsertStr, replacement, text_after_event}
+use Rattle.line_buffer.specs.Range.{range_of, deletion_events, deletion_line, kill_events, kill as killed_in}
+use Rattle.line_buffer.specs.Event.{InsertStr, replacement, text_after_event, text_after_events}
 use Rattle.line_buffer.specs.Transpositions.{transpose_chars as transposed_in, transpose_words as exchanged_in}
 use Rattle.line_buffer.specs.declared.types.Movement.TheVariants.{ForwardChar}
-use Rattle.line_buffer.specs.declared.types.WordAction.{WordAction}
-use Rattle.line_buffer.proofs.ReplayedLemmas.{replayed_all-one, replayed_insertion, replayed_replacement, yank_pop_replayed}
-use Rattle.line_buffer.proofs.SpanLemmas.{IsLater, place_forward-later, deletion_replays}
-use Rattle.line_edits.specs.Edits.{clusters_after, by, text_steps, update_steps, delete_steps, exchange_steps, overwrite_steps, transpose_words_steps, update_group}
+use Rattle.line_buffer.proofs.ReplayedLemmas.{replayed_all-one, replayed_insertion, replayed_replacement, yank_pop_replayed, yank_replayed, indent_replayed}
+use Rattle.line_buffer.proofs.SpanLemmas.{IsLater, place_forward-later, deletion_replays, kill_replays, transpose_chars_replays}
+use Rattle.line_edits.specs.Edits.{clusters_after, by, update_steps, delete_steps, exchange_steps, overwrite_steps, update_group}
 use Rattle.line_edits.proofs.StepLemmas.{overwrite_steps_to}
 use Rattle.line_help.specs.Search.{Hit}
 use Rattle.line_help.specs.declared.history.search.SearchDirection.{SearchDirection, TheVariants.Forward, TheVariants.Reverse}
@@ -26,17 +25,19 @@ use Rattle.line_keys.specs.declared.command.Cmd.TheVariants.{BeginningOfHistory,
 use Rattle.line_editor.specs.Commands.{Means, effect}
 use Rattle.line_editor.specs.Completing.{word_put}
 use Rattle.line_editor.specs.Leads.{Reaches, Sound}
-use Rattle.line_editor.specs.History.{at_place, recall, history_step, history_end, history_search, entry_shown, leave_effect, save_effect, with_saved_line}
+use Rattle.line_editor.specs.History.{at_place, recall, history_step, history_end, history_search, entry_shown, leave_effect}
 use Rattle.line_editor.specs.Returns.{ValueStep, value_after, UndoesAll, Along, ValueStep.Done, ValueStep.Asked, ValueStep.Met}
-use Rattle.line_editor.specs.Values.{Value, Setting, value_with_edit, line_and_record_of, no_effect}
+use Rattle.line_editor.specs.Values.{Value, Setting, value_with_edit, line_and_record_of}
 use Rattle.line_editor.proofs.CommandKeeps.{KeptByCommands, either_holds, found_holds, command_keeps}
 use Rattle.line_editor.proofs.MeetKeeps.{Fact, KeptByEdits, meeting_keeps}
-use Rattle.line_editor.proofs.ReachLemmas.{undo_reached, ended_reaches, edit_reaches, group_reaches, typing_reaches, yanking_reaches, updating_reaches, indenting_reaches, killing_reaches, transposing_reaches}
+use Rattle.line_editor.proofs.ReachLemmas.{undo_reached, ended_reaches, edit_reaches, group_reaches, typing_reaches, updating_reaches}
 use Rattle.line_editor.proofs.ReplaysLemmas.{transpose_words_replays, edit_word_replays}
 use Rattle.line_editor.proofs.UndoLemmas.{undo_reaches, unmade_reached}
-use Rattle.line_edits.specs.WriteSteps.{with_answer, steps_of_edit, Written, group_opened}
+use Rattle.line_edits.specs.WriteSteps.{steps_of_edit, Written, group_opened, group_closed}
 use Rattle.std.specs.Option.{option_map_or}
 use Rattle.line_editor.specs.Drawing.{beep_effect, ask_effect}
+use Rattle.line_buffer.specs.Indent.{indent as indented_in}
+use Rattle.line_buffer.specs.Edit.{Edit}
 
 -- ---- edits of a line with its record
 
@@ -53,15 +54,6 @@ module _ (first : List ℕ) (w : Written) (u : IsUtf8 w.line.text) (b : IsCharBo
 
   overwriting_reaches : (c : ℕ) → Reaches first (by (overwrite_steps c) w).held (by (overwrite_steps c) w).line.text
   overwriting_reaches c = writing_reaches c (place_forward 1 w.line) (place_forward-later w.line u b 1)
-
-  popping_reaches : (size : ℕ) (text : List ℕ) → Reaches first (by (λ l. with_answer (tt {0}) (steps_of_edit (popped_in size text l))) w).held (by (λ l. with_answer (tt {0}) (steps_of_edit (popped_in size text l))) w).line.text
-  popping_reaches size text = edit_reaches (popped_in size text w.line).events (popped_in size text w.line).line w first (sym (yank_pop_replayed size text w.line b.0)) r
-
-  words_reach : (n : ℕ) → Reaches first (by (transpose_words_steps n) w).held (by (transpose_words_steps n) w).line.text
-  words_reach n = edit_reaches (exchanged_in n w.line).events (exchanged_in n w.line).line w first (sym (transpose_words_replays n w.line u b)) r
-
-  word_reaches : (action : WordAction) → Reaches first (by (λ l. steps_of_edit (recased_in action l)) w).held (by (λ l. steps_of_edit (recased_in action l)) w).line.text
-  word_reaches action = edit_reaches (recased_in action w.line).events (recased_in action w.line).line w first (sym (edit_word_replays action w.line u b)) r
 
 -- a cursor behind the text's end replaces to the end
 far_replaced : (text : List ℕ) (from upto : ℕ) (added : List ℕ) → from ≤ upto → text_after_event (replacement from upto added text) text ≡ replace_range text from upto added
@@ -81,10 +73,6 @@ replacing_reaches : (start : ℕ) (text : List ℕ) (w : Written) (first : List 
 replacing_reaches start text w first below r =
     edit_reaches (replacement start w.line.place text w.line.text ∷ []) (with_replacement start w.line.place text w.line) w first
     (sym (replayed_all-one _ w.line.text ∙ far_replaced w.line.text start w.line.place text below)) r
-
-putting_reaches : (text : List ℕ) (w : Written) (first : List ℕ) → Reaches first w.held w.line.text → Reaches first (by (text_steps text) w).held (by (text_steps text) w).line.text
-putting_reaches text w first r =
-    edit_reaches (InsertStr w.line.place text ∷ []) (with_text_at w.line.place text w.line) w first (sym (replayed_all-one _ w.line.text ∙ replayed_insertion w.line.text w.line.place text)) r
 
 -- ---- a record that reaches a text
 
@@ -107,11 +95,7 @@ recall_reached place None s v first r = r
 recall_reached place (Some hit) s v first r = recalled_reached hit.entry (length hit.entry) (at_place place v) first r
 
 leaving_reached : (s : Setting) (v : Value) (first : List ℕ) → Reached first v → Reached first (leave_effect s v).value
-leaving_reached s v first r = left_by (v.history == length s.entries)
-  where
-    left_by : (b : Bool) → Reached first (if b then save_effect s v else no_effect s v).value
-    left_by true = r
-    left_by false = r
+leaving_reached s v first r = either_holds (reaching first) (v.history == length s.entries) _ _ r r
 
 history_reached : (back : Bool) (s : Setting) (v : Value) (first : List ℕ) → Reached first v → Reached first (history_step back s v).value
 history_reached true s v first r = either_holds (reaching first) (v.history == 0) _ _ r (recall_reached (v.history - 1) _ s (leave_effect s v).value first (leaving_reached s v first r))
@@ -141,22 +125,30 @@ reach_kept first s = record {
   left = λ v r. leaving_reached s v first r;
 }
 
+-- an edit that tells what leads to the text that it leaves, in a group
+in_group : {A : Type 0} (first : List ℕ) (edit : Line → Edit A) (v : Value) → text_after_events (edit v.line).events v.line.text ≡ (edit v.line).line.text → Reached first v
+    → (let w = group_closed (by (λ l. steps_of_edit (edit l)) (group_opened (line_and_record_of v))) in Reaches first w.held w.line.text)
+in_group first edit v is r =
+    group_reaches (by (λ l. steps_of_edit (edit l))) (line_and_record_of v) first (λ k. edit_reaches (edit v.line).events (edit v.line).line (group_opened (line_and_record_of v)) first (sym is) k) r
+
 command_reach_kept : (first : List ℕ) (s : Setting) → KeptByCommands (reaching first) Sound s
 command_reach_kept first s = record {
   typed = λ c n v r. typing_reaches c n (line_and_record_of v) first r;
-  inserted = λ text v r. putting_reaches text (line_and_record_of v) first r;
-  yanked = λ text n v r. yanking_reaches text n (line_and_record_of v) first r;
-  popped = λ size text v ok r. group_reaches (by (λ l. with_answer (tt {0}) (steps_of_edit (popped_in size text l)))) (line_and_record_of v) first (λ k. popping_reaches first (group_opened (line_and_record_of v)) ok.utf8 ok.boundary k size text) r;
-  killed = λ m v ok r. killing_reaches m (line_and_record_of v) first ok.utf8 ok.boundary r;
+  inserted = λ text v r. edit_reaches (InsertStr v.line.place text ∷ []) (with_text_at v.line.place text v.line) (line_and_record_of v) first
+      (sym (replayed_all-one _ v.line.text ∙ replayed_insertion v.line.text v.line.place text)) r;
+  yanked = λ text n v r. edit_reaches (yanked_in text n v.line).events (yanked_in text n v.line).line (line_and_record_of v) first (sym (yank_replayed text n v.line)) r;
+  popped = λ size text v ok r. in_group first (λ l. popped_in size text l) v (yank_pop_replayed size text v.line ok.boundary.0) r;
+  killed = λ m v ok r. edit_reaches (kill_events m v.line) (killed_in m v.line).line (line_and_record_of v) first (sym (kill_replays v.line ok.utf8 ok.boundary m)) r;
   replaced = λ c n v ok r.
       let w = line_and_record_of v in
       let count = clusters_after n v.line in
       group_reaches (by (exchange_steps c n count)) w first (λ k. typing_reaches c count (by (delete_steps n) (group_opened w)) first (deleting_reaches first (group_opened w) ok.utf8 ok.boundary k n)) r;
   overwritten = λ c v ok r. overwriting_reaches first (line_and_record_of v) ok.utf8 ok.boundary r c;
-  transposed = λ v ok r. group_reaches (by (λ l. steps_of_edit (transposed_in l))) (line_and_record_of v) first (λ k. transposing_reaches (group_opened (line_and_record_of v)) first ok.utf8 ok.boundary k) r;
-  swapped = λ n v ok r. group_reaches (by (transpose_words_steps n)) (line_and_record_of v) first (λ k. words_reach first (group_opened (line_and_record_of v)) ok.utf8 ok.boundary k n) r;
-  recased = λ action v ok r. group_reaches (by (λ l. steps_of_edit (recased_in action l))) (line_and_record_of v) first (λ k. word_reaches first (group_opened (line_and_record_of v)) ok.utf8 ok.boundary k action) r;
-  indented = λ m amount dedent v r. indenting_reaches m amount dedent (line_and_record_of v) first r;
+  transposed = λ v ok r. in_group first transposed_in v (transpose_chars_replays v.line ok.utf8 ok.boundary) r;
+  swapped = λ n v ok r. in_group first (exchanged_in n) v (transpose_words_replays n v.line ok.utf8 ok.boundary) r;
+  recased = λ action v ok r. in_group first (recased_in action) v (edit_word_replays action v.line ok.utf8 ok.boundary) r;
+  indented = λ m amount dedent v r.
+      let made = indented_in m amount dedent v.line in edit_reaches made.events made.line (line_and_record_of v) first (sym (indent_replayed m amount dedent v.line)) r;
   grouped = λ v r. group_reaches (λ w. w) (line_and_record_of v) first (λ k. k) r;
   undone = λ n v r. unmade_reached n s v first r;
 }

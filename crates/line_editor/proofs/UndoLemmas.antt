@@ -20,7 +20,7 @@ use Rattle.line_editor.specs.Returns.{UndoReaches}
 use Rattle.line_editor.specs.Values.{Value, Setting, then_do, value_with_edit, Transition}
 use Rattle.line_editor.specs.declared.renderer as renderers
 use Rattle.line_editor.specs.declared.state.State.{State}
-use Rattle.line_editor.proofs.DoesLemmas.{does_as, is_err}
+use Rattle.line_editor.proofs.DoesLemmas.{does_as, is_err, does_refused}
 use Rattle.line_editor.proofs.ReachLemmas.{undo_reached}
 use Rattle.line_editor.proofs.StopsLemmas.{stops_taking_back}
 use Rattle.line_editor.specs.Values.EditStep.{TakesBack}
@@ -100,14 +100,8 @@ module _ {Out H Hi K T : Type 0} {renderer : renderers.Renderer.Ghosts Out} {com
       → IsErrAnd result (λ e. e ≡ Memory) → CutUndoItems n s.recorded.line t.recorded.line s.recorded.changes t.recorded.changes
       → value_of t ≡ record (value_of s) { line = t.recorded.line; held = record_on t.recorded.changes t.recorded.line.text }
       → surface_of t ≡ surface_of s → Stays s t → Does (undo n) s t result
-  undo_refused {A} n s t result is part left same stays = subst (λ (r : Result A ReadlineError). Does {A = A} (undo n) s t r) (sym (is_err Memory result is)) (record {
-    value = tt;
-    calls = tt;
-    layout = tt;
-    stays = stays;
-    reason = tt;
-    stops = undo_stops n s t (has_step (max n 1) (value_of s).held) (undone_partly n s t part left) same;
-  })
+  undo_refused {A} n s t result is part left same stays = subst (λ (r : Result A ReadlineError). Does {A = A} (undo n) s t r) (sym (is_err Memory result is))
+      (does_refused (undo n) s t Memory stays tt (undo_stops n s t (has_step (max n 1) (value_of s).held) (undone_partly n s t part left) same))
 
   -- if only marks are undone nothing is drawn
   pub unmade_does : {A : Type 0} (n : ℕ) (s t : State Out H Hi K T renderer completer candidate hinter hint highlighter validator history) (x : A)
@@ -119,13 +113,6 @@ module _ {Out H Hi K T : Type 0} {renderer : renderers.Renderer.Ghosts Out} {com
   unmade_does n s t x none line held rest out layout stays =
       let v = value_of s in
       let same : t.recorded.line ≡ v.line = line ∙ items_rest (max n 1) s.recorded.changes.done s.recorded.line none in
-      let quiet : unmark_effect n (setting_of s) v ≡ undo n (setting_of s) v = ap (λ b. if b then then_do (undo_effect n) refresh_effect (setting_of s) v else unmark_effect n (setting_of s) v) (sym none) in
-      does_as (unmark_effect n) (undo n) s t (Ok x) quiet
-      (record {
-        value = rest ∙ ap (λ l. record v { line = l; held = record_on t.recorded.changes t.recorded.line.text }) same ∙ ap (λ h. record v { line = v.line; held = h }) held;
-        calls = out;
-        layout = layout;
-        stays = stays;
-        reason = tt;
-        stops = tt;
-      })
+      let quiet : unmark_effect n (setting_of s) v ≡ undo n (setting_of s) v = rw none in
+      let value = rest ∙ ap (λ l. record v { line = l; held = record_on t.recorded.changes t.recorded.line.text }) same ∙ ap (λ h. record v { line = v.line; held = h }) held in
+      does_as (unmark_effect n) (undo n) s t (Ok x) quiet (record { value = value; calls = out; layout = layout; stays = stays; reason = tt; stops = tt })

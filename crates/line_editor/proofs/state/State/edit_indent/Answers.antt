@@ -5,6 +5,7 @@ use Rattle.line_editor.specs.Transforms.{indent_effect}
 use Rattle.line_editor.specs.States.{value_of}
 use Rattle.line_editor.proofs.EditLemmas.{edit_then, edit_refused}
 use Rattle.line_editor.proofs.state.State.edit_indent.Goals as goal
+use Rattle.line_editor.proofs.DoesLemmas.{stays_by}
 
 pub returns-in_err-indent : goal.returns-in_err-indent
 returns-in_err-indent g c =
@@ -12,9 +13,7 @@ returns-in_err-indent g c =
     let edit = indent_steps c.args.movement.now c.args.amount c.args.dedent in
     record {
       does = edit_refused (indent_effect c.args.movement.now c.args.amount c.args.dedent) refresh_effect
-          edit (value_of s) s _ _ _ _ c.from_residual.ensures.1 refl refl c.in_err-indent.ensures
-          refl refl
-          (record { ruler = refl; prompt = refl; history_is = refl; hooks_are = refl; marks_are = refl; config_is = refl });
+          edit (value_of s) s _ _ _ _ c.from_residual.ensures.1 refl refl c.in_err-indent.ensures refl refl (assumption);
     }
 
 pub returns : goal.returns
@@ -23,7 +22,5 @@ returns g c =
     let edit = indent_steps c.args.movement.now c.args.amount c.args.dedent in
     record {
       does = edit_then (indent_effect c.args.movement.now c.args.amount c.args.dedent) refresh_effect
-          edit (value_of s) s _ _ _ _ _ _ refl refl c.in_ok-indent.ensures refl refl
-          (record { ruler = refl; prompt = refl; history_is = refl; hooks_are = refl; marks_are = refl; config_is = refl })
-          c.refresh.ensures.does;
+          edit (value_of s) s _ _ _ _ _ _ refl refl c.in_ok-indent.ensures refl refl (stays_by refl refl refl refl refl refl) c.refresh.ensures.does;
     }

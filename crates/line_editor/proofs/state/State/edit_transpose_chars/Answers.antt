@@ -8,6 +8,7 @@ use Rattle.line_editor.specs.States.{value_of, setting_of}
 use Rattle.line_editor.proofs.EditLemmas.{chars_over, edit_then, edit_refused, drawn_if, undrawn_if}
 use Rattle.line_editor.proofs.TransposedLemmas.{pair_boundary, pair_known, pair_over}
 use Rattle.line_editor.proofs.state.State.edit_transpose_chars.Goals as goal
+use Rattle.line_editor.proofs.DoesLemmas.{stays_by}
 
 pub known_over-known-requires : goal.known_over-known-requires
 known_over-known-requires g c =
@@ -42,7 +43,7 @@ returns-in_err-done g c =
     record {
       does = edit_refused transpose_chars_effect (effect_if (transposes_chars s.recorded.line) (refresh_over_effect over from end)) transpose_chars_group (value_of s) s _ _ _ _ c.from_residual.ensures.1
           (chars_over over from end (setting_of s) (value_of s) c.pair_end-end.ensures (omega arith) c.may_be_rewritten-over.ensures)
-          refl c.in_err-done.ensures refl refl (record { ruler = refl; prompt = refl; history_is = refl; hooks_are = refl; marks_are = refl; config_is = refl });
+          refl c.in_err-done.ensures refl refl (assumption);
     }
 
 pub returns-then-done : goal.returns-then-done
@@ -54,7 +55,7 @@ returns-then-done g c =
     record {
       does = edit_then transpose_chars_effect (effect_if (transposes_chars s.recorded.line) (refresh_over_effect over from end)) transpose_chars_group (value_of s) s _ _ _ _ _ _
           (chars_over over from end (setting_of s) (value_of s) c.pair_end-end.ensures (omega arith) c.may_be_rewritten-over.ensures)
-          refl c.in_ok-done.ensures refl refl (record { ruler = refl; prompt = refl; history_is = refl; hooks_are = refl; marks_are = refl; config_is = refl })
+          refl c.in_ok-done.ensures refl refl (stays_by refl refl refl refl refl refl)
           (drawn_if (refresh_over_effect over from end) (transposes_chars s.recorded.line) _ _ _ (sym c.in_ok-done.ensures.writes.answers ∙ c.if-done.true) c.refresh_over.ensures.does);
     }
 
@@ -67,6 +68,6 @@ returns-else-done g c =
     record {
       does = edit_then transpose_chars_effect (effect_if (transposes_chars s.recorded.line) (refresh_over_effect over from end)) transpose_chars_group (value_of s) s _ _ _ _ _ _
           (chars_over over from end (setting_of s) (value_of s) c.pair_end-end.ensures (omega arith) c.may_be_rewritten-over.ensures)
-          refl c.in_ok-done.ensures refl refl (record { ruler = refl; prompt = refl; history_is = refl; hooks_are = refl; marks_are = refl; config_is = refl })
+          refl c.in_ok-done.ensures refl refl (stays_by refl refl refl refl refl refl)
           (undrawn_if (refresh_over_effect over from end) (transposes_chars s.recorded.line) _ _ (sym c.in_ok-done.ensures.writes.answers ∙ c.if-done.false));
     }

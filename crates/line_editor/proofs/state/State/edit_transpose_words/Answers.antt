@@ -10,7 +10,5 @@ returns-in_err-done g c =
     let s = c.args.self.now in
     record {
       does = edit_refused (transpose_words_effect c.args.n) (words_drawn c.args.n (value_of s))
-          (transpose_words_group c.args.n) (value_of s) s _ _ _ _ c.from_residual.ensures.1
-          refl refl c.in_err-done.ensures refl refl
-          (record { ruler = refl; prompt = refl; history_is = refl; hooks_are = refl; marks_are = refl; config_is = refl });
+          (transpose_words_group c.args.n) (value_of s) s _ _ _ _ c.from_residual.ensures.1 refl refl c.in_err-done.ensures refl refl (assumption);
     }

@@ -5,14 +5,7 @@ use Rattle.line_editor.proofs.state.State.edit_undo.Goals as goal
 pub returns-else-undone : goal.returns-else-undone
 returns-else-undone g c =
     let writes = c.in_ok-undone.ensures.writes in
-    record {
-      does = unmade_does c.args.n _ _ _ (sym writes.answers ∙ c.if-undone.false) writes.line writes.held refl refl refl
-          (record { ruler = refl; prompt = refl; history_is = refl; hooks_are = refl; marks_are = refl; config_is = refl });
-    }
+    record { does = unmade_does c.args.n _ _ _ (sym writes.answers ∙ c.if-undone.false) writes.line writes.held refl refl refl (assumption) }
 
 pub returns-in_err-undone : goal.returns-in_err-undone
-returns-in_err-undone g c =
-    record {
-      does = undo_refused c.args.n _ _ _ c.from_residual.ensures.1 c.in_err-undone.ensures.left refl refl
-          (record { ruler = refl; prompt = refl; history_is = refl; hooks_are = refl; marks_are = refl; config_is = refl });
-    }
+returns-in_err-undone g c = record { does = undo_refused c.args.n _ _ _ c.from_residual.ensures.1 c.in_err-undone.ensures.left refl refl (assumption) }

@@ -8,6 +8,7 @@ use Rattle.line_editor.specs.RenderCalls.{known_within}
 use Rattle.line_editor.proofs.EditLemmas.{char_put, char_put_by, nothing_typed, edit_then, edit_refused}
 use Rattle.line_editor.proofs.KnownLemmas.{typed_known}
 use Rattle.line_editor.proofs.state.State.insert_noted.Goals as goal
+use Rattle.line_editor.proofs.DoesLemmas.{stays_by}
 
 pub invariant_of-self-2 : goal.invariant_of-self-2
 invariant_of-self-2 g c =
@@ -22,18 +23,15 @@ returns-in_err-inserted g c =
     let s = c.args.self.now in
     let shown = show_inserted_effect c.args.ch (insertion_way (setting_of s) c.args.ch c.args.n (value_of s)) (since (setting_of s) s.recorded.line.place (value_of s)) in
     record {
-      does = edit_refused (insert_char c.args.ch c.args.n) shown (char_steps c.args.ch c.args.n)
-          (value_of s) s _ _ _ _ c.from_residual.ensures.1
-          (char_put c.args.ch c.args.n (setting_of s) (value_of s) c.in_err-inserted.ensures.refused)
-          refl c.in_err-inserted.ensures.writes refl refl
-          (record { ruler = refl; prompt = refl; history_is = refl; hooks_are = refl; marks_are = refl; config_is = refl });
+      does = edit_refused (insert_char c.args.ch c.args.n) shown (char_steps c.args.ch c.args.n) (value_of s) s _ _ _ _ c.from_residual.ensures.1
+          (char_put c.args.ch c.args.n (setting_of s) (value_of s) c.in_err-inserted.ensures.refused) refl c.in_err-inserted.ensures.writes refl refl
+          (assumption);
     }
 
 pub returns-then-is_none : goal.returns-then-is_none
 returns-then-is_none g c = record {
-  does = nothing_typed c.args.ch c.args.n c.args.self.now _ _ _
-      (c.is_none.ensures ∙ ap not c.if-is_none.true) c.in_ok-inserted.ensures.writes refl refl
-      (record { ruler = refl; prompt = refl; history_is = refl; hooks_are = refl; marks_are = refl; config_is = refl });
+  does = nothing_typed c.args.ch c.args.n c.args.self.now _ _ _ (c.is_none.ensures ∙ ap not c.if-is_none.true) c.in_ok-inserted.ensures.writes refl refl
+      (assumption);
 }
 
 pub returns : goal.returns
@@ -41,13 +39,9 @@ returns g c =
     let s = c.args.self.now in
     record {
       does = edit_then (insert_char c.args.ch c.args.n)
-          (show_inserted_effect c.args.ch c.insertion_way-way.result c.since-since.result) (char_steps c.args.ch c.args.n)
-          (value_of s) s _ _ _ _ _ _
+          (show_inserted_effect c.args.ch c.insertion_way-way.result c.since-since.result) (char_steps c.args.ch c.args.n) (value_of s) s _ _ _ _ _ _
           (char_put_by c.args.ch c.args.n c.insertion_way-way.result c.since-since.result (setting_of s) (value_of s)
-          (ap is_some (sym c.in_ok-inserted.ensures.writes.writes.answers)
-          ∙ c.is_none.ensures ∙ ap not c.if-is_none.false) c.insertion_way-way.ensures
+          (ap is_some (sym c.in_ok-inserted.ensures.writes.writes.answers) ∙ c.is_none.ensures ∙ ap not c.if-is_none.false) c.insertion_way-way.ensures
           (c.since-since.ensures ∙ ap (λ place. since (setting_of s) place (value_of s)) c.pos-pos.ensures.value))
-          refl c.in_ok-inserted.ensures.writes refl refl
-          (record { ruler = refl; prompt = refl; history_is = refl; hooks_are = refl; marks_are = refl; config_is = refl })
-          c.show_inserted.ensures.does;
+          refl c.in_ok-inserted.ensures.writes refl refl (stays_by refl refl refl refl refl refl) c.show_inserted.ensures.does;
     }

@@ -6,20 +6,15 @@ use Rattle.line_editor.proofs.state.State.move_cursor_to_end.Goals as goal
 pub returns-then-eq : goal.returns-then-eq
 returns-then-eq g c =
     let s = c.args.self.now in
-    cursor_rests (λ a v. ToEnd) s.layout.end s _ _ refl (sym c.eq.ensures ∙ c.if-eq.true) refl refl
-    (record { ruler = refl; prompt = refl; history_is = refl; hooks_are = refl; marks_are = refl; config_is = refl })
+    cursor_rests (λ a v. ToEnd) s.layout.end s _ _ refl (sym c.eq.ensures ∙ c.if-eq.true) refl refl (assumption)
 
 pub returns-in_err-move_cursor : goal.returns-in_err-move_cursor
 returns-in_err-move_cursor g c =
     let s = c.args.self.now in
-    cursor_refused (λ a v. ToEnd) s.layout.end s _ _ _ c.from_residual.ensures.1
-    c.in_err-move_cursor.ensures.fault refl (sym c.eq.ensures ∙ c.if-eq.false) refl
-    c.in_err-move_cursor.ensures.refused c.in_err-move_cursor.ensures.failed refl
-    (record { ruler = c.in_err-move_cursor.ensures.ruler; prompt = refl; history_is = refl; hooks_are = refl; marks_are = refl; config_is = refl })
+    cursor_refused (λ a v. ToEnd) s.layout.end s _ _ _ c.from_residual.ensures.1 c.in_err-move_cursor.ensures.fault refl (sym c.eq.ensures ∙ c.if-eq.false) refl
+    c.in_err-move_cursor.ensures.refused c.in_err-move_cursor.ensures.failed refl (assumption)
 
 pub returns : goal.returns
 returns g c =
     let s = c.args.self.now in
-    cursor_goes (λ a v. ToEnd) s.layout.end s _ _ refl (sym c.eq.ensures ∙ c.if-eq.false) refl
-    c.in_ok-move_cursor.ensures.made refl
-    (record { ruler = c.in_ok-move_cursor.ensures.ruler; prompt = refl; history_is = refl; hooks_are = refl; marks_are = refl; config_is = refl })
+    cursor_goes (λ a v. ToEnd) s.layout.end s _ _ refl (sym c.eq.ensures ∙ c.if-eq.false) refl c.in_ok-move_cursor.ensures.made refl (assumption)

@@ -11,6 +11,7 @@ use Rattle.line_buffer.specs.Line.{Line}
 use Rattle.line_editor.specs.RenderCalls.{known_within}
 use Rattle.line_editor.proofs.KnownLemmas.{Begins, left_known, replaced_begins}
 use Rattle.line_editor.proofs.state.State.replace_char_noted.Goals as goal
+use Rattle.line_editor.proofs.DoesLemmas.{stays_by}
 
 pub invariant_of-self-2 : goal.invariant_of-self-2
 invariant_of-self-2 g c =
@@ -26,14 +27,14 @@ pub returns-in_err-replaced : goal.returns-in_err-replaced
 returns-in_err-replaced g c =
     let s = c.args.self.now in
     record {
-      does = edit_refused (clusters_replaced c.args.n (replace_group_if_any c.args.ch c.args.n)) (effect_if (is_some (place_forward c.args.n s.recorded.line)) (refresh_effect_since (since (setting_of s) s.recorded.line.place (value_of s)))) (replace_group_if_any c.args.ch c.args.n) (value_of s) s _ _ _ _ c.from_residual.ensures.1 refl refl c.in_err-replaced.ensures refl refl (record { ruler = refl; prompt = refl; history_is = refl; hooks_are = refl; marks_are = refl; config_is = refl });
+      does = edit_refused (clusters_replaced c.args.n (replace_group_if_any c.args.ch c.args.n)) (effect_if (is_some (place_forward c.args.n s.recorded.line)) (refresh_effect_since (since (setting_of s) s.recorded.line.place (value_of s)))) (replace_group_if_any c.args.ch c.args.n) (value_of s) s _ _ _ _ c.from_residual.ensures.1 refl refl c.in_err-replaced.ensures refl refl (assumption);
     }
 
 pub returns-then-replaced : goal.returns-then-replaced
 returns-then-replaced g c =
     let s = c.args.self.now in
     record {
-      does = edit_then (clusters_replaced c.args.n (replace_group_if_any c.args.ch c.args.n)) (effect_if (is_some (place_forward c.args.n s.recorded.line)) (refresh_effect_since (since (setting_of s) s.recorded.line.place (value_of s)))) (replace_group_if_any c.args.ch c.args.n) (value_of s) s _ _ _ _ _ _ refl refl c.in_ok-replaced.ensures refl refl (record { ruler = refl; prompt = refl; history_is = refl; hooks_are = refl; marks_are = refl; config_is = refl })
+      does = edit_then (clusters_replaced c.args.n (replace_group_if_any c.args.ch c.args.n)) (effect_if (is_some (place_forward c.args.n s.recorded.line)) (refresh_effect_since (since (setting_of s) s.recorded.line.place (value_of s)))) (replace_group_if_any c.args.ch c.args.n) (value_of s) s _ _ _ _ _ _ refl refl c.in_ok-replaced.ensures refl refl (stays_by refl refl refl refl refl refl)
           (drawn_since_if c.since-since.result (since (setting_of s) s.recorded.line.place (value_of s)) (is_some (place_forward c.args.n s.recorded.line)) _ _ _ (c.since-since.ensures ∙ ap (λ place. since (setting_of s) place (value_of s)) c.pos-pos.ensures.value) (replaces_if c.args.ch c.args.n s.recorded.line _ c.in_ok-replaced.ensures.writes.answers ∙ c.if-replaced.true) c.refresh_since.ensures.does);
     }
 
@@ -41,6 +42,6 @@ pub returns-else-replaced : goal.returns-else-replaced
 returns-else-replaced g c =
     let s = c.args.self.now in
     record {
-      does = edit_then (clusters_replaced c.args.n (replace_group_if_any c.args.ch c.args.n)) (effect_if (is_some (place_forward c.args.n s.recorded.line)) (refresh_effect_since (since (setting_of s) s.recorded.line.place (value_of s)))) (replace_group_if_any c.args.ch c.args.n) (value_of s) s _ _ _ _ _ _ refl refl c.in_ok-replaced.ensures refl refl (record { ruler = refl; prompt = refl; history_is = refl; hooks_are = refl; marks_are = refl; config_is = refl })
+      does = edit_then (clusters_replaced c.args.n (replace_group_if_any c.args.ch c.args.n)) (effect_if (is_some (place_forward c.args.n s.recorded.line)) (refresh_effect_since (since (setting_of s) s.recorded.line.place (value_of s)))) (replace_group_if_any c.args.ch c.args.n) (value_of s) s _ _ _ _ _ _ refl refl c.in_ok-replaced.ensures refl refl (stays_by refl refl refl refl refl refl)
           (undrawn_if (refresh_effect_since (since (setting_of s) s.recorded.line.place (value_of s))) (is_some (place_forward c.args.n s.recorded.line)) _ _ (replaces_if c.args.ch c.args.n s.recorded.line _ c.in_ok-replaced.ensures.writes.answers ∙ c.if-replaced.false));
     }

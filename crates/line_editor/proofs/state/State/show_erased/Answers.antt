@@ -1,7 +1,7 @@
 use Rattle.std.proofs.Common.{◌≡◌, false, refl}
 use Rattle.line_editor.specs.Redraws.{may_erase}
 use Rattle.line_editor.proofs.DrawnLemmas.{no_columns, too_few_columns, told_after, erased_rest}
-use Rattle.line_editor.proofs.DoesLemmas.{does_from}
+use Rattle.line_editor.proofs.DoesLemmas.{does_from, stays_by}
 use Rattle.line_editor.proofs.state.State.show_erased.Goals as goal
 use Rattle.line_editor.proofs.state.State.show_erased.Goals.{in_default-via-in-Some+then-not-self+else-width-end, in_default-via-in-Some+else-not-self, in_default-via-in_default}
 
@@ -17,6 +17,6 @@ returns-in_default g c =
     ] in
     record {
       does = erased_rest c.args.ch c.pos-place.result _ _ _ is c.requires.bare c.pos-place.ensures.value
-          (does_from _ _ _ _ _ _ refl refl (record { ruler = refl; prompt = refl; history_is = refl; hooks_are = refl; marks_are = refl; config_is = refl }) c.draw_from.ensures.does);
+          (does_from _ _ _ _ _ _ refl refl (stays_by refl refl refl refl refl refl) c.draw_from.ensures.does);
       fault = c.draw_from.ensures.fault;
     }

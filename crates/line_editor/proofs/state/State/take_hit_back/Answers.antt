@@ -4,6 +4,5 @@ use Rattle.line_editor.proofs.state.State.take_hit_back.Goals as goal
 
 pub returns-in_err-undo : goal.returns-in_err-undo
 returns-in_err-undo g c = record {
-  does = back_refused c.args.put _ _ _ (search rules) c.from_residual.ensures.1 c.in_err-undo.ensures.left refl refl
-      (record { ruler = refl; prompt = refl; history_is = refl; hooks_are = refl; marks_are = refl; config_is = refl });
+  does = back_refused c.args.put _ _ _ (search rules) c.from_residual.ensures.1 c.in_err-undo.ensures.left refl refl (assumption);
 }

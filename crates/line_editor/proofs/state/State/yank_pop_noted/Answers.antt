@@ -8,6 +8,7 @@ use Rattle.line_buffer.specs.Line.{Line}
 use Rattle.line_editor.specs.RenderCalls.{known_within}
 use Rattle.line_editor.proofs.KnownLemmas.{Begins, left_known, pop_begins}
 use Rattle.line_editor.proofs.state.State.yank_pop_noted.Goals as goal
+use Rattle.line_editor.proofs.DoesLemmas.{stays_by}
 
 pub invariant_of-self-2 : goal.invariant_of-self-2
 invariant_of-self-2 g c =
@@ -25,12 +26,10 @@ returns-in_err-yank_pop g c =
     let edit = pop_group c.args.yank_size c.args.text.now in
     record {
       does = edit_refused (pop_text c.args.yank_size c.args.text.now) (refresh_effect_since c.since-since.result) edit (value_of s) s
-          _ _ _ _ c.from_residual.ensures.1
-          (text_popped c.args.yank_size c.args.text.now c.since-since.result (setting_of s) (value_of s)
+          _ _ _ _ c.from_residual.ensures.1 (text_popped c.args.yank_size c.args.text.now c.since-since.result (setting_of s) (value_of s)
           (sym c.can_take_before.ensures.value ∙ c.if-not-can_take_before.false)
           (c.since-since.ensures ∙ ap (λ place. since (setting_of s) (place - c.args.yank_size) (value_of s)) c.pos.ensures.value)) refl
-          c.in_err-yank_pop.ensures refl refl
-          (record { ruler = refl; prompt = refl; history_is = refl; hooks_are = refl; marks_are = refl; config_is = refl });
+          c.in_err-yank_pop.ensures refl refl (assumption);
     }
 
 pub returns : goal.returns
@@ -38,12 +37,9 @@ returns g c =
     let s = c.args.self.now in
     let edit = pop_group c.args.yank_size c.args.text.now in
     record {
-      does = edit_then (pop_text c.args.yank_size c.args.text.now) (refresh_effect_since c.since-since.result) edit (value_of s) s _ _
-          _ _ _ _
+      does = edit_then (pop_text c.args.yank_size c.args.text.now) (refresh_effect_since c.since-since.result) edit (value_of s) s _ _ _ _ _ _
           (text_popped c.args.yank_size c.args.text.now c.since-since.result (setting_of s) (value_of s)
           (sym c.can_take_before.ensures.value ∙ c.if-not-can_take_before.false)
           (c.since-since.ensures ∙ ap (λ place. since (setting_of s) (place - c.args.yank_size) (value_of s)) c.pos.ensures.value)) refl
-          c.in_ok-yank_pop.ensures refl refl
-          (record { ruler = refl; prompt = refl; history_is = refl; hooks_are = refl; marks_are = refl; config_is = refl })
-          c.refresh_since.ensures.does;
+          c.in_ok-yank_pop.ensures refl refl (stays_by refl refl refl refl refl refl) c.refresh_since.ensures.does;
     }
