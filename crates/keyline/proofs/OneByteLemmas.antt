@@ -89,7 +89,7 @@ layouts_tell s own (r ∷ rs) l x h fits =
 printed : (tabs : Bool) (v : Value) (c : ℕ) → may_be_typed tabs c 1 v ≡ true → is_printable c ≡ true
 printed tabs v c alone = (and_parts (is_printable c) _ (and_parts (is_bare v) (is_typed_at_end tabs c v.line.text v.line.place) alone).1).0
 
--- neither sends anything
+-- a step and the helper's calls, none of which sends anything, before other steps
 help_bytes : {A : Type 0} (s : Screen) (l : Layout) (u : Value) (step : EditStep) (reply : Option (Reply A)) (steps : List EditStep) → one (ruler_of s) l step ≡ nothing_asked l
     → bytes_for s l (step ∷ (help_steps u reply ++ steps)) ≡ bytes_for s l steps
 help_bytes s l u step None steps nothing = ap (λ a. flat_map (bytes_of s) (a.calls ++ (calls_of_steps (ruler_of s) a.layout steps).calls)) nothing

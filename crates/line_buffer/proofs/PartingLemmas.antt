@@ -110,7 +110,7 @@ is_shaky_after _ = false
 abbrev is_shaky : State → Bool
 is_shaky s = s.emoji || (s.text || is_shaky_after s.after)
 
--- of a character with this width and state, by what it is
+-- the facts of a character with this width and state, by its kind
 record Facts (own : ℕ × State) (emoji empty close turn tone : Bool) : Type 0 where
   wide : (own.0 == 0) ≡ false
   empty_is : empty ≡ false

@@ -34,7 +34,7 @@ use Rattle.line_editor.proofs.MeetLemmas.{taken_then}
 pub same_custom : {D : Type 0} (s s' : InputState D) (means : D → Meaning) → s.custom_bindings ≡ s'.custom_bindings → custom_in s means ≡ custom_in s' means
 same_custom s s' means same = ap (λ b. custom_of b.now means) same
 
--- fuel for one turn
+-- a number that isn't 0, as the fuel of a turn
 record Some (m : ℕ) : Type 0 where
   less : ℕ
   is : m ≡ suc less

@@ -1,9 +1,7 @@
 -- One edit, then another.
-use Rattle.std.proofs.Common.{◌≡◌, Bool, List, [], ◌∷◌, ◌++◌, refl, sym, ap, subst, ◌∙◌, if◌then◌else◌, Option, None}
+use Rattle.std.proofs.Common.{◌≡◌, Bool, [], ◌∷◌, ◌++◌, refl, sym, ap, subst, ◌∙◌}
 use Rattle.std.specs.Prelude.{⊤, ℕ, Result, Ok, Err, OnOk, IfErr, IsErrAnd, option_map}
 use Rattle.std.proofs.lemmas.Result.{on_ok_weaker}
-use Rattle.line_config.specs.declared.config.Config.{Config}
-use Rattle.line_buffer.specs.Cells.{origin}
 use Rattle.line_buffer.specs.declared.types.Movement.{Movement}
 use Rattle.std.specs.List.{FoldsTo}
 use Rattle.line_config.specs.declared.errors.ReadlineError.{ReadlineError, TheVariants.Display}
@@ -13,12 +11,12 @@ use Rattle.line_help.specs.declared.helpers.highlight as highlights
 use Rattle.line_help.specs.declared.helpers.validate as verdicts
 use Rattle.line_help.specs.declared.history as histories
 use Rattle.line_edits.specs.WriteSteps.{WriteSteps}
-use Rattle.line_editor.specs.RenderCalls.{Marks, Ruler, MadeIn}
+use Rattle.line_editor.specs.RenderCalls.{Ruler, MadeIn}
 use Rattle.line_editor.specs.Redraws.{RedrawCalls, then_asked}
 use Rattle.line_editor.specs.EditSteps.{calls_of_steps, Surface, surface, CutEditSteps}
 use Rattle.line_editor.specs.Transforms.{indent_effect, indent_by_setting}
 use Rattle.line_editor.specs.States.{value_of, setting_of, reason_of, surface_of, Stays, Does, Renders, hooks_of}
-use Rattle.line_editor.specs.Values.{Value, Setting, Hooks, Effect, Transition, IsFailing, then_do}
+use Rattle.line_editor.specs.Values.{Value, Setting, Effect, Transition, IsFailing, then_do}
 use Rattle.line_editor.specs.Values.EditStep.{Edits}
 use Rattle.line_editor.specs.declared.renderer as renderers
 use Rattle.line_editor.specs.declared.state.State.{State}
@@ -31,18 +29,6 @@ is_err e (Err x) h = ap Err h
 pub if_refused : {A : Type 0} {Q R : ReadlineError → Type 0} (result : Result A ReadlineError) → ((e : ReadlineError) → Q e → R e) → IfErr result Q → IfErr result R
 if_refused (Ok x) go k = tt
 if_refused (Err e) go k = go e k
-
-abbrev setting_by : Ruler → List ℕ → Option Hooks → Option Marks → List (List ℕ) → Config → Setting
-setting_by r prompt hooks marks entries config = record {
-  prompt = prompt;
-  column = (r.measure prompt origin).col;
-  mode = r.mode;
-  tabs = r.tabs;
-  hooks = hooks;
-  marks = if r.colours then marks else None;
-  entries = entries;
-  config = config;
-}
 
 module _ {Out H Hi K T : Type 0} {renderer : renderers.Renderer.Ghosts Out} {completer : completions.Completer.Ghosts H K} {candidate : completions.Candidate.Ghosts K}
     {hinter : hints.Hinter.Ghosts H T} {hint : hints.Hint.Ghosts T} {highlighter : highlights.Highlighter.Ghosts H} {validator : verdicts.Validator.Ghosts H} {history : histories.History.Ghosts Hi} where

@@ -16,14 +16,14 @@ use Rattle.line_keys.specs.KeyFeeds.{KeyFeed, Coming, answer_map}
 use Rattle.line_keys.specs.InputStates.{new_input}
 use Rattle.line_keys.specs.PhraseScripts.{Input}
 use Rattle.line_record.specs.Ring.{Ring}
-use Rattle.line_editor.specs.RenderCalls.{Canvas, Marks, Ruler}
+use Rattle.line_editor.specs.RenderCalls.{Canvas, Ruler}
 use Rattle.line_editor.specs.LineScripts.{LineStage, line_state, line_script, line_world, line_stage}
 use Rattle.line_editor.specs.Redraws.{fresh}
 use Rattle.line_editor.specs.LineRun.{Helping, helper_from_hooks, setting_by, stage_first, outcome_of, open_or, IsOpen, Runs}
 use Rattle.line_editor.specs.Modal.{Modal, modal_first}
 use Rattle.line_editor.specs.States.{value_of, setting_of, Stays, Starts, cause_of, Cause, Takes, stage_of, world_of}
 use Rattle.line_editor.specs.EditSteps.{surface}
-use Rattle.line_editor.specs.Values.{Value, Setting, Hooks, IsFailing, empty_at, first_value}
+use Rattle.line_editor.specs.Values.{Value, Setting, IsFailing, empty_at, first_value}
 use Rattle.line_editor.specs.declared.line_run.Ran.{Ran}
 use Rattle.line_editor.specs.declared.renderer as renderers
 use Rattle.line_editor.specs.declared.state.State.{State}
@@ -89,9 +89,6 @@ cause_to custom b c P Q feed Helper same go why = go why
 cause_to custom b c P Q feed _ same go why = why
 
 -- ---- the line's setting
-
-abbrev helping : Option Hooks → Option Marks → Helping
-helping hooks marks = record { hooks = hooks; marks = marks }
 
 abbrev Failing : Helping → Type 0
 Failing h = IsFailing h.hooks

@@ -61,10 +61,6 @@ module _ (a : Setting) where
   steps_both k [] ys = refl
   steps_both k (x ∷ xs) ys = ap (λ zs. (effect_at a k x).steps ++ zs) (steps_both (left_at a k x) xs ys) ∙ sym (append_assoc (effect_at a k x).steps (steps_along a (left_at a k x) xs) _)
 
-  left_both : (k : LineState) (xs ys : List LineAsk) → left_along k (xs ++ ys) ≡ left_along (left_along k xs) ys
-  left_both k [] ys = refl
-  left_both k (x ∷ xs) ys = left_both (left_at a k x) xs ys
-
   abbrev pub PlayedOf : Type 0 → Type 0
   PlayedOf X = Played LineAsk LineState ReadlineError X
 

@@ -28,7 +28,7 @@ added_in_parts s entries (x ∷ xs) ys = added_in_parts s (entries_after s entri
 pub added_when : (s : Settings) (entries : List (List ℕ)) (line : List ℕ) → ignores_line s entries line ≡ false → entries_after s entries line ≡ newest s.max_len (entries ++ line ∷ [])
 added_when s entries line e = rw e refl
 
--- the newest entry is what decides
+-- older entries don't matter
 newest_alone : (line last : List ℕ) (entries lines : List (List ℕ)) → newest_is line (entries ++ last ∷ lines) ≡ newest_is line (last ∷ lines)
 newest_alone line last [] lines = refl
 newest_alone line last (x ∷ []) lines = refl

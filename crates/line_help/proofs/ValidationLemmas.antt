@@ -29,6 +29,7 @@ unpaired_found input bytes items message i same so_far within none not_opening c
     ap (λ text. Invalid (Some text)) told ∙ sym (ap (λ text. verdict_from [] text) (sym same) ∙ so_far ∙ step)
 
 -- ---- bytes that are no brackets
+
 -- what precedes the first bracket is passed
 others_passed : (unclosed text : List ℕ) → verdict_from unclosed text ≡ verdict_from unclosed (drop (position_or_len is_bracket text) text)
 others_passed unclosed [] = refl

@@ -68,7 +68,7 @@ all_marked items n done mark is same m = record {
   marked = m ∙ ap oldest_mark (sym same) ∙ sym (ap oldest_mark (ap (λ k. reverse (take k items)) is ∙ ap reverse (take-length items)));
 }
 
--- the first items kept
+-- the first items, kept as a record
 pub record Kept (items : List Item) (d n kept : ℕ) (mark : Option ℕ) (s : Items) : Type 0 where
   pub is : IsRecord (take kept items) kept (mark_within mark kept)
   pub value : record_of (take kept items) kept ≡ first_items n s

@@ -54,7 +54,7 @@ noted_step e c (Open ∷ items) before after f j s = noted_new c (Open ∷ items
 noted_step e c (Group d ds ∷ items) before after f j s = noted_new c (Group d ds ∷ items) before after f s
 noted_step e c (Lone d ∷ items) before after f j s = noted_joined e c d items before after (join_of e d) refl f j s
 
--- a change by that of its joined text
+-- a change that follows another by its joined text
 follows : {at : ℕ} {was now before after : List ℕ} (x g : Change) → x ≡ g → Joined at was now (old_text_of x) (new_text_of x) before after (place_of x)
     → Follows g (text_with_exchange at now was before) after
 follows {at} {was} {now} {before} {after} x g same j =

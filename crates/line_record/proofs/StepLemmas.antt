@@ -46,7 +46,7 @@ items_with_mark s = record { done = Open ∷ s.done; undone = [] }
 abbrev pub first_items : ℕ → Items → Items
 first_items n s = record { done = drop (length s.done - n) s.done; undone = [] }
 
--- the last one of the first some
+-- one item more of the first, from the last one on
 pub reverse_more : {A : Type 0} (xs : List A) (i : ℕ) (d : A) → i < length xs → reverse (take (suc i) xs) ≡ get_or xs i d ∷ reverse (take i xs)
 reverse_more xs i d h = ap reverse (take-suc xs i d h) ∙ reverse-append (take i xs) (get_or xs i d ∷ [])
 

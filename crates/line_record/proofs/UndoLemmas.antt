@@ -28,7 +28,7 @@ last_changes-next n x items =
 
 -- ---- the changes of some items, as the code counts them
 
--- the first items kept
+-- the first items, counted from the other end
 pub kept_reverse : (xs : List Item) (n : ℕ) → reverse (take n xs) ≡ drop (length (reverse xs) - n) (reverse xs)
 kept_reverse xs n =
     let newer = reverse (drop n xs) in

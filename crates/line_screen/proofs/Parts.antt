@@ -11,14 +11,13 @@ use Rattle.line_keys.specs.declared.key.KeyEvent.{KeyEvent}
 use Rattle.line_keys.specs.declared.flags.Modifiers.{Modifiers}
 use Rattle.line_keys.specs.KeyFeeds.{key_at, paste_at, refusal_of}
 use Rattle.line_keys.specs.Keys.{key_with}
-use Rattle.line_screen.specs.Colours.{SgrSpan, Styles, PaintedItem, items_without_style, painted_letters, painted_item, painted_row, painted_text, first_style, skip, style_bytes, bytes_of_painted_texts, painted_bytes, rest_bytes}
+use Rattle.line_screen.specs.Colours.{SgrSpan, Styles, PaintedItem, items_without_style, painted_letters, painted_item, painted_row, first_style, skip, style_bytes, bytes_of_painted_texts, painted_bytes}
 use Rattle.line_screen.specs.Colours.PaintedItem.{Bare}
-use Rattle.line_screen.specs.Display.{Display, Placed, cluster_placed_at, placed_in, right}
-use Rattle.line_screen.specs.Drawing.{DrawnItem, Widths, drawn_item, row_break, no_style, erase_to_end, move_bytes, col_move, take_cells_out, pulled_back, clearing_bytes, shown_text}
+use Rattle.line_screen.specs.Display.{Display, cluster_placed_at, placed_in, right}
+use Rattle.line_screen.specs.Drawing.{DrawnItem, Widths, drawn_item, row_break, no_style, move_bytes, col_move, take_cells_out, pulled_back, clearing_bytes, shown_text}
 use Rattle.line_screen.specs.Drawing.DrawnItem.{NewRow}
 use Rattle.line_screen.specs.Input.{Stop, AtEnd, chars_of, item_of}
 use Rattle.line_screen.specs.KeyGrammar.{Readings, readings, in_escape, in_sequence, in_paste, coming_of}
-use Rattle.line_screen.specs.Measure.{in_row}
 use Rattle.line_screen.specs.Reading.{is_lasting}
 use Rattle.line_screen.specs.Sequences.{unknown_key}
 use Rattle.script.specs.Scripts.{World}
@@ -37,9 +36,6 @@ key_answer r = key_at (coming_of [] r)
 
 abbrev pub text_answer : Readings → Result (List ℕ) ReadlineError
 text_answer r = paste_at (coming_of [] r)
-
-abbrev pub key_from : EditMode → List ℕ → Last → Readings
-key_from mode bytes last = readings mode (chars_of bytes last)
 
 abbrev pub escape_from : EditMode → List ℕ → Last → Readings
 escape_from mode bytes last = let chars = chars_of bytes last in in_escape mode bytes chars (readings mode chars)
@@ -126,13 +122,6 @@ painted_drawing columns wide styles prompt line info finish cursor = bytes_of_pa
 
 abbrev pub painted_full_drawing : ℕ → Widths → Styles → ℕ → List ℕ → List ℕ → List ℕ → Position → Position → List ℕ
 painted_full_drawing columns wide styles row prompt line info finish cursor = painted_bytes columns wide styles (Some row) prompt line info finish cursor
-
-abbrev pub painted_rest : Widths → List SgrSpan → List ℕ → ℕ → List PaintedItem
-painted_rest wide spans text from = painted_text wide (skip from spans) (drop from text)
-
-abbrev pub rest_from : ℕ → Widths → Styles → List ℕ → ℕ → List ℕ → Position → Position → List ℕ
-rest_from columns wide styles text from info old at =
-    move_bytes old at ++ (erase_to_end ++ rest_bytes columns wide styles text from info (in_row columns at).col)
 
 -- ---- calls
 

@@ -37,15 +37,15 @@ module _ {D : Type 0} {held : D → List ℕ} {failed : D → Bool} where
       → Sends {A = X} {E = F} held failed xs a b (Ok x) → Sends held failed ys b c r → Sends held failed (xs ++ ys) a c r
   sent_then {xs = xs} {ys = ys} one rest = sends_then held failed xs ys one.sent one.works rest
 
-  -- or nothing is left, and it is passed on
+  -- the same if the others send no bytes, as a flush
   pub sent_flushed : {X A E F : Type 0} {xs : List ℕ} {a b c : D} {x : X} {r : Result A E}
       → Sends {A = X} {E = F} held failed xs a b (Ok x) → Sends held failed [] b c r → Sends held failed xs a c r
   sent_flushed {xs = xs} one rest = sends_flushed held failed xs one.sent one.works rest
 
   -- a call failed, and that is the end
-  pub sent_refused : {X A E F : Type 0} {xs : List ℕ} {a b : D} {e : F} {r : Result A E} (Q : E → Type 0)
+  pub sent_failed : {X A E F : Type 0} {xs : List ℕ} {a b : D} {e : F} {r : Result A E} (Q : E → Type 0)
       → Sends {A = X} held failed xs a b (Err e) → IsErrAnd r Q → Sends held failed xs a b r
-  sent_refused {xs = xs} Q one refused = sends_refused held failed Q xs refused one.err one.begins
+  sent_failed {xs = xs} Q one refused = sends_refused held failed Q xs refused one.err one.begins
 
   pub sent_cut : {X A E F : Type 0} {xs : List ℕ} {a b : D} {e : F} {r : Result A E} (Q : E → Type 0) (ys : List ℕ)
       → Sends {A = X} held failed xs a b (Err e) → IsErrAnd r Q → Sends held failed (xs ++ ys) a b r
@@ -70,17 +70,17 @@ module _ {D : Type 0} {held : D → List ℕ} {failed : D → Bool} where
       → Sends {A = X} {E = F} held failed xs a b (Ok x) → SendsTo ys column columns held failed b c r → SendsTo (xs ++ ys) column columns held failed a c r
   sent_to_then one rest = record { sends = sent_then one rest.sends; next = rest.next; inside = rest.inside }
 
-  pub sent_to_refused : {X F : Type 0} {xs : List ℕ} {column columns : ℕ} {a b : D} {e : F} {r : Result ℕ DeviceFailed} (Q : DeviceFailed → Type 0)
+  pub sent_to_failed : {X F : Type 0} {xs : List ℕ} {column columns : ℕ} {a b : D} {e : F} {r : Result ℕ DeviceFailed} (Q : DeviceFailed → Type 0)
       → Sends {A = X} held failed xs a b (Err e) → IsErrAnd r Q → SendsTo xs column columns held failed a b r
-  sent_to_refused {r = Ok x} Q one refused = absurd refused
-  sent_to_refused {r = Err e} Q one refused = record { sends = sent_refused Q one refused; next = tt; inside = tt }
+  sent_to_failed {r = Ok x} Q one refused = absurd refused
+  sent_to_failed {r = Err e} Q one refused = record { sends = sent_failed Q one refused; next = tt; inside = tt }
 
   pub sent_to_cut : {X F : Type 0} {xs : List ℕ} {column columns : ℕ} {a b : D} {e : F} {r : Result ℕ DeviceFailed} (Q : DeviceFailed → Type 0) (ys : List ℕ)
       → Sends {A = X} held failed xs a b (Err e) → IsErrAnd r Q → SendsTo (xs ++ ys) column columns held failed a b r
   sent_to_cut {r = Ok x} Q ys one refused = absurd refused
   sent_to_cut {r = Err e} Q ys one refused = record { sends = sent_cut Q ys one refused; next = tt; inside = tt }
 
-  -- ---- piece after piece: of all of it this is still to be sent
+  -- ---- a text that is sent in pieces
 
   -- the next call sends all that is left
   pub sends_rest : {A E : Type 0} {all before rest : List ℕ} {a b c : D} {r : Result A E} → Underway held failed all before a b → before ≡ rest
@@ -97,14 +97,14 @@ module _ {D : Type 0} {held : D → List ℕ} {failed : D → Bool} where
     begins = tt;
   }
 
-  -- a part of what is left was sent, or some of it
+  -- the call that sends the next piece failed
   pub sends_part : {X A E F : Type 0} {all before piece : List ℕ} {a b c : D} {e : F} {r : Result A E} (Q : E → Type 0) (rest : List ℕ)
       → Underway held failed all before a b → before ≡ piece ++ rest
       → Sends {A = X} held failed piece b c (Err e) → IsErrAnd r Q → Sends held failed all a c r
   sends_part {all = all} {piece = piece} {a = a} {b = b} Q rest u is s refused =
       sends_refused held failed Q all refused s.err (underway_some held failed all piece rest (subst (λ left. Underway held failed all left a b) is u) s.begins)
 
-  -- and the piece was sent
+  -- the next piece was sent
   pub underway_then : {X F : Type 0} {all before piece rest : List ℕ} {a b c : D} {x : X} → Underway held failed all before a b → before ≡ piece ++ rest
       → Sends {A = X} {E = F} held failed piece b c (Ok x) → Underway held failed all rest a c
   underway_then {all = all} {piece = piece} {rest = rest} {a = a} {b = b} u is s =

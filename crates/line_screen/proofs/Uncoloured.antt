@@ -142,7 +142,7 @@ sequence_if count final few h false e =
 control_free : (count final : ℕ) → count < 2 ^ 64 → is_text final ≡ true → IsFree (control_sequence count final)
 control_free count final few h = sequence_if count final few h (count == 0) refl
 
--- so far back or on
+-- a move back or on
 way_free : (old new back on : ℕ) → old < 2 ^ 64 → new < 2 ^ 64 → is_text back ≡ true → is_text on ≡ true
     → IsFree (if nat_lt new old then control_sequence (old - new) back else control_sequence (new - old) on)
 way_free old new back on few low h k = free_if (nat_lt new old) (control_free (old - new) back (omega arith) h) (control_free (new - old) on (omega arith) k)

@@ -10,7 +10,7 @@ use Rattle.line_screen.specs.Drawing.DrawnItem.{Letter}
 use Rattle.line_screen.specs.Colours.{SgrSpan, style_bytes, letters_in_style, painted_letters, letters_within, spans_within, bare_letters, bytes_of_all_painted, end_of, SendsPainted}
 use Rattle.line_screen.specs.Colours.PaintedItem.{Shaded, Begins}
 use Rattle.line_screen.proofs.Runs.{sent_run, col_after_run}
-use Rattle.line_screen.proofs.Sendings.{sends_as, sends_answer, sent_refused}
+use Rattle.line_screen.proofs.Sendings.{sends_as, sends_answer, sent_failed}
 use Rattle.line_screen.proofs.StyledTextLemmas.{bare_of}
 use Rattle.line_screen.proofs.PaintRuns.{shaded_run, shades_are, items_bare, items_sent, painted-append, framed_bytes}
 use Rattle.line_screen.proofs.Parts.{shaded_break, all_unpainted}
@@ -84,4 +84,4 @@ module _ (columns : ℕ) where
       → SendsPainted (painted_letters spans letters) col columns held failed a b r
   cut_within {r = Ok x} Q spans letters col room s refused = absurd refused
   cut_within {r = Err e} Q spans letters col room s refused =
-      record { sends = sends_as (sym (spans_in_row spans letters col room)) (sent_refused Q s refused); next = tt; inside = tt }
+      record { sends = sends_as (sym (spans_in_row spans letters col room)) (sent_failed Q s refused); next = tt; inside = tt }

@@ -3,7 +3,7 @@ use Rattle.std.proofs.Common.{◌≡◌, ◌∙◌, sym, ap, if◌then◌else◌
 use Rattle.std.proofs.lemmas.Bool.{lt-ltb, le-ltb}
 use Rattle.line_screen.specs.Drawing.{next_row}
 use Rattle.line_screen.specs.Measure.{in_row}
-use Rattle.line_screen.proofs.Sendings.{sent_flushed, sent_refused}
+use Rattle.line_screen.proofs.Sendings.{sent_flushed, sent_failed}
 use Rattle.line_screen.proofs.drawing.appended.draw_behind.Goals as goal
 use Rattle.line_screen.proofs.drawing.appended.draw_behind.Goals.{then-at-grid-3, else-at-grid-3}
 
@@ -16,4 +16,4 @@ returns-in_err-flush-clause-sends g c =
       | then-at-grid-3 w ↦ w.col-is ∙ ap (λ b. (if b then at else next_row at).col) (sym (lt-ltb at.col columns w.if-at-grid-3.true))
       | else-at-grid-3 w ↦ w.col-is ∙ ap (λ b. (if b then at else next_row at).col) (sym (le-ltb at.col columns w.if-at-grid-3.false))
     ] in
-    sent_flushed (rw col_is at c.in_ok-send_text.ensures.sends) (sent_refused _ c.in_err-flush.ensures.sends c.from_residual-in_err-flush.ensures.1)
+    sent_flushed (rw col_is at c.in_ok-send_text.ensures.sends) (sent_failed _ c.in_err-flush.ensures.sends c.from_residual-in_err-flush.ensures.1)

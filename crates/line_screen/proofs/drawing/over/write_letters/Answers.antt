@@ -1,5 +1,5 @@
 -- The way there, the letters, and then the way to the cursor.
-use Rattle.line_screen.proofs.Sendings.{sent_then, sent_cut, sent_refused, sent_flushed}
+use Rattle.line_screen.proofs.Sendings.{sent_then, sent_cut, sent_failed, sent_flushed}
 use Rattle.line_screen.proofs.drawing.over.write_letters.Goals as goal
 
 pub returns-in_err-send_short_move-clause-sends : goal.returns-in_err-send_short_move-clause-sends
@@ -11,7 +11,7 @@ returns-in_err-send-clause-sends g c = sent_then c.in_ok-send_short_move.ensures
 pub returns-in_err-send_short_move-2-clause-sends : goal.returns-in_err-send_short_move-2-clause-sends
 returns-in_err-send_short_move-2-clause-sends g c =
     sent_then c.in_ok-send_short_move.ensures
-    (sent_then c.in_ok-send.ensures (sent_refused _ c.in_err-send_short_move-2.ensures c.from_residual-in_err-send_short_move-2.ensures.1))
+    (sent_then c.in_ok-send.ensures (sent_failed _ c.in_err-send_short_move-2.ensures c.from_residual-in_err-send_short_move-2.ensures.1))
 
 pub returns-clause-sends : goal.returns-clause-sends
 returns-clause-sends g c =

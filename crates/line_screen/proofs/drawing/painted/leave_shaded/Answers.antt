@@ -1,5 +1,5 @@
 use Rattle.std.proofs.lemmas.Bool.{eq-eqb}
-use Rattle.line_screen.proofs.Sendings.{sent_to_then, sent_to_cut, sent_to_refused}
+use Rattle.line_screen.proofs.Sendings.{sent_to_then, sent_to_cut, sent_to_failed}
 use Rattle.line_screen.proofs.drawing.painted.leave_shaded.Goals as goal
 
 pub returns-in_err-send : goal.returns-in_err-send
@@ -8,4 +8,4 @@ returns-in_err-send g c = rw (eq-eqb c.args.col c.args.grid.columns c.if-col-gri
 pub returns-in_err-send_style : goal.returns-in_err-send_style
 returns-in_err-send_style g c =
     rw (eq-eqb c.args.col c.args.grid.columns c.if-col-grid.true)
-    (sent_to_then c.in_ok-send.ensures (sent_to_refused _ c.in_err-send_style.ensures c.from_residual-in_err-send_style.ensures.1))
+    (sent_to_then c.in_ok-send.ensures (sent_to_failed _ c.in_err-send_style.ensures c.from_residual-in_err-send_style.ensures.1))
