@@ -10,7 +10,7 @@ use Rattle.line_keys.specs.KeyFeeds.{Key, Paste}
 use Rattle.line_screen.specs.Reader.{coming_in}
 use Rattle.keyline.specs.SessionEffects.{error_of}
 use Rattle.keyline.specs.Events.{SessionEvent, Begins, Takes, Helped, Draws, Hears, Rests, Breaks, Keeps, Writes, lines_written, session}
-use Rattle.keyline.specs.SessionEffects.{KnownDevices, AreDone, CutSessionEvent, Stands, Went, Work, ending_after, work}
+use Rattle.keyline.specs.SessionEffects.{KnownDevices, AreDone, CutSessionEvent, WholeOrCut, Went, Work, ending_after, work}
 use Rattle.keyline.specs.Program.{PlaysBytes, config_of, given_with, nothing_bound, start_by}
 use Rattle.keyline.specs.Sessions.{each, lines_text}
 use Rattle.keyline.specs.declared.ending.Ending.{Ending}
@@ -58,7 +58,7 @@ module _ {D L : Type 0} (shown : D → List ℕ) (written_in : L → List ℕ) (
       → Went shown written_in adds events old new Whole (λ e. why ≡ e) → written_in new.lines ≡ lines_text (flat_map lines_written events)
   all_written events old new why Whole is bare went = by went.others went.split went.stands
     where
-      by : (others : List SessionEvent) → events ≡ went.done ++ others → Stands shown written_in adds others went.at new Whole (λ e. why ≡ e)
+      by : (others : List SessionEvent) → events ≡ went.done ++ others → WholeOrCut shown written_in adds others went.at new Whole (λ e. why ≡ e)
           → written_in new.lines ≡ lines_text (flat_map lines_written events)
       by [] split stands =
           ap (λ (x : Work D L). written_in x.lines) stands.1 ∙ went.are_done.wrote

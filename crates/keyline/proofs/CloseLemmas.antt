@@ -2,7 +2,7 @@
 use Rattle.std.proofs.Common.{◌≡◌, ℕ, append-nil, Bool, true, false, ◌&&◌, List, [], ◌∷◌, inl, inr, refl, sym, ap, ◌∙◌, subst, true≢false, IsTrue, Result, Ok, Err, IfErr, Global}
 use Rattle.std.specs.Prelude.{IfOk, MatchResult, OnErr, OnOk, ⊤, String, if◌then◌else◌, string_bytes}
 use Rattle.line_config.specs.declared.errors.ReadlineError.{ReadlineError, TheVariants.Display, TheVariants.Lines, TheVariants.Memory}
-use Rattle.line_config.specs.Sending.{Takes, Sends}
+use Rattle.line_config.specs.Sending.{TakesBytes, Sends}
 use Rattle.script.proofs.ScriptLaws.{err_in}
 use Rattle.line_config.proofs.Taking.{takes_none}
 use Rattle.line_editor.specs.LineRun.{breaks_after}
@@ -30,14 +30,14 @@ module _ {D : Type 0} (held waits : D → List ℕ) (failed : D → Bool) where
   pub row_drawn : {A : Type 0} (asked : Bool) (old new : ScreenRenderer D) (result : Result A ReadlineError) → asked ≡ true → OnOk result (Sent held waits failed row_break old new) → OnErr result (CutSending held failed row_break old new) → IfErr result (λ e. e ≡ Display)
       → MatchResult result (λ _. RowIsDrawn held failed asked (sink_of old) (sink_of new)) (λ e. (e ≡ Display) × RowIsCut held failed asked (sink_of old) (sink_of new))
   row_drawn asked old new (Ok x) is sent unsent fault = record {
-    drawn = subst (λ b. Takes held (sink_of old) (sink_of new) (break_if b)) (sym is) sent.takes;
+    drawn = subst (λ b. TakesBytes held (sink_of old) (sink_of new) (break_if b)) (sym is) sent.takes;
     works = sent.works;
     stays = λ no. absurd (true≢false (sym is ∙ no));
   }
   row_drawn asked old new (Err e) is sent unsent fault = (fault, (is, unsent.begins, unsent.fails))
 
   pub row_undrawn : (asked : Bool) (sink : D) → asked ≡ false → RowIsDrawn held failed asked sink sink
-  row_undrawn asked sink is = record { drawn = subst (λ b. Takes held sink sink (break_if b)) (sym is) (takes_none held sink sink refl); works = refl; stays = λ no. refl }
+  row_undrawn asked sink is = record { drawn = subst (λ b. TakesBytes held sink sink (break_if b)) (sym is) (takes_none held sink sink refl); works = refl; stays = λ no. refl }
 
   pub row_rests : {A : Type 0} (old new : ScreenRenderer D) (result : Result A ReadlineError) → OnOk result (Sent held waits failed row_break old new) → OnErr result (CutSending held failed row_break old new)
       → NothingWaits waits failed (sink_of old) → NothingWaits waits failed (sink_of new)
@@ -96,12 +96,12 @@ module _ {D L : Type 0} (shown : D → List ℕ) (show_failed : D → Bool) (wri
   abbrev Sums : Bool → List SessionEvent → Work D L → Work D L → Type 0
   Sums adds events old new = AreDone shown written_in adds events old new
 
-  row_done : (adds : Bool) (d d' : D) (l : L) (h : Filed) (coming : Coming) → Takes shown d d' row_break → Sums adds (Breaks ∷ []) (work d l h coming) (work d' l h coming)
+  row_done : (adds : Bool) (d d' : D) (l : L) (h : Filed) (coming : Coming) → TakesBytes shown d d' row_break → Sums adds (Breaks ∷ []) (work d l h coming) (work d' l h coming)
   row_done adds d d' l h coming drawn = record { drawn = drawn; wrote = takes_none written_in l l refl; history_is = sym (remembered_none adds h); left_is = refl; answered = tt }
 
   -- the history could take no line
   closes_unkept : (adds : Bool) (text : List ℕ) (d d' : D) (l : L) (h : Filed)
-      → Takes shown d d' row_break → show_failed d' ≡ show_failed d → IsTrue (adds && takes h text)
+      → TakesBytes shown d d' row_break → show_failed d' ≡ show_failed d → IsTrue (adds && takes h text)
       → Ends adds (Ok text) (work d l h) (work d' l h) (Err Memory)
   closes_unkept adds text d d' l h drawn works adding = record {
     goes = λ coming. went_stopped (Keeps text) (Writes text ∷ []) Memory (row_done adds d d' l h coming drawn) (adding, refl) refl;
@@ -113,12 +113,12 @@ module _ {D L : Type 0} (shown : D → List ℕ) (show_failed : D → Bool) (wri
 
   -- the line's text and newline were written, or torn
   closes_written : {A : Type 0} (adds : Bool) (text : List ℕ) (d d' : D) (l l' : L) (h h' : Filed) (written : Result A ReadlineError)
-      → Takes shown d d' row_break → show_failed d' ≡ show_failed d → h' ≡ history_with_if adds (text ∷ []) h
+      → TakesBytes shown d d' row_break → show_failed d' ≡ show_failed d → h' ≡ history_with_if adds (text ∷ []) h
       → Sends written_in write_failed (line_text text) l l' written → IfErr written (λ e. e ≡ Lines)
       → Ends adds (Ok text) (work d l h) (work d' l' h') (answer_map (λ u. text) written)
   closes_written adds text d d' l l' h h' (Ok x) drawn works kept wrote named = record {
     goes = λ coming.
-        let lines = subst (Takes written_in l l') (sym (append-nil (line_text text))) wrote.sent in
+        let lines = subst (TakesBytes written_in l l') (sym (append-nil (line_text text))) wrote.sent in
         went_whole (record { drawn = drawn; wrote = lines; history_is = kept; left_is = refl; answered = tt }) refl;
     stays = tt;
     reason = λ coming. tt;
@@ -147,7 +147,7 @@ module _ {D L : Type 0} (shown : D → List ℕ) (show_failed : D → Bool) (wri
     lines_are = λ coming. inr refl;
   }
     where
-      by : (coming : Coming) (b : Bool) → Takes shown d d' (break_if b) → (b ≡ false → d' ≡ d)
+      by : (coming : Coming) (b : Bool) → TakesBytes shown d d' (break_if b) → (b ≡ false → d' ≡ d)
           → Went shown written_in adds (if b then Breaks ∷ [] else []) (work d l h coming) (work d' l h coming) (err_in (List ℕ) e ≡ Err e) (λ why. err_in (List ℕ) e ≡ Err why)
       by coming true drawn still = went_whole (row_done adds d d' l h coming drawn) refl
       by coming false drawn still = rw (still refl) (went_whole (none_done (work d l h coming)) refl)

@@ -5,7 +5,7 @@ use Rattle.std.specs.Prelude.{⊤, map}
 use Rattle.std.proofs.lemmas.Grind.{flat_map-append}
 use Rattle.line_buffer.specs.declared.layout.Layout.{Layout}
 use Rattle.script.specs.Scripts.{Goes as GoesOn}
-use Rattle.line_config.specs.Sending.{Takes as TakesAll, TakesSome}
+use Rattle.line_config.specs.Sending.{TakesBytes, TakesSome}
 use Rattle.line_config.specs.declared.errors.ReadlineError.{ReadlineError, TheVariants.Display, TheVariants.Helper, TheVariants.Memory}
 use Rattle.line_config.proofs.Taking.{takes_none, takes_then, some_of_more, some_then}
 use Rattle.line_help.specs.History.{Filed, history_with_line, history_with_lines}
@@ -24,7 +24,7 @@ use Rattle.line_screen.specs.ScreenCalls.{Screen, bytes_of, canvas_of, ruler_of,
 use Rattle.line_screen.specs.declared.renderer.ScreenRenderer.{ScreenRenderer}
 use Rattle.line_screen.proofs.CallLemmas.{sent_in_all}
 use Rattle.keyline.specs.Events.{SessionEvent, Takes, Helped, Draws, Hears, AllAnswered, asks_events, bytes_drawn, coming_after_events, lines_kept, lines_written, own_events, step_event, step_events}
-use Rattle.keyline.specs.SessionEffects.{AreDone, CutSessionEvent, Stands, Went, Work, work}
+use Rattle.keyline.specs.SessionEffects.{AreDone, CutSessionEvent, WholeOrCut, Went, Work, work}
 use Rattle.keyline.specs.Sessions.{line_text, lines_text, history_with_if}
 use Rattle.keyline.proofs.ShowCourse.{all_of_map}
 
@@ -130,7 +130,7 @@ module _ {D L : Type 0} {shown : D → List ℕ} {written_in : L → List ℕ} {
     pub went_cases : {W P : Type 0} {events : List SessionEvent} → Went shown written_in adds events s t W F → (AreDone shown written_in adds events s t → W → P) → (Went shown written_in adds events s t ⊥ F → P) → P
     went_cases {W} {P} {events} w whole cut = by w.others w.split w.stands
       where
-        by : (others : List SessionEvent) → events ≡ w.done ++ others → Stands shown written_in adds others w.at t W F → P
+        by : (others : List SessionEvent) → events ≡ w.done ++ others → WholeOrCut shown written_in adds others w.at t W F → P
         by [] split stands = whole (rw (split, append-nil w.done, stands.1) w.are_done) stands.0
         by (event ∷ others) split stands = cut (record { done = w.done; others = event ∷ others; split = split; at = w.at; are_done = w.are_done; stands = stands })
 
@@ -149,7 +149,7 @@ module _ {D L : Type 0} {shown : D → List ℕ} {written_in : L → List ℕ} {
     pub went_before : {W : Type 0} {xs : List SessionEvent} (ys : List SessionEvent) → Went shown written_in adds xs s t ⊥ F → Went shown written_in adds (xs ++ ys) s t W F
     went_before {W} {xs} ys w = by w.others w.split w.stands
       where
-        by : (others : List SessionEvent) → xs ≡ w.done ++ others → Stands shown written_in adds others w.at t ⊥ F → Went shown written_in adds (xs ++ ys) s t W F
+        by : (others : List SessionEvent) → xs ≡ w.done ++ others → WholeOrCut shown written_in adds others w.at t ⊥ F → Went shown written_in adds (xs ++ ys) s t W F
         by [] split stands = absurd (stands.0)
         by (event ∷ others) split stands =
             subst (λ zs. Went shown written_in adds zs s t W F) (sym (ap (λ zs. zs ++ ys) split ∙ append_assoc w.done (event ∷ others) ys))
@@ -162,7 +162,7 @@ module _ {D L : Type 0} {shown : D → List ℕ} {written_in : L → List ℕ} {
     pub went_so : {G : ReadlineError → Type 0} {events : List SessionEvent} → ((e : ReadlineError) → F e → G e) → Went shown written_in adds events s t ⊥ F → Went shown written_in adds events s t ⊥ G
     went_so {G} so w = record { done = w.done; others = w.others; split = w.split; at = w.at; are_done = w.are_done; stands = by w.others w.stands }
       where
-        by : (others : List SessionEvent) → Stands shown written_in adds others w.at t ⊥ F → Stands shown written_in adds others w.at t ⊥ G
+        by : (others : List SessionEvent) → WholeOrCut shown written_in adds others w.at t ⊥ F → WholeOrCut shown written_in adds others w.at t ⊥ G
         by [] stands = absurd (stands.0)
         by (event ∷ others) stands = (stands.0, stands.1, so stands.0 stands.2)
 
@@ -170,7 +170,7 @@ module _ {D L : Type 0} {shown : D → List ℕ} {written_in : L → List ℕ} {
     pub went_not : {P : Type 0} {events : List SessionEvent} → ((e : ReadlineError) → F e → P) → Went shown written_in adds events s t ⊥ F → P
     went_not {P} never w = by w.others w.stands
       where
-        by : (others : List SessionEvent) → Stands shown written_in adds others w.at t ⊥ F → P
+        by : (others : List SessionEvent) → WholeOrCut shown written_in adds others w.at t ⊥ F → P
         by [] stands = absurd (stands.0)
         by (event ∷ others) stands = never stands.0 stands.2
 
@@ -197,9 +197,9 @@ module _ {D L : Type 0} (shown : D → List ℕ) (written_in : L → List ℕ) (
     screen_kept : (calls : List Call) (a b : ScreenRenderer D) → screen_of a ≡ s → Drawn calls a b → screen_of b ≡ s
     screen_kept calls a b is made = (sent_in_all shown waits show_failed calls a b made).screen ∙ is
 
-    calls_sent : (calls : List Call) (a b : ScreenRenderer D) → screen_of a ≡ s → Drawn calls a b → TakesAll shown (sink_of a) (sink_of b) (flat_map (bytes_of s) calls)
+    calls_sent : (calls : List Call) (a b : ScreenRenderer D) → screen_of a ≡ s → Drawn calls a b → TakesBytes shown (sink_of a) (sink_of b) (flat_map (bytes_of s) calls)
     calls_sent calls a b is made =
-        let P : Screen → Type 0 = λ s. TakesAll shown (sink_of a) (sink_of b) (flat_map (bytes_of s) calls) in
+        let P : Screen → Type 0 = λ s. TakesBytes shown (sink_of a) (sink_of b) (flat_map (bytes_of s) calls) in
         subst P is (sent_in_all shown waits show_failed calls a b made).takes
 
     call_breaks : (call : Call) (a b : ScreenRenderer D) → screen_of a ≡ s → CutCall canvas a call b → TakesSome shown (sink_of a) (sink_of b) (bytes_of s call)
@@ -211,7 +211,7 @@ module _ {D L : Type 0} (shown : D → List ℕ) (written_in : L → List ℕ) (
     calls_break [] a b is h = absurd h
     calls_break (call ∷ calls) a b is (inl h) = some_of_more shown (sink_of a) (sink_of b) (bytes_of s call) (flat_map (bytes_of s) calls) (call_breaks call a b is h)
     calls_break (call ∷ calls) a b is (inr (m, made, h)) =
-        let took = subst (TakesAll shown (sink_of a) (sink_of m)) (append-nil (bytes_of s call)) (calls_sent (call ∷ []) a m is (m, made, refl)) in
+        let took = subst (TakesBytes shown (sink_of a) (sink_of m)) (append-nil (bytes_of s call)) (calls_sent (call ∷ []) a m is (m, made, refl)) in
         some_then shown (sink_of a) (sink_of m) (sink_of b) (bytes_of s call) (flat_map (bytes_of s) calls) took (calls_break calls m b (screen_kept (call ∷ []) a m is (m, made, refl)) h)
 
     steps_answered : (l : Layout) (rs : List EditStep) (a b : ScreenRenderer D) → Drawn (calls_of_steps (ruler_of s) l rs).calls a b → AllAnswered (step_events s l rs)
@@ -227,8 +227,8 @@ module _ {D L : Type 0} (shown : D → List ℕ) (written_in : L → List ℕ) (
     steps_done rs c a b is made =
         let quiet = step_quiet s c a.layout rs in
         record {
-          drawn = subst (TakesAll shown (sink_of a.out) (sink_of b.out)) (sym (step_bytes s a.layout rs)) (calls_sent (calls_of_steps (ruler_of s) a.layout rs).calls a.out b.out is made);
-          wrote = subst (λ xs. TakesAll written_in lines lines (lines_text xs)) (sym quiet.1) (takes_none written_in lines lines refl);
+          drawn = subst (TakesBytes shown (sink_of a.out) (sink_of b.out)) (sym (step_bytes s a.layout rs)) (calls_sent (calls_of_steps (ruler_of s) a.layout rs).calls a.out b.out is made);
+          wrote = subst (λ xs. TakesBytes written_in lines lines (lines_text xs)) (sym quiet.1) (takes_none written_in lines lines refl);
           history_is = sym (remembered_none adds history) ∙ ap (λ xs. history_with_if adds xs history) (sym quiet.0);
           left_is = sym quiet.2;
           answered = steps_answered a.layout rs a.out b.out made;

@@ -7,7 +7,7 @@ use Rattle.line_editor.specs.Redraws.{Redraw}
 use Rattle.line_keys.specs.KeyFeeds.{Key}
 use Rattle.line_screen.specs.ScreenCalls.{Screen}
 use Rattle.keyline.specs.Events.{SessionEvent, Begins, Draws, Hears, Rests, Breaks, Writes, end_events}
-use Rattle.keyline.specs.SessionEffects.{CutSessionEvent, Stands, Went, Work}
+use Rattle.keyline.specs.SessionEffects.{CutSessionEvent, WholeOrCut, Went, Work}
 
 module _ {D L : Type 0} (shown : D → List ℕ) (written_in : L → List ℕ) (adds : Bool) where
   -- after an ending without a new row nothing is left to do, so no fault takes its place
@@ -15,7 +15,7 @@ module _ {D L : Type 0} (shown : D → List ℕ) (written_in : L → List ℕ) (
       → Went shown written_in adds (end_events (Err e)) x y (r ≡ Err e) (λ why. r ≡ Err why) → r ≡ Err e
   ending_is_its_own e x y r stays w = by w.done w.others (subst (λ b. (if b then Breaks ∷ [] else []) ≡ w.done ++ w.others) stays w.split) w.stands
     where
-      by : (done others : List SessionEvent) → [] ≡ done ++ others → Stands shown written_in adds others w.at y (r ≡ Err e) (λ why. r ≡ Err why) → r ≡ Err e
+      by : (done others : List SessionEvent) → [] ≡ done ++ others → WholeOrCut shown written_in adds others w.at y (r ≡ Err e) (λ why. r ≡ Err why) → r ≡ Err e
       by [] [] split stands = stands.0
       by [] (event ∷ others) split stands = absurd (cc)
       by (event ∷ done) others split stands = absurd (cc)

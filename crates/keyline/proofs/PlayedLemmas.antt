@@ -10,7 +10,7 @@ use Rattle.line_screen.specs.Reader.{byte_ahead_of}
 use Rattle.std.specs.Option.{option_len}
 use Rattle.keyline.specs.Desks.{DeskReason, GoesShown, desk_feed, session_state_of, work_of}
 use Rattle.keyline.specs.Events.{SessionEvent, Takes, Helped, Draws, Hears, Breaks, Keeps, Writes, session}
-use Rattle.keyline.specs.SessionEffects.{KnownDevices, CutSessionEvent, SessionReason, Stands, Work, work}
+use Rattle.keyline.specs.SessionEffects.{KnownDevices, CutSessionEvent, SessionReason, WholeOrCut, Work, work}
 use Rattle.keyline.specs.Program.{EditsBy, edit_helping, given_with, helper_of, nothing_bound, PlaysBytes, start_by}
 use Rattle.keyline.specs.SessionCalls.{loads}
 use Rattle.line_screen.specs.ScreenCalls.{screen_of}
@@ -68,7 +68,7 @@ module _ {D L : Type 0} (shown : D → List ℕ) (written_in : L → List ℕ) w
   stopped_in_bytes adds x _ _ y h = absurd h
 
   stands_in_bytes : (adds : Bool) (others : List SessionEvent) (at new : Work D L) (Whole : Type 0) (Faulted : ReadlineError → Type 0)
-      → Stands shown written_in adds others at new Whole Faulted → Stands seen seen adds others (in_bytes at) (in_bytes new) Whole Faulted
+      → WholeOrCut shown written_in adds others at new Whole Faulted → WholeOrCut seen seen adds others (in_bytes at) (in_bytes new) Whole Faulted
   stands_in_bytes adds [] at new Whole Faulted h = (h.0, ap in_bytes h.1)
   stands_in_bytes adds (event ∷ others) at new Whole Faulted h = (h.0, stopped_in_bytes adds at event h.0 new h.1, h.2)
 

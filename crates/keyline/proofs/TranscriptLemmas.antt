@@ -4,7 +4,7 @@ use Rattle.line_config.specs.Feed.{AlwaysTold, Feed, fresh_feed}
 use Rattle.line_config.specs.declared.config.Config.{Config}
 use Rattle.line_config.specs.declared.device.Last.TheVariants.{End}
 use Rattle.line_config.specs.declared.errors.ReadlineError.{ReadlineError, TheVariants.Eof}
-use Rattle.line_config.specs.Sending.{Takes as TakesAll}
+use Rattle.line_config.specs.Sending.{TakesBytes}
 use Rattle.line_help.specs.History.{Filed}
 use Rattle.line_help.specs.HistoryText.{text_to_save}
 use Rattle.line_keys.specs.CustomBindings.{Custom}
@@ -15,7 +15,7 @@ use Rattle.std.specs.Option.{option_len}
 use Rattle.line_screen.specs.Reading.{with_kept}
 use Rattle.line_screen.proofs.Outcomes.{unread_in}
 use Rattle.keyline.specs.Desks.{GoesShown, desk_feed, session_state_of, work_of}
-use Rattle.keyline.specs.SessionEffects.{error_of, KnownDevices, AreDone, CutSessionEvent, SavesIf, Stands, Went, Work, ending_after}
+use Rattle.keyline.specs.SessionEffects.{error_of, KnownDevices, AreDone, CutSessionEvent, SavesIf, WholeOrCut, Went, Work, ending_after}
 use Rattle.keyline.specs.SessionCalls.{Opens, RunsSession}
 use Rattle.keyline.specs.Program.{EditHelper, edit_helping, given_over, start_by}
 use Rattle.keyline.specs.Events.{SessionEvent, Takes, Helped, Draws, Hears, Breaks, Keeps, Writes, bytes_drawn, coming_after_events, lines_kept, lines_written, session}
@@ -46,7 +46,7 @@ module _ {D L : Type 0} (shown : D → List ℕ) (written_in : L → List ℕ) (
   abbrev FaultIs : ReadlineError → Type 0
   FaultIs e = why ≡ e
 
-  none_left : (others : List SessionEvent) (at new : Work D L) → is_cut ending ≡ false → Stands shown written_in adds others at new (why ≡ answer) FaultIs
+  none_left : (others : List SessionEvent) (at new : Work D L) → is_cut ending ≡ false → WholeOrCut shown written_in adds others at new (why ≡ answer) FaultIs
       → (others ≡ []) × (why ≡ answer) × (new ≡ at)
   none_left [] at new uncut (is, same) = (refl, is, same)
   none_left (event ∷ others) at new uncut (e, stopped, is) =
@@ -72,7 +72,7 @@ when_saved Eof = refl
 when_saved _ = refl
 
 module _ {T : Type 0} (held : T → List ℕ) (failed : T → Bool) (kept history' : Filed) (text text' : T) where
-  was_saved : (saved : Bool) → SavesIf held failed true kept history' text text' saved → failed text' ≡ false → (saved ≡ true) × TakesAll held text text' (text_to_save kept)
+  was_saved : (saved : Bool) → SavesIf held failed true kept history' text text' saved → failed text' ≡ false → (saved ≡ true) × TakesBytes held text text' (text_to_save kept)
   was_saved true saves works = (refl, saves.sends.sent)
   was_saved false saves works = absurd (let broken : failed text' ≡ true = saves.sends.err in cc)
 

@@ -5,7 +5,7 @@ use Rattle.std.specs.List.{concat, flat_map}
 use Rattle.line_config.specs.Feed.{Feed}
 use Rattle.line_config.specs.declared.errors.ReadlineError.{ReadlineError}
 use Rattle.line_config.specs.declared.errors.ReadlineError.TheVariants.{Eof, Interrupted, NotUtf8, PasteOutOfPlace, Reader, Display, Lines, HistoryText, Helper, Handler, Memory}
-use Rattle.line_config.specs.Sending.{Takes as TakesAll, TakesSome}
+use Rattle.line_config.specs.Sending.{TakesBytes, TakesSome}
 use Rattle.line_editor.specs.LineRun.{breaks_after}
 use Rattle.line_help.specs.History.{Filed, takes}
 use Rattle.line_help.specs.HistoryText.{SavesNew, text_to_save}
@@ -63,8 +63,9 @@ work display lines history coming =
 module _ {D L : Type 0} (shown : D → List ℕ) (written_in : L → List ℕ) (adds : Bool) where
   -- all of these were done
   pub record AreDone (events : List SessionEvent) (old new : Work D L) : Type 0 where
-    pub drawn : TakesAll shown old.display new.display (flat_map bytes_drawn events)
-    pub wrote : TakesAll written_in old.lines new.lines (lines_text (flat_map lines_written events))
+    pub drawn : TakesBytes shown old.display new.display (flat_map bytes_drawn events)
+    pub wrote : TakesBytes written_in old.lines new.lines
+        (lines_text (flat_map lines_written events))
     pub history_is : new.history ≡ history_with_if adds (flat_map lines_kept events) old.history
     pub left_is : new.coming ≡ coming_after_events old.coming events
     pub answered : AllAnswered events
@@ -90,10 +91,10 @@ module _ {D L : Type 0} (shown : D → List ℕ) (written_in : L → List ℕ) (
   CutSessionEvent x event why y = ⊥
 
   -- all were done, or a fault stopped the first of the others after those before it were done
-  abbrev pub Stands : List SessionEvent → Work D L → Work D L → Type 0 → (ReadlineError → Type 0)
-      → Type 0
-  Stands [] at new Whole Faulted = Whole × (new ≡ at)
-  Stands (event ∷ others) at new Whole Faulted =
+  abbrev pub WholeOrCut : List SessionEvent → Work D L → Work D L → Type 0
+      → (ReadlineError → Type 0) → Type 0
+  WholeOrCut [] at new Whole Faulted = Whole × (new ≡ at)
+  WholeOrCut (event ∷ others) at new Whole Faulted =
       (why : ReadlineError) × CutSessionEvent at event why new × Faulted why
 
   -- the relation of the state: these events were done, all or the first of them
@@ -104,7 +105,7 @@ module _ {D L : Type 0} (shown : D → List ℕ) (written_in : L → List ℕ) (
     pub split : events ≡ done ++ others
     pub at : Work D L
     pub are_done : AreDone done old at
-    pub stands : Stands others at new Whole Faulted
+    pub stands : WholeOrCut others at new Whole Faulted
 
 -- ---- the end of a line
 
@@ -121,7 +122,7 @@ breaks (Err e) = breaks_after e
 module _ {D : Type 0} (shown : D → List ℕ) (show_failed : D → Bool) where
   -- a new row is drawn, if one is asked for
   pub record RowIsDrawn (asked : Bool) (old new : D) : Type 0 where
-    pub drawn : TakesAll shown old new (break_if asked)
+    pub drawn : TakesBytes shown old new (break_if asked)
     pub works : show_failed new ≡ show_failed old
     pub stays : asked ≡ false → new ≡ old
 

@@ -52,8 +52,9 @@ abbrev pub names : EditMode → Event → List ℕ → Bool
 names mode e row = is_event e (keys_in mode row)
 
 -- bound are the events that the rows of a text name
-pub record AreAsked (mode : EditMode) (text : List ℕ) (bindings : List (Event × Asking)) : Type 0 where
-  pub each : (e : Event) → is_some (find e bindings) ≡ list_any (names mode e) (rows_of text)
+pub record AreAsked (mode : EditMode) (text : List ℕ) (bindings : List (Event × Asking)) : Type 0
+  where
+    pub each : (e : Event) → is_some (find e bindings) ≡ list_any (names mode e) (rows_of text)
 
 -- a line that comes to such a key stops there
 abbrev pub stops_at : Asking → Meaning

@@ -42,8 +42,8 @@ module _ (held : VecSink → List ℕ) (options : KeylineOptions)
       pub gives : Gives held options.sent (length keys) wants left old new step step' result
 
     -- or it wasn't, because an argument is invalid or memory ran out, and nothing is done
-    abbrev pub Answers : KeylineStep → KeylineStep → Result CallStatus CallStatus → Type 0
-    Answers step step' result = GivesLine step step' result
+    abbrev pub AnswersCall : KeylineStep → KeylineStep → Result CallStatus CallStatus → Type 0
+    AnswersCall step step' result = GivesLine step step' result
         ⊎ (IsErrAnd result (IsRefused options prompt words history kills ends)
         × (step' ≡ step) × (new ≡ old))
 
@@ -51,5 +51,5 @@ module _ (held : VecSink → List ℕ) (options : KeylineOptions)
     pub record Calls (step : KeylineStep) : Type 0 where
       pub result : Result CallStatus CallStatus
       pub told : KeylineStep
-      pub answers : Answers (untold options.sent) told result
+      pub answers : AnswersCall (untold options.sent) told result
       pub step_is : step ≡ record told { status = code_of (status_in result) }

@@ -6,7 +6,7 @@ ghost use Rattle.std.specs.Str.{IsUtf8};
 ghost use Rattle.line_help.specs.HistoryText.{text_to_save};
 ghost use Rattle.line_keys.specs.KeyFeeds.{answer_map};
 ghost use Rattle.keyline_call.specs.declared.status.CallStatus.TheVariants.{Memory};
-ghost use Rattle.keyline_call.specs.Call.{Answers, Calls, status_in};
+ghost use Rattle.keyline_call.specs.Call.{AnswersCall, Calls, status_in};
 ghost use Rattle.keyline_call.specs.Lines.{IsRefused, ReadsKeys};
 ghost use Rattle.keyline.specs.SessionCalls.{history_loaded_from};
 ghost use Rattle.keyline.specs.Program.{config_of, word_texts};
@@ -448,7 +448,7 @@ fn answer<'k>(
     buffers: &mut Buffers<'_>,
     step: &mut KeylineStep,
 ) -> Result<CallStatus, CallStatus>
-    ensures answers { Answers ⟦<VecSink as Sink>⟧.held options.now handed.now.keys.now
+    ensures answers { AnswersCall ⟦<VecSink as Sink>⟧.held options.now handed.now.keys.now
         handed.now.prompt.now handed.now.words.now handed.now.asks.now handed.now.history.now
         handed.now.kills.now handed.now.ends.now wants.now
         (texts_in buffers.old) (texts_in buffers.new) step.old step.new result }

@@ -4,7 +4,7 @@ use Rattle.std.specs.Prelude.{⊤, OnOk, OnErr}
 use Rattle.std.specs.IoError.{error_kind}
 use Rattle.std.specs.declared.io.Error.{Error}
 use Rattle.std.specs.declared.io.ErrorKind.{ErrorKind, TheVariants.Interrupted}
-use Rattle.line_config.specs.DeviceCalls.{Answers, DeviceCall, Moves, Flushes, EndsWithCall, IsWriteFailure, IsFlush, Since, Tries, again, flush_interrupted, flushes, move_interrupted, bytes_moved, moves}
+use Rattle.line_config.specs.DeviceCalls.{Answers, DeviceCall, Moves, Flushes, EndsWithCall, IsWriteFailure, IsFlush, MoreCalls, Tries, again, flush_interrupted, flushes, move_interrupted, bytes_moved, moves}
 
 pub again_none : (call : DeviceCall) (before : List DeviceCall) → before ≡ again 0 call before
 unfolding again
@@ -50,16 +50,16 @@ unfolding again
 again_parts zero call before = ([], refl)
 again_parts (suc n) call before = let rest = again_parts n call before in (call ∷ rest.0, ap (λ cs. call ∷ cs) rest.1)
 
-pub since_same : (a : List DeviceCall) → Since a a
+pub since_same : (a : List DeviceCall) → MoreCalls a a
 since_same a = record { others = []; noted = refl }
 
-pub since_then : {a b c : List DeviceCall} → Since a b → Since b c → Since a c
+pub since_then : {a b c : List DeviceCall} → MoreCalls a b → MoreCalls b c → MoreCalls a c
 since_then {a} {b} {c} first second = record {
   others = second.others ++ first.others;
   noted = second.noted ∙ ap (λ cs. second.others ++ cs) first.noted ∙ sym (append_assoc second.others first.others a);
 }
 
-pub ends_since : (Is : DeviceCall → Type 0) (a b c : List DeviceCall) → Since a b → EndsWithCall Is b c → EndsWithCall Is a c
+pub ends_since : (Is : DeviceCall → Type 0) (a b c : List DeviceCall) → MoreCalls a b → EndsWithCall Is b c → EndsWithCall Is a c
 ends_since Is a b c first second = record {
   call = second.call;
   others = second.others ++ first.others;
@@ -67,7 +67,7 @@ ends_since Is a b c first second = record {
   last = second.last;
 }
 
-pub ends_tries : (interrupted : DeviceCall) (a b c : List DeviceCall) (IsLast Is : DeviceCall → Type 0) → Since a b → Tries interrupted b c IsLast
+pub ends_tries : (interrupted : DeviceCall) (a b c : List DeviceCall) (IsLast Is : DeviceCall → Type 0) → MoreCalls a b → Tries interrupted b c IsLast
     → ((call : DeviceCall) → IsLast call → Is call) → EndsWithCall Is a c
 ends_tries interrupted a b c IsLast Is first t so =
     let parts = again_parts t.tries interrupted b in
@@ -78,7 +78,7 @@ pub write_fails : {A : Type 0} (bytes : List ℕ) (result : Result ℕ A) (e : A
 write_fails bytes result e is c answers = rw is at answers
 
 -- a flush after other calls
-pub flush_ends : {E : Type 0} (result : Result ⊤ E) (a b c : List DeviceCall) → Since a b → Tries flush_interrupted b c (Answers (Flushes (Ok tt)) IsWriteFailure result)
+pub flush_ends : {E : Type 0} (result : Result ⊤ E) (a b c : List DeviceCall) → MoreCalls a b → Tries flush_interrupted b c (Answers (Flushes (Ok tt)) IsWriteFailure result)
     → OnOk result (EndsWithCall IsFlush a c) × OnErr result (EndsWithCall IsWriteFailure a c)
 flush_ends (Ok x) a b c first t = (ends_tries flush_interrupted a b c IsFlush IsFlush first t (λ call is. is), tt)
 flush_ends (Err e) a b c first t = (tt, ends_tries flush_interrupted a b c IsWriteFailure IsWriteFailure first t (λ call is. is))

@@ -51,7 +51,7 @@ pub record Tries (interrupted : DeviceCall) (old new : List DeviceCall)
 -- ---- what a call shows of its device
 
 -- calls were made after those before
-pub record Since (old new : List DeviceCall) : Type 0 where
+pub record MoreCalls (old new : List DeviceCall) : Type 0 where
   pub others : List DeviceCall
   pub noted : new ≡ others ++ old
 

@@ -49,12 +49,12 @@ pub record GivesByte (old new : Feed) (result : Result (Option ℕ) DeviceFailed
 
 -- a source that agrees with the assumption agreed before, and has given these bytes from the front
 -- of what remained
-abbrev pub Gives : Feed → Feed → List ℕ → Type 0
-Gives old new bytes = IsTrue new.told → IsTrue old.told × (old.coming ≡ bytes ++ new.coming)
+abbrev pub GivesFront : Feed → Feed → List ℕ → Type 0
+GivesFront old new bytes = IsTrue new.told → IsTrue old.told × (old.coming ≡ bytes ++ new.coming)
 
 -- a source gave bytes that were available
 pub record GivesBytes (old new : Feed) (bytes : List ℕ) : Type 0 where
-  pub gives : Gives old new bytes
+  pub gives : GivesFront old new bytes
   pub last : new.last ≡ old.last
   pub failed : new.failed ≡ old.failed
   pub falls : new.bound + length bytes ≤ old.bound

@@ -2,7 +2,7 @@
 -- are noted.
 use Rattle.std.specs.Prelude.{◌≡◌, ℕ, ◌-◌, List, ◌++◌, slice_range, take, Option}
 use Rattle.std.specs.Io.KnownBytes.{Appends}
-use Rattle.line_config.specs.DeviceCalls.{DeviceCall, Since}
+use Rattle.line_config.specs.DeviceCalls.{DeviceCall, MoreCalls}
 use Rattle.line_config.specs.declared.buffer.Buffer.{Buffer}
 use Rattle.line_config.specs.declared.recorded.Recorded.{Recorded}
 
@@ -35,4 +35,4 @@ pub record Notes {W : Type 0} (contents : W → Option (List ℕ)) (old new : Re
   pub more : List ℕ
   pub noted : took new ≡ took old ++ more
   pub writer : Appends (contents (inner_of old)) (contents (inner_of new)) more
-  pub calls : Since (calls_of old) (calls_of new)
+  pub calls : MoreCalls (calls_of old) (calls_of new)

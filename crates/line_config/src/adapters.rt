@@ -1,7 +1,7 @@
 //! Devices over std's readers and writers, each with a fixed array.
 ghost use Rattle.std.specs.Prelude.{◌≡◌, ◌++◌, ◌+◌, ◌^◌, ◌≤◌, ◌<◌, [], false, length, take, drop, is_err, is_some, IsErr, IsTrue, Ok, Some, None, IfOk, OnOk, OnErr};
 ghost use Rattle.std.specs.Io.KnownBytes.{Appends};
-ghost use Rattle.line_config.specs.Sending.{AppendsSome, Takes};
+ghost use Rattle.line_config.specs.Sending.{AppendsSome, TakesBytes};
 ghost use Rattle.line_config.specs.Parts.{Notes, bytes_in, room_in, took};
 ghost use Rattle.line_config.specs.DeviceCalls.{EndsWithCall, IsFlush, IsWriteFailure};
 ghost use Rattle.line_config.specs.Feed.{Fills, GivesByte, GivesBytes};
@@ -208,7 +208,8 @@ impl<W: Write> WriteSink<W> {
     // Buffers as many of the bytes as fit, and returns their number. If the buffer is full, it is
     // sent first.
     fn gather(&mut self, bytes: &[u8]) -> Result<usize, DeviceFailed>
-        ensures ok { IfOk result (λ n. Takes bytes_taken self.old self.new (take n bytes.now)) }
+        ensures ok { IfOk result
+            (λ n. TakesBytes bytes_taken self.old self.new (take n bytes.now)) }
         ensures err { OnErr result (bytes_taken self.new ≡ bytes_taken self.old) }
         ensures writer { Notes W.contents self.old.writer self.new.writer }
         ensures bound { IfOk result (λ n. n ≤ length bytes.now) }
@@ -227,7 +228,7 @@ impl<W: Write> WriteSink<W> {
 
     #[inline(never)]
     fn gather_pieces(&mut self, bytes: &[u8]) -> Result<(), DeviceFailed>
-        ensures ok { OnOk result (Takes bytes_taken self.old self.new bytes.now) }
+        ensures ok { OnOk result (TakesBytes bytes_taken self.old self.new bytes.now) }
         ensures begins { AppendsSome (bytes_taken self.old) bytes.now (bytes_taken self.new) }
         ensures writer { Notes W.contents self.old.writer self.new.writer }
         ensures refused { OnErr result (room_in self.old.unsent < length bytes.now) }
@@ -246,7 +247,7 @@ impl<W: Write> WriteSink<W> {
 
     // Buffers all bytes. Those that fit, as most do, are one copy.
     fn gather_all(&mut self, bytes: &[u8]) -> Result<(), DeviceFailed>
-        ensures ok { OnOk result (Takes bytes_taken self.old self.new bytes.now) }
+        ensures ok { OnOk result (TakesBytes bytes_taken self.old self.new bytes.now) }
         ensures begins { AppendsSome (bytes_taken self.old) bytes.now (bytes_taken self.new) }
         ensures writer { Notes W.contents self.old.writer self.new.writer }
         ensures refused { OnErr result (room_in self.old.unsent < length bytes.now) }

@@ -20,7 +20,7 @@ use Rattle.line_editor.specs.Accepting.{submit_effect}
 use Rattle.line_editor.specs.Drawing.{refresh_effect}
 use Rattle.line_editor.specs.LineScripts.{LineAsk, LineAnswer, LineScript, Makes, LineStage, line_state, line_script_after, turn_script, turns_script, line_script}
 use Rattle.line_editor.specs.Modal.{Modal}
-use Rattle.line_editor.specs.States.{value_of, Reason, Stays, Does, Cause, Takes, stage_of, world_of}
+use Rattle.line_editor.specs.States.{value_of, Reason, Stays, Does, Cause, RunsScript, stage_of, world_of}
 use Rattle.line_editor.specs.Values.{Value, Transition, memory_effect, then_do}
 use Rattle.line_editor.specs.declared.commands.Status.{Status, TheVariants.Proceed, TheVariants.Submit}
 use Rattle.line_editor.specs.declared.renderer as renderers
@@ -112,7 +112,7 @@ module _ {Out H Hi K T : Type 0} {renderer : renderers.Renderer.Ghosts Out} {com
 
     module _ (m : State Out H Hi K T renderer completer candidate hinter hint highlighter validator history) (i1 : Input) (r1 : Ring) (q1 : Modal) (feed1 : KeyFeed) (so_far : Carries m i1 r1 q1 feed1) (kept : Custom) (same : kept ≡ custom) where
       abbrev TakesTurn : State Out H Hi K T renderer completer candidate hinter hint highlighter validator history → Input → Ring → Modal → KeyFeed → Result Status ReadlineError → Type 0
-      TakesTurn t i2 r2 q2 feed2 result = Takes turn_script kept m i1 r1 q1 feed1 t i2 r2 q2 feed2 result
+      TakesTurn t i2 r2 q2 feed2 result = RunsScript turn_script kept m i1 r1 q1 feed1 t i2 r2 q2 feed2 result
 
       module _ (t : State Out H Hi K T renderer completer candidate hinter hint highlighter validator history) (i2 : Input) (r2 : Ring) (q2 : Modal) (feed2 : KeyFeed) (told : IsTrue feed1.told) where
         -- the turn, in the line's world
@@ -168,9 +168,9 @@ module _ {Out H Hi K T : Type 0} {renderer : renderers.Renderer.Ghosts Out} {com
 
       -- a turn that ends the line
       pub carries_ended : {A : Type 0} (t : State Out H Hi K T renderer completer candidate hinter hint highlighter validator history) (i2 : Input) (r2 : Ring) (q2 : Modal) (feed2 : KeyFeed) (e : ReadlineError) (result : Result A ReadlineError)
-          → IsErrAnd result (λ x. x ≡ e) → TakesTurn t i2 r2 q2 feed2 (Err e) → Takes turns_script custom s i r q feed t i2 r2 q2 feed2 (result_and result (Ok t.recorded.line.text))
+          → IsErrAnd result (λ x. x ≡ e) → TakesTurn t i2 r2 q2 feed2 (Err e) → RunsScript turns_script custom s i r q feed t i2 r2 q2 feed2 (result_and result (Ok t.recorded.line.text))
       carries_ended t i2 r2 q2 feed2 e result is turn =
-          subst (λ x. Takes turns_script custom s i r q feed t i2 r2 q2 feed2 (result_and x (Ok t.recorded.line.text))) (sym (is_err e result is)) (record {
+          subst (λ x. RunsScript turns_script custom s i r q feed t i2 r2 q2 feed2 (result_and x (Ok t.recorded.line.text))) (sym (is_err e result is)) (record {
             goes = λ told n h. refused t i2 r2 q2 feed2 (turn.told told) n (so_far.goes (turn.told told) n h) e (turn.goes told);
             stays = λ told. stays_both s m t (so_far.stays (turn.told told)) (turn.stays told);
             told = λ h. so_far.told (turn.told h);
@@ -182,7 +182,7 @@ module _ {Out H Hi K T : Type 0} {renderer : renderers.Renderer.Ghosts Out} {com
 
       -- a turn that accepts the line, and the line's close
       pub carries_closed : {A : Type 0} (m2 t : State Out H Hi K T renderer completer candidate hinter hint highlighter validator history) (i2 : Input) (r2 : Ring) (q2 : Modal) (feed2 : KeyFeed) (result : Result A ReadlineError)
-          → TakesTurn m2 i2 r2 q2 feed2 (Ok Submit) → Does submit_effect m2 t result → Takes turns_script custom s i r q feed t i2 r2 q2 feed2 (result_and result (Ok t.recorded.line.text))
+          → TakesTurn m2 i2 r2 q2 feed2 (Ok Submit) → Does submit_effect m2 t result → RunsScript turns_script custom s i r q feed t i2 r2 q2 feed2 (result_and result (Ok t.recorded.line.text))
       carries_closed m2 t i2 r2 q2 feed2 result turn close = record {
         goes = λ told n h. turned m2 i2 r2 q2 feed2 (turn.told told) n (so_far.goes (turn.told told) n h) Submit (result_and result (Ok t.recorded.line.text)) (stage_of t i2 r2 q2 feed2.coming) (turn.goes told)
             (λ k enough. closes s m2 t i2 r2 q2 feed2.coming result (stays_both s m m2 (so_far.stays (turn.told told)) (turn.stays told)) close);
@@ -209,8 +209,8 @@ module _ {Out H Hi K T : Type 0} {renderer : renderers.Renderer.Ghosts Out} {com
     not_drawn {B} n t e refused = unmade s s t (stays_same s) (then_do memory_effect refresh_effect) i r q feed.coming (λ v. turns_script n custom) {A = B} e refused
 
     pub draws : {A B : Type 0} (x : B) (m t : State Out H Hi K T renderer completer candidate hinter hint highlighter validator history) (i2 : Input) (r2 : Ring) (q2 : Modal) (feed2 : KeyFeed) (result : Result A ReadlineError)
-        → Does refresh_effect s m (Ok x) → Takes turns_script custom m i r q feed t i2 r2 q2 feed2 (result_and result (Ok t.recorded.line.text))
-        → Takes line_script custom s i r q feed t i2 r2 q2 feed2 (result_and result (Ok t.recorded.line.text))
+        → Does refresh_effect s m (Ok x) → RunsScript turns_script custom m i r q feed t i2 r2 q2 feed2 (result_and result (Ok t.recorded.line.text))
+        → RunsScript line_script custom s i r q feed t i2 r2 q2 feed2 (result_and result (Ok t.recorded.line.text))
     draws x m t i2 r2 q2 feed2 result drawn read = record {
       goes = λ told n h. drawn_on n x m (result_and result (Ok t.recorded.line.text)) (stage_of t i2 r2 q2 feed2.coming) (taken_then refresh_effect s m (Ok x) drawn) (read.goes told n h);
       stays = λ told. stays_both s m t drawn.stays (read.stays told);
@@ -222,8 +222,8 @@ module _ {Out H Hi K T : Type 0} {renderer : renderers.Renderer.Ghosts Out} {com
     }
 
     pub undrawn : {A B : Type 0} (t : State Out H Hi K T renderer completer candidate hinter hint highlighter validator history) (e : ReadlineError) (result : Result A ReadlineError)
-        → IsErrAnd result (λ x. x ≡ e) → Does {A = B} refresh_effect s t (Err e) → Takes line_script custom s i r q feed t i r q feed (result_and result (Ok t.recorded.line.text))
-    undrawn {A} {B} t e result is refused = subst (λ x. Takes line_script custom s i r q feed t i r q feed (result_and x (Ok t.recorded.line.text))) (sym (is_err e result is)) (record {
+        → IsErrAnd result (λ x. x ≡ e) → Does {A = B} refresh_effect s t (Err e) → RunsScript line_script custom s i r q feed t i r q feed (result_and result (Ok t.recorded.line.text))
+    undrawn {A} {B} t e result is refused = subst (λ x. RunsScript line_script custom s i r q feed t i r q feed (result_and x (Ok t.recorded.line.text))) (sym (is_err e result is)) (record {
       goes = λ told n h. not_drawn {B = B} n t e (taken_then {A = B} refresh_effect s t (Err e) refused);
       stays = λ told. refused.stays;
       told = λ h. h;

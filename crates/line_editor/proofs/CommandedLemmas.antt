@@ -23,7 +23,7 @@ use Rattle.line_editor.specs.LineScripts.{Obeys, Answered, LineStage, line_state
 use Rattle.line_editor.specs.NextCommand.{line_phrase, ring_after_reset}
 use Rattle.line_editor.specs.ModalCommands.{meeting, meeting_effect}
 use Rattle.line_editor.specs.Modal.{Modal}
-use Rattle.line_editor.specs.States.{value_of, setting_of, display_of, Stays, Reason, Executes, Meets, Cause, Takes, stage_of, world_of}
+use Rattle.line_editor.specs.States.{value_of, setting_of, display_of, Stays, Reason, Executes, Meets, Cause, RunsScript, stage_of, world_of}
 use Rattle.line_editor.specs.Values.{Value, Setting}
 use Rattle.line_editor.specs.declared.commands.Status.{Status, TheVariants.Proceed, TheVariants.Submit}
 use Rattle.line_editor.specs.declared.renderer as renderers
@@ -155,9 +155,9 @@ module _ {Out H Hi K T : Type 0} {renderer : renderers.Renderer.Ghosts Out} {com
 
   -- no command came
   pub turn_refused : (custom : Custom) (s t : State Out H Hi K T renderer completer candidate hinter hint highlighter validator history) (i i' : Input) (r : Ring) (modal : Modal) (f f' : KeyFeed) (e : ReadlineError) (q : Result Status ReadlineError)
-      → IsErrAnd q (λ x. x ≡ e) → Follows display_of custom (line_phrase custom i (shown_in (value_of s))) s i t i' f f' (Err e) → Takes turn_script custom s i r modal f t i' r modal f' q
+      → IsErrAnd q (λ x. x ≡ e) → Follows display_of custom (line_phrase custom i (shown_in (value_of s))) s i t i' f f' (Err e) → RunsScript turn_script custom s i r modal f t i' r modal f' q
   turn_refused custom s t i i' r modal f f' e q is h =
-      subst (λ x. Takes turn_script custom s i r modal f t i' r modal f' x) (sym (is_err e q is)) (record {
+      subst (λ x. RunsScript turn_script custom s i r modal f t i' r modal f' x) (sym (is_err e q is)) (record {
         goes = λ told n enough. phrase_stopped n custom i r modal f.coming s f.bound enough t i' f'.coming e (h.goes told);
         stays = λ told. turn_stays (suc f.bound) custom i r modal f.coming s f.bound (le_refl (suc f.bound)) t i' f'.coming (Err e) (h.goes told);
         told = h.told;
@@ -177,9 +177,9 @@ module _ {Out H Hi K T : Type 0} {renderer : renderers.Renderer.Ghosts Out} {com
   -- a command came, and what a search made of it failed
   pub turn_unmade : (custom : Custom) (s m w : State Out H Hi K T renderer completer candidate hinter hint highlighter validator history) (i i1 : Input) (r : Ring) (modal modal' : Modal) (f f1 : KeyFeed) (cmd : Cmd) (e : ReadlineError) (q : Result Status ReadlineError)
       → IsErrAnd q (λ x. x ≡ e) → Follows display_of custom (line_phrase custom i (shown_in (value_of s))) s i m i1 f f1 (Ok cmd) → Meets (meeting modal cmd) (λ (c : Cmd). c) m w modal' (Err e)
-      → Takes turn_script custom s i r modal f w i1 r modal' f1 q
+      → RunsScript turn_script custom s i r modal f w i1 r modal' f1 q
   turn_unmade custom s m w i i1 r modal modal' f f1 cmd e q is h meets =
-      subst (λ x. Takes turn_script custom s i r modal f w i1 r modal' f1 x) (sym (is_err e q is)) (record {
+      subst (λ x. RunsScript turn_script custom s i r modal f w i1 r modal' f1 x) (sym (is_err e q is)) (record {
         goes = λ told n enough. turn_unmet n custom i r modal f.coming s f.bound enough m i1 f1.coming cmd w modal' e (h.goes told) meets;
         stays = λ told. stays_both s m w (turn_stays (suc f.bound) custom i r modal f.coming s f.bound (le_refl (suc f.bound)) m i1 f1.coming (Ok cmd) (h.goes told)) meets.does.stays;
         told = h.told;
@@ -192,7 +192,7 @@ module _ {Out H Hi K T : Type 0} {renderer : renderers.Renderer.Ghosts Out} {com
   -- a command came
   pub turn_commanded : (custom : Custom) (s m w t : State Out H Hi K T renderer completer candidate hinter hint highlighter validator history) (i i1 : Input) (r q ring' : Ring) (modal modal' : Modal) (f f1 : KeyFeed) (cmd next : Cmd) (result : Result Status ReadlineError)
       → Follows display_of custom (line_phrase custom i (shown_in (value_of s))) s i m i1 f f1 (Ok cmd) → f1.bound < f.bound → Meets (meeting modal cmd) (λ (c : Cmd). c) m w modal' (Ok next) → q ≡ ring_after_reset next r
-      → Executes next i1 w q t ring' result → Takes turn_script custom s i r modal f t i1 ring' modal' f1 result
+      → Executes next i1 w q t ring' result → RunsScript turn_script custom s i r modal f t i1 ring' modal' f1 result
   turn_commanded custom s m w t i i1 r q ring' modal modal' f f1 cmd next result h falls meets reset k =
       let done = subst (λ x. Executes next i1 w x t ring' result) reset k in
       record {

@@ -183,8 +183,8 @@ fits_parts own x (r ∷ xs) ys h = let parts = fits_parts own (sight x r) xs ys 
 
 module _ (s : Setting) where
   -- what is asked for a turn leads as its steps do, and what is asked after it
-  abbrev Along : LineState → Sight → Result (List ℕ) ReadlineError → List LineAsk → PlayedOf s Status → Type 0
-  Along k x o more p =
+  abbrev LeadsOnward : LineState → Sight → Result (List ℕ) ReadlineError → List LineAsk → PlayedOf s Status → Type 0
+  LeadsOnward k x o more p =
       let steps = steps_along s k p.asks in
       FitsAll s.prompt x steps → LeadsAlong s o p.rest (sight_all x steps) more → LeadsAlong s o k x (p.asks ++ more)
 
@@ -193,14 +193,14 @@ module _ (s : Setting) where
       → FitsAll s.prompt x rs × LeadsAlong s o k (sight_all x rs) more
   alone k x o more rs fits leads = (subst (FitsAll s.prompt x) (append-nil rs) fits, subst (λ zs. LeadsAlong s o k (sight_all x zs) more) (append-nil rs) leads)
 
-  command_along : (cmd : Cmd) (k : LineState) (x : Sight) (o : Result (List ℕ) ReadlineError) (more : List LineAsk) → Along k x o more (played_from s (Asks (Obeys cmd) (λ status. Ends status)) k)
+  command_along : (cmd : Cmd) (k : LineState) (x : Sight) (o : Result (List ℕ) ReadlineError) (more : List LineAsk) → LeadsOnward k x o more (played_from s (Asks (Obeys cmd) (λ status. Ends status)) k)
   command_along cmd k x o more =
       let left = left_at s k (Obeys cmd) in
       let steps = (effect_at s k (Obeys cmd)).steps in
-      played_each (Along k x o more) (on_command s k cmd) (Obeys cmd) left
+      played_each (LeadsOnward k x o more) (on_command s k cmd) (Obeys cmd) left
       (λ status fits leads. let h = alone left x o more steps fits leads in (h.0, tt, h.1)) (λ e fits leads. let h = alone left x o more steps fits leads in (h.0, tt, h.1)) (answer_at s k (Obeys cmd))
 
-  phrase_along : (script : KeyScript Cmd) (k : LineState) (x : Sight) (o : Result (List ℕ) ReadlineError) (more : List LineAsk) → Along k x o more (played_from s (spoken s script) k)
+  phrase_along : (script : KeyScript Cmd) (k : LineState) (x : Sight) (o : Result (List ℕ) ReadlineError) (more : List LineAsk) → LeadsOnward k x o more (played_from s (spoken s script) k)
   phrase_along (Ends cmd) k x o more = λ fits leads.
       let left = left_at s k (Meets cmd) in
       let made = (effect_at s k (Meets cmd)).steps in
@@ -213,7 +213,7 @@ module _ (s : Setting) where
       let left = left_at s k (Keys ask) in
       let made = (effect_at s k (Keys ask)).steps in
       let next : Answer ask → PlayedOf s Status = λ y. played_from s (spoken s (later y)) left in
-      played_each (Along k x o more) next (Keys ask) left
+      played_each (LeadsOnward k x o more) next (Keys ask) left
       (λ y fits leads.
       let rest = steps_along s left (next y).asks in
       let parts = fits_parts s.prompt x made rest fits in

@@ -19,7 +19,7 @@ use Rattle.line_editor.specs.Drawing.{ask_effect}
 use Rattle.line_editor.specs.Commands.{Means, effect}
 use Rattle.line_editor.specs.Moving.{to_found}
 use Rattle.line_editor.specs.History.{with_saved_line, recall, come_back_effect as back_at_end, history_step, leave_effect, save_effect}
-use Rattle.line_editor.specs.Returns.{ValueStep, value_after, searches, ComesBack, Along, ValueStep.Done, ValueStep.Asked, ValueStep.Met}
+use Rattle.line_editor.specs.Returns.{ValueStep, value_after, searches, ComesBack, AtEachStep, ValueStep.Done, ValueStep.Asked, ValueStep.Met}
 use Rattle.line_editor.specs.ModalCommands.{meeting_effect}
 use Rattle.line_editor.specs.Values.{Value, Setting, Effect, Saved, line_and_record_of, no_effect}
 use Rattle.line_editor.proofs.CommandKeeps.{KeptByCommands, either_holds, found_holds, command_keeps}
@@ -155,7 +155,7 @@ step_held (Done m cmd) s text at v quiet inside h away = command_held m cmd s te
 step_held (Asked ask) s text at v quiet inside h away = keeps_held s text at v (ask_effect ask s v).value h away (ask_keeps ask s v)
 step_held (Met q cmd) s text at v quiet inside h away = keeps_held s text at v (meeting_effect q cmd s v).value h away (meeting_keeps (alike v) s (alike_kept s v away) q cmd v (refl, refl, refl))
 
-all_held : (steps : List ValueStep) (s : Setting) (text : List ℕ) (at : ℕ) (v : Value) → at ≤ length text → Held s text at v → Along (λ step w. (w.history < length s.entries) × (searches step ≡ false)) s steps v → Held s text at (fold (value_after s) v steps)
+all_held : (steps : List ValueStep) (s : Setting) (text : List ℕ) (at : ℕ) (v : Value) → at ≤ length text → Held s text at v → AtEachStep (λ step w. (w.history < length s.entries) × (searches step ≡ false)) s steps v → Held s text at (fold (value_after s) v steps)
 all_held [] s text at v inside h stays = h
 all_held (step ∷ steps) s text at v inside h stays = all_held steps s text at (value_after s v step) inside (step_held step s text at v stays.0.1 inside h stays.0.0) stays.1
 

@@ -21,7 +21,7 @@ use Rattle.line_editor.specs.LineScripts.{LineStage, line_state, line_script, li
 use Rattle.line_editor.specs.Redraws.{fresh}
 use Rattle.line_editor.specs.LineRun.{Helping, helper_from_hooks, setting_by, stage_first, outcome_of, open_or, IsOpen, Runs}
 use Rattle.line_editor.specs.Modal.{Modal, modal_first}
-use Rattle.line_editor.specs.States.{value_of, setting_of, Stays, Starts, cause_of, Cause, Takes, stage_of, world_of}
+use Rattle.line_editor.specs.States.{value_of, setting_of, Stays, Starts, cause_of, Cause, RunsScript, stage_of, world_of}
 use Rattle.line_editor.specs.EditSteps.{surface}
 use Rattle.line_editor.specs.Values.{Value, Setting, IsFailing, empty_at, first_value}
 use Rattle.line_editor.specs.declared.line_run.Ran.{Ran}
@@ -103,13 +103,13 @@ module _ {Out H Hi K T : Type 0} {renderer : renderers.Renderer.Ghosts Out} {com
 
   -- bindings that stayed
   pub same_reads : (kept custom : Custom) (i i' : Input) (ring ring' : Ring) (modal modal' : Modal) (s t : State Out H Hi K T renderer completer candidate hinter hint highlighter validator history) (feed feed' : KeyFeed)
-      (result : Result (List ℕ) ReadlineError) → kept ≡ custom → Takes line_script kept s i ring modal feed t i' ring' modal' feed' result → Takes line_script custom s i ring modal feed t i' ring' modal' feed' result
-  same_reads kept custom i i' ring ring' modal modal' s t feed feed' result same reads = subst (λ x. Takes line_script x s i ring modal feed t i' ring' modal' feed' result) same reads
+      (result : Result (List ℕ) ReadlineError) → kept ≡ custom → RunsScript line_script kept s i ring modal feed t i' ring' modal' feed' result → RunsScript line_script custom s i ring modal feed t i' ring' modal' feed' result
+  same_reads kept custom i i' ring ring' modal modal' s t feed feed' result same reads = subst (λ x. RunsScript line_script x s i ring modal feed t i' ring' modal' feed' result) same reads
 
   module _ {A : Type 0} (prompt : List ℕ) (helper : Option H) (hist : Hi) (config : Config) (out : Out) (s t : State Out H Hi K T renderer completer candidate hinter hint highlighter validator history)
       (shown : Hi) (place : ℕ) (starts : Starts out prompt helper shown place config s) (shown_is : shown ≡ hist) (place_is : place ≡ length (history.entries hist))
       (custom : Custom) (i i' : Input) (input_is : i ≡ new_input config) (ring ring' : Ring) (modal modal' : Modal) (query query' : List ℕ) (modal_is : modal ≡ modal_first config query) (query_is : query' ≡ modal'.query) (feed feed' : KeyFeed) (result : Result A ReadlineError)
-      (reads : Takes line_script custom s i ring modal feed t i' ring' modal' feed' (result_and result (Ok t.recorded.line.text)))
+      (reads : RunsScript line_script custom s i ring modal feed t i' ring' modal' feed' (result_and result (Ok t.recorded.line.text)))
       (ran : Ran Out H K T) (out_is : ran.out ≡ t.out) (helper_is : ran.helper ≡ t.helper) (outcome_is : outcome_of ran ≡ result_and result (Ok t.recorded.line.text))
       (line_is : ran.open_line ≡ open_or result t.recorded.line) where
     abbrev setting : Setting

@@ -26,7 +26,7 @@ use Rattle.line_editor.specs.Commands.{Means, effect}
 use Rattle.line_editor.specs.Completing.{word_put}
 use Rattle.line_editor.specs.Leads.{Reaches, Sound}
 use Rattle.line_editor.specs.History.{at_place, recall, history_step, history_end, history_search, entry_shown, leave_effect}
-use Rattle.line_editor.specs.Returns.{ValueStep, value_after, UndoesAll, Along, ValueStep.Done, ValueStep.Asked, ValueStep.Met}
+use Rattle.line_editor.specs.Returns.{ValueStep, value_after, UndoesAll, AtEachStep, ValueStep.Done, ValueStep.Asked, ValueStep.Met}
 use Rattle.line_editor.specs.Values.{Value, Setting, value_with_edit, line_and_record_of}
 use Rattle.line_editor.proofs.CommandKeeps.{KeptByCommands, either_holds, found_holds, command_keeps}
 use Rattle.line_editor.proofs.MeetKeeps.{Fact, KeptByEdits, meeting_keeps}
@@ -180,7 +180,7 @@ one_reached (Done m cmd) s v first ok r = command_reached m cmd s v first ok r
 one_reached (Asked ask) s v first ok r = ask_reached ask s v first r
 one_reached (Met q cmd) s v first ok r = meeting_keeps (reaching first) s (reach_kept first s) q cmd v r
 
-all_reached : (steps : List ValueStep) (s : Setting) (v : Value) (first : List ℕ) → Along (λ step. Sound) s steps v → Reached first v → Reached first (fold (value_after s) v steps)
+all_reached : (steps : List ValueStep) (s : Setting) (v : Value) (first : List ℕ) → AtEachStep (λ step. Sound) s steps v → Reached first v → Reached first (fold (value_after s) v steps)
 all_reached [] s v first ok r = r
 all_reached (step ∷ steps) s v first ok r = all_reached steps s (value_after s v step) first ok.1 (one_reached step s v first ok.0 r)
 

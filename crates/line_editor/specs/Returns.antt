@@ -35,9 +35,9 @@ searches (Done means HistorySearchForward) = true
 searches step = false
 
 -- this holds of each step and the value at which it begins
-abbrev pub Along : (ValueStep → Value → Type 0) → Setting → List ValueStep → Value → Type 0
-Along holds s [] v = ⊤
-Along holds s (step ∷ steps) v = holds step v × Along holds s steps (value_after s v step)
+abbrev pub AtEachStep : (ValueStep → Value → Type 0) → Setting → List ValueStep → Value → Type 0
+AtEachStep holds s [] v = ⊤
+AtEachStep holds s (step ∷ steps) v = holds step v × AtEachStep holds s steps (value_after s v step)
 
 -- if a line that may grow leaves the history's end, by one entry or to the first, and comes back to
 -- it by steps that begin away from it, without a search, then line and cursor are as they were
@@ -45,7 +45,7 @@ abbrev pub ComesBack : Type 0
 ComesBack = (s : Setting) (m : Means) (one : Bool) (steps : List ValueStep) (v : Value)
     → v.history ≡ length s.entries → v.line.place ≤ length v.line.text → v.line.growth ≡ true
     → let left = (effect m (if one then PreviousHistory else BeginningOfHistory) s v).value in
-    Along (λ step w. (w.history < length s.entries) × (searches step ≡ false)) s steps left
+    AtEachStep (λ step w. (w.history < length s.entries) × (searches step ≡ false)) s steps left
     → let back = fold (value_after s) left steps in
     back.history ≡ length s.entries
     → (back.line.text ≡ v.line.text) × (back.line.place ≡ v.line.place)
@@ -61,7 +61,7 @@ UndoReaches = (s : Setting) (m : Means) (v : Value) (n : ℕ) (first : List ℕ)
 -- of that time. For a new line it is empty
 abbrev pub UndoesAll : Type 0
 UndoesAll = (s : Setting) (steps : List ValueStep) (v : Value) (m : Means) (n : ℕ)
-    → v.held ≡ [] → Along (λ step. Sound) s steps v
+    → v.held ≡ [] → AtEachStep (λ step. Sound) s steps v
     → let done = fold (value_after s) v steps in
     length done.held ≤ n
     → (effect m (Undo n) s done).value.line.text ≡ v.line.text

@@ -210,7 +210,7 @@ module _ {Out H Hi K T : Type 0} {renderer : renderers.Ghosts Out}
 
   -- the relation of a line, or of a part of it, from a state on: it goes as its script says. More
   -- fuel than the reader has keys and pastes is enough
-  pub record Takes {X : Type 0} (script : ℕ → Custom → LineScript X) (custom : Custom)
+  pub record RunsScript {X : Type 0} (script : ℕ → Custom → LineScript X) (custom : Custom)
       (s : State Out H Hi K T renderer completer candidate hinter hint highlighter validator
       history) (input : Input) (ring : Ring) (modal : Modal) (feed : KeyFeed)
       (t : State Out H Hi K T renderer completer candidate hinter hint highlighter validator

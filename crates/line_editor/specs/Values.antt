@@ -8,7 +8,7 @@ use Rattle.line_config.specs.declared.config.Config.{Config}
 use Rattle.line_edits.specs.Edits.{by}
 use Rattle.line_edits.specs.WriteSteps.{WriteSteps, with_answer, Written, group_opened, group_closed}
 use Rattle.line_help.specs.Completion.{Completion}
-use Rattle.line_help.specs.Hints.{Hinted, Answers}
+use Rattle.line_help.specs.Hints.{Hinted, ByLine}
 use Rattle.line_help.specs.declared.helpers.style.Mark.{Mark}
 use Rattle.line_help.specs.declared.helpers.style.Part.{Part}
 use Rattle.line_help.specs.declared.helpers.style.Part.TheVariants.{Line as OfLine, Hint as OfHint, Message}
@@ -48,9 +48,9 @@ empty_at history = record {
 
 -- the replies of a helper's hooks
 pub record Hooks : Type 0 where
-  pub hints : Answers (Reply (Option Hinted))
+  pub hints : ByLine (Reply (Option Hinted))
   pub judge : List ℕ → Reply ValidationResult
-  pub completes : Answers (Reply Completion)
+  pub completes : ByLine (Reply Completion)
   pub updates : Line → ℕ → List ℕ → Reply ⊤
 
 -- the replies of a helper's hooks, and its marks, if there is one
@@ -59,9 +59,9 @@ pub record Helping : Type 0 where
   pub marks : Option Marks
 
 -- a helper by its replies
-module _ {H : Type 0} (hint_of : H → Answers (Reply (Option Hinted)))
+module _ {H : Type 0} (hint_of : H → ByLine (Reply (Option Hinted)))
     (verdict_of : H → List ℕ → Reply ValidationResult)
-    (completion_of : H → Answers (Reply Completion))
+    (completion_of : H → ByLine (Reply Completion))
     (update_of : H → Line → ℕ → List ℕ → Reply ⊤) where
   abbrev pub hooks_by : H → Hooks
   hooks_by helper = record {

@@ -4,7 +4,7 @@ ghost use Rattle.std.specs.Result.{result_and};
 ghost use Rattle.line_keys.specs.InputStates.{input_of, custom_in};
 ghost use Rattle.line_editor.specs.LineScripts.{turns_script, line_script};
 ghost use Rattle.line_editor.specs.Modal.{modal_of};
-ghost use Rattle.line_editor.specs.States.{Takes};
+ghost use Rattle.line_editor.specs.States.{RunsScript};
 
 use crate::commands::Status;
 use crate::modal_state::ModalState;
@@ -25,7 +25,7 @@ impl<'p, 'h, Out: Renderer, H: Helper + Drop, Hi: History> State<'p, 'h, Out, H,
         modal: &mut ModalState,
     ) -> Result<(), ReadlineError>
         ensures { let custom = custom_in input_state.old D.decides in
-            Takes turns_script custom
+            RunsScript turns_script custom
             self.old (input_of input_state.old) kill_ring.old (modal_of modal.old)
             (R.feed rdr.old) self.new (input_of input_state.new) kill_ring.new
             (modal_of modal.new) (R.feed rdr.new)
@@ -48,7 +48,7 @@ impl<'p, 'h, Out: Renderer, H: Helper + Drop, Hi: History> State<'p, 'h, Out, H,
         modal: &mut ModalState,
     ) -> Result<(), ReadlineError>
         ensures { let custom = custom_in input_state.old D.decides in
-            Takes line_script custom
+            RunsScript line_script custom
             self.old (input_of input_state.old) kill_ring.old (modal_of modal.old)
             (R.feed rdr.old) self.new (input_of input_state.new) kill_ring.new
             (modal_of modal.new) (R.feed rdr.new)

@@ -16,7 +16,7 @@ use line_record::KillRing;
 impl<'p, 'h, Out: Renderer, H: Helper + Drop, Hi: History> State<'p, 'h, Out, H, Hi> {
     ghost use Rattle.line_editor.specs.LineScripts.{turn_script};
     ghost use Rattle.line_editor.specs.Modal.{modal_of};
-    ghost use Rattle.line_editor.specs.States.{Takes};
+    ghost use Rattle.line_editor.specs.States.{RunsScript};
 
     /// One turn: the next command and its effect. It is inlined into the loop over the turns.
     #[inline(always)]
@@ -28,7 +28,7 @@ impl<'p, 'h, Out: Renderer, H: Helper + Drop, Hi: History> State<'p, 'h, Out, H,
         modal: &mut ModalState,
     ) -> Result<Status, ReadlineError>
         ensures turn { let custom = custom_in input_state.old D.decides in
-            Takes turn_script custom
+            RunsScript turn_script custom
             self.old (input_of input_state.old) kill_ring.old (modal_of modal.old)
             (R.feed rdr.old) self.new (input_of input_state.new) kill_ring.new
             (modal_of modal.new) (R.feed rdr.new) result }

@@ -17,7 +17,7 @@ abbrev filed_of : Settings → List (List ℕ) → ℕ → Filed
 filed_of s entries unsaved = record { kept = record { entries = entries; settings = s }; unsaved = unsaved }
 
 -- the entries that were written, and after them those that are new, give the history
-record Stands (s : Settings) (now : WrittenHistory) : Type 0 where
+record RowsGiveHistory (s : Settings) (now : WrittenHistory) : Type 0 where
   entries : List (List ℕ)
   unsaved : ℕ
   rows : List (List ℕ)
@@ -36,8 +36,8 @@ which a b = grind arith
 none_behind : (s : Settings) (rows entries : List (List ℕ)) → added_all s [] (rows ++ newest 0 entries) ≡ added_all s [] rows
 none_behind s rows entries = ap (λ xs. added_all s [] (rows ++ xs)) (none_new entries) ∙ ap (λ xs. added_all s [] xs) (append-nil rows)
 
-after_writing : (s : Settings) (now : WrittenHistory) (text : List ℕ) (rows : List (List ℕ)) (r : Stands s now) → text ≡ saved_text rows → CanComeBack rows → added_all s [] rows ≡ r.entries
-    → Stands s (record { text = text; history = all_saved now.history })
+after_writing : (s : Settings) (now : WrittenHistory) (text : List ℕ) (rows : List (List ℕ)) (r : RowsGiveHistory s now) → text ≡ saved_text rows → CanComeBack rows → added_all s [] rows ≡ r.entries
+    → RowsGiveHistory s (record { text = text; history = all_saved now.history })
 after_writing s now text rows r of back gives = record {
   entries = r.entries;
   unsaved = 0;
@@ -51,7 +51,7 @@ after_writing s now text rows r of back gives = record {
   gives = none_behind s rows r.entries ∙ gives;
 }
 
-all_written : (s : Settings) (now : WrittenHistory) (r : Stands s now) → now.history.unsaved ≡ 0 → added_all s [] r.rows ≡ r.entries
+all_written : (s : Settings) (now : WrittenHistory) (r : RowsGiveHistory s now) → now.history.unsaved ≡ 0 → added_all s [] r.rows ≡ r.entries
 all_written s now r e =
     let none : r.unsaved ≡ 0 = sym (ap (λ h. h.unsaved) r.is) ∙ e in
     sym (none_behind s r.rows r.entries) ∙ ap (λ n. added_all s [] (r.rows ++ newest n r.entries)) (sym none) ∙ r.gives
@@ -70,7 +70,7 @@ made_is s rows = let kept = filed_kept (nothing_filed s) rows in rw kept refl
 loaded_is : (s : Settings) (text : List ℕ) (rows : List (List ℕ)) → text ≡ saved_text rows → CanComeBack rows → history_from_text s text ≡ filed_of s (added_all s [] rows) 0
 loaded_is s text rows is back = ap (λ t. history_from_text s t) is ∙ saved_back s rows back ∙ made_is s rows
 
-after_one : (s : Settings) (now : WrittenHistory) (step : HistoryStep) → CanStep step now → Stands s now → Stands s (after_step s step now)
+after_one : (s : Settings) (now : WrittenHistory) (step : HistoryStep) → CanStep step now → RowsGiveHistory s now → RowsGiveHistory s (after_step s step now)
 after_one s now (Adds line) can r = by_case (ignores_line s r.entries line) refl where
   -- a line that becomes an entry is new, with those before it or as the first of all that are left
   on : ignores_line s r.entries line ≡ false → r.unsaved + 1 ≤ length (entries_after s r.entries line)
@@ -95,10 +95,10 @@ after_one s now (Adds line) can r = by_case (ignores_line s r.entries line) refl
       ∙ added_in_parts s [] r.rows after
       ∙ overwritten s (added_all s [] r.rows) after (all_small s [] r.rows (omega arith)) (stays_in_turn s r.entries line r.turn) (omega arith)
 
-  by_case : (b : Bool) → ignores_line s r.entries line ≡ b → Stands s (after_step s (Adds line) now)
+  by_case : (b : Bool) → ignores_line s r.entries line ≡ b → RowsGiveHistory s (after_step s (Adds line) now)
   by_case true e =
       let same : now.history ≡ history_with_line now.history line = r.is ∙ sym (ap (λ h. history_with_line h line) r.is ∙ rw e refl) in
-      subst (λ h. Stands s (record { text = now.text; history = h })) same r
+      subst (λ h. RowsGiveHistory s (record { text = now.text; history = h })) same r
   by_case false e =
       let after = entries_after s r.entries line in
       record {
@@ -117,7 +117,7 @@ after_one s now (Adds line) can r = by_case (ignores_line s r.entries line) refl
         ];
       }
 after_one s now Saves can r = by_case (now.history.unsaved == 0) refl where
-  by_case : (b : Bool) → (now.history.unsaved == 0) ≡ b → Stands s (after_step s Saves now)
+  by_case : (b : Bool) → (now.history.unsaved == 0) ≡ b → RowsGiveHistory s (after_step s Saves now)
   by_case true e = rw e (after_writing s now now.text r.rows r r.text r.back (all_written s now r ((Decides-eqb now.history.unsaved 0).0 e)))
   by_case false e = rw e (after_writing s now (saved_text now.history.kept.entries) now.history.kept.entries r refl can
       (ap (λ h. added_all s [] h.kept.entries) r.is ∙ gives_itself s r.entries r.turn r.fits))
@@ -128,7 +128,7 @@ after_one s now Appends can r = by_case (now.history.unsaved == 0) refl where
   same : new ≡ newest r.unsaved r.entries
   same = ap (λ h. newest h.unsaved h.kept.entries) r.is
 
-  by_case : (b : Bool) → (now.history.unsaved == 0) ≡ b → Stands s (after_step s Appends now)
+  by_case : (b : Bool) → (now.history.unsaved == 0) ≡ b → RowsGiveHistory s (after_step s Appends now)
   by_case true e =
       rw (e, append-nil now.text)
       (after_writing s now now.text r.rows r r.text r.back (all_written s now r ((Decides-eqb now.history.unsaved 0).0 e)))
@@ -153,11 +153,11 @@ after_one s now Loads can r = record {
 abbrev after_steps : Settings → List HistoryStep → WrittenHistory → WrittenHistory
 after_steps s steps now = fold (λ n step. after_step s step n) now steps
 
-after_all : (s : Settings) (steps : List HistoryStep) (now : WrittenHistory) → CanMake s steps now → Stands s now → Stands s (after_steps s steps now)
+after_all : (s : Settings) (steps : List HistoryStep) (now : WrittenHistory) → CanMake s steps now → RowsGiveHistory s now → RowsGiveHistory s (after_steps s steps now)
 after_all s [] now can r = r
 after_all s (step ∷ steps) now can r = after_all s steps (after_step s step now) can.1 (after_one s now step can.0 r)
 
-comes_back : (s : Settings) (now : WrittenHistory) → Stands s now → now.history.unsaved ≡ 0 → history_from_text s now.text ≡ now.history
+comes_back : (s : Settings) (now : WrittenHistory) → RowsGiveHistory s now → now.history.unsaved ≡ 0 → history_from_text s now.text ≡ now.history
 comes_back s now r e =
     loaded_is s now.text r.rows r.text r.back ∙ ap (λ xs. filed_of s xs 0) (all_written s now r e)
     ∙ ap (λ n. filed_of s r.entries n) (sym e ∙ ap (λ h. h.unsaved) r.is) ∙ sym r.is
@@ -166,7 +166,7 @@ comes_back s now r e =
 abbrev just_saved : Settings → List (List ℕ) → WrittenHistory
 just_saved s lines = let made = history_made_of s lines in record { text = saved_text made.kept.entries; history = made }
 
-stands_first : (s : Settings) (lines : List (List ℕ)) → CanComeBack (just_saved s lines).history.kept.entries → Stands s (just_saved s lines)
+stands_first : (s : Settings) (lines : List (List ℕ)) → CanComeBack (just_saved s lines).history.kept.entries → RowsGiveHistory s (just_saved s lines)
 stands_first s lines can =
     let entries = added_all s [] lines in
     let e : (history_made_of s lines).kept.entries ≡ entries = ap (λ h. h.kept.entries) (made_is s lines) in

@@ -11,7 +11,7 @@ use Rattle.memchr.specs.Find.{IsFirstByte, is_byte}
 use Rattle.line_config.specs.Feed.{Feed, GivesBytes, device_failed, front_of}
 use Rattle.line_config.specs.declared.device.Last.{Last, TheVariants.End, TheVariants.Failed}
 use Rattle.line_config.specs.declared.errors.ReadlineError.{ReadlineError, TheVariants.Memory, TheVariants.Reader}
-use Rattle.line_help.specs.HistoryText.{TakesPiece, text_rows, without_return, behind_row, EndIsMet, LosesRow, ReadsByte, ReadsGood, ReadsRow}
+use Rattle.line_help.specs.HistoryText.{TakesPiece, text_rows, without_return, behind_row, EndIsMet, LosesRow, ReadsTextByte, ReadsGood, ReadsRow}
 
 -- no newline stands among these bytes
 abbrev pub has_newline : List ℕ → Bool
@@ -190,7 +190,7 @@ some_byte [] empty e is = absurd (let k : false ≡ true = rw e at is in cc)
 some_byte (x ∷ xs) empty e is = omega arith
 
 module _ (old here new : Feed) (xs : List ℕ) (so : RowSoFar old here xs) where
-  pub row_ends : (bytes : List ℕ) (met : Bool) → met ≡ false → bytes ≡ without_return xs → ReadsByte here new (Ok (Some 10)) → ReadsRow old new bytes met (Ok true)
+  pub row_ends : (bytes : List ℕ) (met : Bool) → met ≡ false → bytes ≡ without_return xs → ReadsTextByte here new (Ok (Some 10)) → ReadsRow old new bytes met (Ok true)
   row_ends bytes met unmet is byte =
       let w : IsTrue new.told → StandsWhole old.coming new.coming bytes = λ told.
       whole_row xs old.coming new.coming bytes so.inside (so.split (byte.gives.told told) ∙ ap (λ rest. xs ++ rest) (byte.gives.read told)) is in
@@ -211,7 +211,7 @@ module _ (old here new : Feed) (xs : List ℕ) (so : RowSoFar old here xs) where
         keeps = le_trans byte.gives.keeps so.bound;
       }
 
-  pub text_ends : (empty : Bool) → empty ≡ (length xs == 0) → ReadsByte here new (Ok None) → ReadsRow old new xs true (Ok (not empty))
+  pub text_ends : (empty : Bool) → empty ≡ (length xs == 0) → ReadsTextByte here new (Ok None) → ReadsRow old new xs true (Ok (not empty))
   text_ends empty e byte =
       let none : IsTrue new.told → (here.coming ≡ []) × (here.last ≡ End) = λ told. byte.gives.end told refl in
       let last : IsTrue new.told → old.last ≡ End = λ told. sym so.last ∙ (none told).1 in
@@ -235,7 +235,7 @@ module _ (old here new : Feed) (xs : List ℕ) (so : RowSoFar old here xs) where
       }
 
   -- the source fails
-  pub row_cut : (e : ReadlineError) (met : Bool) → met ≡ false → ReadsByte here new (Err e) → ReadsRow old new xs met (Err Reader)
+  pub row_cut : (e : ReadlineError) (met : Bool) → met ≡ false → ReadsTextByte here new (Err e) → ReadsRow old new xs met (Err Reader)
   row_cut e met unmet byte =
       let front : IsTrue new.told → (here.coming ≡ []) × (here.last ≡ Failed) = λ told. refused_front here.coming here.last (byte.gives.front told) in
       let last : IsTrue new.told → old.last ≡ Failed = λ told. sym so.last ∙ (front told).1 in
@@ -259,7 +259,7 @@ module _ (old here new : Feed) (xs : List ℕ) (so : RowSoFar old here xs) where
       }
 
   -- a byte other than a newline, and the bytes behind it that were buffered
-  module _ (b : ℕ) (other : b ≢ 10) (byte : ReadsByte here new (Ok (Some b))) (later : Feed) (ys : List ℕ) (piece : TakesPiece new later (xs ++ (b ∷ [])) ys) where
+  module _ (b : ℕ) (other : b ≢ 10) (byte : ReadsTextByte here new (Ok (Some b))) (later : Feed) (ys : List ℕ) (piece : TakesPiece new later (xs ++ (b ∷ [])) ys) where
     all_read : ys ≡ xs ++ (b ∷ piece.piece)
     all_read = piece.row ∙ append_assoc xs (b ∷ []) piece.piece
 

@@ -6,7 +6,7 @@ use Rattle.std.proofs.lemmas.Bool.{or_parts, false_from_ne_true}
 use Rattle.std.proofs.lemmas.List.{take_all, take_more, drop_all, drop_more, length-drop, drop-drop, take-append-drop}
 use Rattle.std.proofs.lemmas.Grind.{flat_map-append}
 use Rattle.memchr.specs.Find.{Nowhere, Passes, is_byte2}
-use Rattle.line_config.specs.Sending.{Takes, TakesSome}
+use Rattle.line_config.specs.Sending.{TakesBytes, TakesSome}
 use Rattle.line_config.specs.declared.errors.ReadlineError.{ReadlineError, TheVariants.HistoryText}
 use Rattle.line_config.proofs.Taking.{Underway, takes_then, some_then, some_of_more, underway_end, underway_on, underway_some}
 use Rattle.line_help.specs.HistoryText.{escaped_byte, escaped_entry, SendsRun}
@@ -52,17 +52,17 @@ module _ {D : Type 0} (held : D → List ℕ) (failed : D → Bool) (bytes : Lis
       subst (TakesSome held a b) (sym (split_at bytes n fits run))
       (some_of_more held a b (take n bytes) (escaped_byte (get_or bytes n 0) ++ escaped_entry (drop (n + 1) bytes)) some)
 
-  pub escape_begun : (n : ℕ) {a b c : D} → n < length bytes → IsRun bytes n → Takes held a b (take n bytes) → TakesSome held b c (escaped_byte (get_or bytes n 0))
+  pub escape_begun : (n : ℕ) {a b c : D} → n < length bytes → IsRun bytes n → TakesBytes held a b (take n bytes) → TakesSome held b c (escaped_byte (get_or bytes n 0))
       → TakesSome held a c (escaped_entry bytes)
   escape_begun n {a = a} {b = b} {c = c} fits run took some =
       subst (TakesSome held a c) (sym (split_at bytes n fits run))
       (some_then held a b c (take n bytes) (escaped_byte (get_or bytes n 0) ++ escaped_entry (drop (n + 1) bytes)) took
       (some_of_more held b c (escaped_byte (get_or bytes n 0)) (escaped_entry (drop (n + 1) bytes)) some))
 
-  pub run_sent : (n : ℕ) (a b c : D) → n < length bytes → IsRun bytes n → Takes held a b (take n bytes)
-      → Takes held b c (escaped_byte (get_or bytes n 0)) → Takes held a c (escaped_entry (take (n + 1) bytes))
+  pub run_sent : (n : ℕ) (a b c : D) → n < length bytes → IsRun bytes n → TakesBytes held a b (take n bytes)
+      → TakesBytes held b c (escaped_byte (get_or bytes n 0)) → TakesBytes held a c (escaped_entry (take (n + 1) bytes))
   run_sent n a b c fits run took more =
-      subst (Takes held a c) (sym (taken_at bytes n fits run)) (takes_then held a b c (take n bytes) (escaped_byte (get_or bytes n 0)) took more)
+      subst (TakesBytes held a c) (sym (taken_at bytes n fits run)) (takes_then held a b c (take n bytes) (escaped_byte (get_or bytes n 0)) took more)
 
   -- ---- run after run: this is sent of the entry's text
 
@@ -80,7 +80,7 @@ module _ {D : Type 0} (held : D → List ℕ) (failed : D → Bool) (bytes : Lis
       underway_some held failed (escaped_entry bytes) text [] (subst (λ left. Underway held failed (escaped_entry bytes) left a b) (sym (append-nil text)) under)
       (subst (λ ys. TakesSome held b c (escaped_entry ys)) (rest_is n) some)
 
-  pub run_done : (n m : ℕ) {a b c : D} → Sent n a b → Takes held b c (escaped_entry (take m (take (length bytes - n) (drop n bytes)))) → failed c ≡ failed b
+  pub run_done : (n m : ℕ) {a b c : D} → Sent n a b → TakesBytes held b c (escaped_entry (take m (take (length bytes - n) (drop n bytes)))) → failed c ≡ failed b
       → Sent (n + m) a c
   run_done n m {a = a} {b = b} {c = c} under took works =
       let left = drop n bytes in
@@ -89,8 +89,8 @@ module _ {D : Type 0} (held : D → List ℕ) (failed : D → Bool) (bytes : Lis
       ∙ ap (λ ys. escaped_entry (take m left) ++ escaped_entry ys) (drop-drop m n bytes) in
       underway_on held failed (escaped_entry bytes) (escaped_entry (take m left)) (escaped_entry (drop (n + m) bytes))
       (subst (λ text. Underway held failed (escaped_entry bytes) text a b) parted under)
-      (subst (λ ys. Takes held b c (escaped_entry (take m ys))) (rest_is n) took) works
+      (subst (λ ys. TakesBytes held b c (escaped_entry (take m ys))) (rest_is n) took) works
 
-  pub runs_done : (n : ℕ) {a b : D} → length bytes ≤ n → Sent n a b → Takes held a b (escaped_entry bytes)
+  pub runs_done : (n : ℕ) {a b : D} → length bytes ≤ n → Sent n a b → TakesBytes held a b (escaped_entry bytes)
   runs_done n {a = a} {b = b} past under =
       underway_end held failed (escaped_entry bytes) (subst (λ ys. Underway held failed (escaped_entry bytes) (escaped_entry ys) a b) (drop_all n bytes past) under)

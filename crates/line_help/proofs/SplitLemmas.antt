@@ -71,8 +71,8 @@ abbrev pub reading : Style → Style → Open → ℕ → List ℕ → Style
 reading s changed begun n bs = read_by s changed begun (numbers_in n bs)
 
 -- a number is taken
-abbrev pub Takes : Style → Open → ℕ → Style → Open → Type 0
-Takes changed begun n after left = (ns : List ℕ)
+abbrev pub TakesNumber : Style → Open → ℕ → Style → Open → Type 0
+TakesNumber changed begun n after left = (ns : List ℕ)
     → style_after_numbers 0 (open_numbers begun ++ (n ∷ ns)) changed ≡ style_after_numbers 0 (open_numbers left ++ ns) after
 
 -- a colour that has begun and isn't whole changes nothing
@@ -84,7 +84,7 @@ none_begun s (OnePart true r) = refl
 none_begun s (TwoParts true r g) = refl
 none_begun s begun = refl
 
-pub at_end : (s changed after : Style) (begun left : Open) (n : ℕ) (bs : List ℕ) → Takes changed begun n after left
+pub at_end : (s changed after : Style) (begun left : Open) (n : ℕ) (bs : List ℕ) → TakesNumber changed begun n after left
     → reading s changed begun n (0x6D ∷ bs) ≡ after
 at_end s changed after begun left n bs takes = takes [] ∙ none_begun after left
 

@@ -83,7 +83,8 @@ is_among cs c = list_any (λ d. c == d) cs
 
 -- the common prefix of two texts, in whole characters
 abbrev pub common_beginning : List ℕ → List ℕ → List ℕ
-common_beginning text other = take (floor_char_boundary text (common_prefix_len nat_eq text other)) text
+common_beginning text other =
+    take (floor_char_boundary text (common_prefix_len nat_eq text other)) text
 
 abbrev pub common_to_all : List ℕ → List (List ℕ) → List ℕ
 common_to_all text [] = text

@@ -11,8 +11,8 @@ pub record Hinted : Type 0 where
   pub completion : Option (List ℕ)
 
 -- the reply of a hinter, by the line, the place, the history's entries and the place in the history
-abbrev pub Answers : Type 0 → Type 0
-Answers A = List ℕ → ℕ → List (List ℕ) → ℕ → A
+abbrev pub ByLine : Type 0 → Type 0
+ByLine A = List ℕ → ℕ → List (List ℕ) → ℕ → A
 
 abbrev pub text_hint : List ℕ → Hinted
 text_hint text = record { display = text; completion = Some text }

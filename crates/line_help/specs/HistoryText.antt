@@ -11,7 +11,7 @@ use Rattle.line_config.specs.declared.device.Last.TheVariants.{End, Failed}
 use Rattle.line_config.specs.declared.errors.ReadlineError.{ReadlineError}
 use Rattle.line_config.specs.declared.errors.ReadlineError.TheVariants.{Reader, HistoryText, Memory, NotUtf8}
 use Rattle.line_help.specs.History.{Filed, newest, history_with_lines, takes_all, all_saved}
-use Rattle.line_config.specs.Sending.{Takes, TakesSome, Sends}
+use Rattle.line_config.specs.Sending.{TakesBytes, TakesSome, Sends}
 
 -- the first row of a saved text: a text without it has no escapes
 abbrev pub header : List ℕ
@@ -165,7 +165,7 @@ pub record SendsText {D : Type 0} (held : D → List ℕ) (failed : D → Bool) 
 pub record SendsRun {D : Type 0} (held : D → List ℕ) (failed : D → Bool) (bytes : List ℕ)
     (sink left : D) (result : Result ℕ ReadlineError) : Type 0 where
   pub count : IfOk result (λ n. (n ≤ length bytes) × (0 < length bytes → 0 < n))
-  pub sent : IfOk result (λ n. Takes held sink left (escaped_entry (take n bytes)))
+  pub sent : IfOk result (λ n. TakesBytes held sink left (escaped_entry (take n bytes)))
   pub works : OnOk result (failed left ≡ failed sink)
   pub err : OnErr result (IsTrue (failed left))
   pub begins : OnErr result (TakesSome held sink left (escaped_entry bytes))
@@ -184,7 +184,7 @@ pub record SavesNew {D : Type 0} (held : D → List ℕ) (failed : D → Bool) (
 -- ---- the effect of loading on a history and on the source of its text
 
 -- one byte is requested of a source, whose failure is the error Reader
-pub record ReadsByte (old new : Feed) (result : Result (Option ℕ) ReadlineError) : Type 0 where
+pub record ReadsTextByte (old new : Feed) (result : Result (Option ℕ) ReadlineError) : Type 0 where
   pub gives : GivesByte old new (result_map_both (λ b. b) (λ e. device_failed) result)
   pub fault : IfErr result (λ e. e ≡ Reader)
 

@@ -19,7 +19,7 @@ use Rattle.line_editor.specs.Redraws.{Redraw, RedrawCalls, calls_of_redraw, info
 use Rattle.line_editor.specs.Redraws.Redraw.{Moved, Typed, Appended, Taken, Erased, PutIn, TakenOut, Bared, ToEnd, Rewritten}
 use Rattle.line_editor.specs.Values.{shown_marks}
 use Rattle.line_screen.specs.ScreenCalls.{Screen, bytes_of, bell_bytes, old_row, ruler_of, widths}
-use Rattle.line_screen.specs.Chain.{View, Good, Picture, Inside, Replaces, LeadsView, TakesOut, DrawsRest, picture_of_line, cursor_of}
+use Rattle.line_screen.specs.Chain.{View, Good, Picture, Inside, ReplacesDrawing, LeadsView, TakesOut, DrawsRest, picture_of_line, cursor_of}
 use Rattle.line_screen.specs.Laws.{OnEachScreen, BeginsNoStyle, has_no_marks, UnmarkedCallsBeginNone, ScreensWithoutColours, Uncoloured}
 use Rattle.line_screen.specs.Colours.{no_styles, painted_text, bytes_of_all_painted, rest_drawing}
 use Rattle.line_screen.specs.Display.{Placed, is_text, right}
@@ -255,7 +255,7 @@ module _ (mode : GraphemeClusterMode) (tab : Option ℕ) (columns : ℕ) (some :
   drawing_free prompt line info finish cursor from to = free_then (shown_free prompt line info) (move_free finish cursor from to)
 
   -- in the place of a drawing whose cursor's row is known, or of none
-  draw_free : (o : Option ℕ) (a : View) (prompt line info : List ℕ) (finish cursor : Position) → Inside columns a.place → Replaces o a → Inside columns finish → Inside columns cursor
+  draw_free : (o : Option ℕ) (a : View) (prompt line info : List ℕ) (finish cursor : Position) → Inside columns a.place → ReplacesDrawing o a → Inside columns finish → Inside columns cursor
       → IsFree (drawing_bytes columns wide o prompt line info finish cursor)
   draw_free None a prompt line info finish cursor here over from to = drawing_free prompt line info finish cursor from to
   draw_free (Some row) a prompt line info finish cursor here over from to =

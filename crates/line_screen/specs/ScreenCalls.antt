@@ -3,7 +3,7 @@ use Rattle.std.specs.Prelude.{◌≡◌, ℕ, Bool, true, false, encode_utf8, Is
 use Rattle.line_buffer.specs.declared.layout.GraphemeClusterMode.{GraphemeClusterMode}
 use Rattle.line_buffer.specs.declared.layout.Layout.{Layout}
 use Rattle.line_config.specs.declared.errors.ReadlineError.{ReadlineError}
-use Rattle.line_config.specs.Sending.{Takes, TakesSome}
+use Rattle.line_config.specs.Sending.{TakesBytes, TakesSome}
 use Rattle.line_config.specs.declared.settings.BellStyle.{BellStyle}
 use Rattle.line_config.specs.declared.settings.BellStyle.TheVariants.{Audible}
 use Rattle.line_editor.specs.RenderCalls.{Call, Canvas, Ruler, Draw, Move, Write, Beep, ClearScreen, ClearRows, ClearToEol, MoveAndClearToEol, InsertChar, MoveAndDelete, Append, DrawRest, WriteOver}
@@ -105,7 +105,7 @@ bytes_of s call = []
 -- works as before, and the screen stays as it is
 pub record Sent {D : Type 0} (held waits : D → List ℕ) (failed : D → Bool) (bytes : List ℕ)
     (old new : ScreenRenderer D) : Type 0 where
-  pub takes : Takes held (sink_of old) (sink_of new) bytes
+  pub takes : TakesBytes held (sink_of old) (sink_of new) bytes
   pub passes : waits (sink_of old) ≡ [] → waits (sink_of new) ≡ []
   pub works : failed (sink_of new) ≡ failed (sink_of old)
   pub screen : screen_of new ≡ screen_of old

@@ -3,7 +3,7 @@
 
 ghost use Rattle.std.specs.Prelude.{◌≡◌, ◌≤◌, ◌==◌, length, take};
 ghost use Rattle.std.specs.List.{position_or_len};
-ghost use Rattle.line_help.specs.HistoryText.{ReadsByte, TakesPiece, without_return};
+ghost use Rattle.line_help.specs.HistoryText.{ReadsTextByte, TakesPiece, without_return};
 
 use line_config::{ReadlineError, Source};
 use memchr::memchr;
@@ -31,7 +31,7 @@ fn drop_return(row: &mut Vec<u8>)
 
 /// The next byte of a source, or `None` at the end of its text.
 fn next_byte<S: Source>(source: &mut S) -> Result<Option<u8>, ReadlineError>
-    ensures { ReadsByte (S.feed source.old) (S.feed source.new) result }
+    ensures { ReadsTextByte (S.feed source.old) (S.feed source.new) result }
 {
     source.next_byte().map_err(|_| ReadlineError::Reader)
 }

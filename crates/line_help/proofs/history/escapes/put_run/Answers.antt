@@ -1,7 +1,7 @@
 -- A run is sent as it is, and then an escape.
 use Rattle.std.proofs.Common.{rules, arith, length, sym, ap, ◌∙◌, subst}
 use Rattle.std.proofs.lemmas.List.{take_all}
-use Rattle.line_config.specs.Sending.{Takes, TakesSome}
+use Rattle.line_config.specs.Sending.{TakesBytes, TakesSome}
 use Rattle.line_help.specs.HistoryText.{escaped_entry}
 use Rattle.line_help.proofs.RunLemmas.{all_is, run_refused, run_begun, escape_begun, run_sent}
 use Rattle.line_help.proofs.history.escapes.put_run.Goals as goal
@@ -19,7 +19,7 @@ returns-in_default g c =
     let bytes = c.args.bytes.now in
     record {
       count = (omega arith, λ some. some);
-      sent = subst (Takes held c.args.sink.now c.put.new.sink) (sym (all_is bytes c.in_default.ensures) ∙ ap escaped_entry (sym (take_all (length bytes) bytes (omega arith)))) c.in_ok-put.ensures.sends.sent;
+      sent = subst (TakesBytes held c.args.sink.now c.put.new.sink) (sym (all_is bytes c.in_default.ensures) ∙ ap escaped_entry (sym (take_all (length bytes) bytes (omega arith)))) c.in_ok-put.ensures.sends.sent;
       works = c.in_ok-put.ensures.sends.works;
       err = tt;
       begins = tt;

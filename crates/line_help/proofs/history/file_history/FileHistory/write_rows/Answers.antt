@@ -1,7 +1,7 @@
 -- The row of each entry, passed on at the end.
 use Rattle.std.proofs.Common.{◌≡◌, ◌<◌, ◌≤◌, List, ℕ, length, drop, get_or, rules, subst}
 use Rattle.std.specs.Prelude.{string_bytes}
-use Rattle.line_config.specs.Sending.{Takes, TakesSome}
+use Rattle.line_config.specs.Sending.{TakesBytes, TakesSome}
 use Rattle.line_config.proofs.Taking.{underway_start, sends_refused, sends_flushed}
 use Rattle.line_help.specs.HistoryText.{row_of, rows_text}
 use Rattle.line_help.proofs.SavingLemmas.{piece_sent, piece_refused, pieces_sent}
@@ -20,7 +20,7 @@ loop-index-preserved g c =
     let other = string_bytes c.index.result.now in
     let inside : at < length entries = search rules in
     let entry : c.as_str.result.now ≡ get_or entries at other = search rules in
-    let Took : List ℕ → Type 0 = λ entry. Takes held c.loop-index.sink c.write_row.new.sink (row_of entry) in
+    let Took : List ℕ → Type 0 = λ entry. TakesBytes held c.loop-index.sink c.write_row.new.sink (row_of entry) in
     piece_sent held failed row_of entries (rows_text (drop c.args.first entries)) at other inside c.loop-index.invariant
     (subst Took entry c.in_ok-write_row.ensures.sends.sent) c.in_ok-write_row.ensures.sends.works
 
