@@ -42,6 +42,7 @@ pub fn is_wide(c: char) -> bool
 }
 
 /// Pictographs, without the tones of skin.
+#[inline]
 fn is_pictograph(c: char) -> bool
     ensures { result ≡ is_pictograph c }
 {
@@ -55,6 +56,7 @@ fn is_pictograph(c: char) -> bool
 }
 
 /// Whether a character is a cluster of its own next to others of these.
+#[inline]
 #[tactic(auto, using(crate::proofs::CharacterRanges::sides))]
 pub fn is_apart(c: char) -> bool
     ensures { result ≡ is_apart c }
