@@ -36,7 +36,7 @@ LEFT_OUT = re.compile(r"\n[ ]*(?://|--) \.\.\n")
 
 # The longest sentence of a document, and the longest promise, in words; and the most bytes of docs/.
 LONGEST_SENTENCE, LONGEST_PROMISE = 30, 30
-MOST_BYTES = 200 * 1024
+MOST_BYTES = 206 * 1024
 
 
 class Checks:
@@ -279,7 +279,7 @@ def check_logs(checks):
     for name in CRATES:
         for file in files_under(f"crates/{name}/src", ".rt"):
             text = "\n".join(lines_of(file))
-            checks.expect("also_owns" not in text or file == LOG, f"{file}: data of proofs alone that aren't those of a log")
+            checks.expect("also_owns" not in text or file in LOGS, f"{file}: data of proofs alone that aren't those of a log")
             checks.expect(name not in told or file in NOTING or not re.search(r"\bLog\b", text), f"{file}: it names a log")
 
 
@@ -291,8 +291,11 @@ def check_kit(checks):
 
 
 LOG = "crates/line_config/src/log.rt"
+FILE_LOG = "crates/keyline_files/src/log.rt"
+LOGS = {LOG, FILE_LOG}
 NOTING = {LOG, *(f"crates/line_config/src/{name}.rt" for name in ("lib", "recorded"))}
 WALKS = {f"crates/line_config/proofs/{of}/Proof.antt" for of in ("configurer/ConfigConfigurer/config_mut", "log/Log/noted")}
+WALKS.add("crates/keyline_files/proofs/log/Log/noted/Proof.antt")
 
 
 def main(arguments):

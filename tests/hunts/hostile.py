@@ -26,6 +26,7 @@ import hashlib
 import itertools
 import os
 import random
+import re
 import resource
 import signal
 import subprocess
@@ -35,7 +36,7 @@ import tempfile
 sys.path += glob.glob(os.path.join(os.path.dirname(os.path.dirname(os.path.realpath(__file__))), "*", ""))
 from checks import HUNG, PROGRAM, built, run_all, shim
 from display import Unjudged
-from hunting import (MUCH, Fault, hunted, is_text, judge_open_line, most_judged, rows_pass, same, same_as_one, saved_after,
+from hunting import (MUCH, Fault, appended_after, hunted, is_text, judge_open_line, most_judged, rows_pass, same, same_as_one, saved_after,
                      shown_lines, tell, test_of)
 from inputs import (ACCEPTING, ENTER, ESC, KEYS, KINDS, PASTE, PASTED, ROW_KINDS, RowSession, Session, candidates, large_pastes,
                     noted_keys, row_candidates, row_searches, searches)
@@ -68,6 +69,8 @@ PLAYED_FIRST = [
 # The message of each status that isn't a device's fault.
 ENDINGS = {0: b"", 130: b"", 3: b"keyline: input is not UTF-8\n", 4: b"keyline: paste out of place\n",
            5: b"keyline: history does not load\n", 6: b"keyline: words do not load\n"}
+# That of a file of words, with --extended.
+NAMED_WORDS = re.compile(rb"keyline: words file [^\n]*: invalid data\n\Z")
 # What the model of searches calls them.
 ENDED = {0: "Eof", 130: "Interrupted"}
 # The limits of a session: seconds of processor time, bytes of memory, and bytes written to one stream.
@@ -171,16 +174,32 @@ def read(path):
 
 
 def unread_status(session):
-    """The status of a session with a file that isn't UTF-8: that of words comes before that of a history."""
-    files = [(6, session.words), (5, session.history)]
+    """The status of a session with a file that isn't UTF-8: that of words comes before that of a history. With --extended bad
+    bytes of a history are replaced."""
+    files = [(6, session.words), (5, None if session.extended else session.history)]
     return next((status for status, data in files if data is not None and not is_text(data)), None)
+
+
+def last_words(session, ran):
+    """The words behind the display: with --extended those of a file have its name and the cause."""
+    found = NAMED_WORDS.search(ran.display) if session.extended and ran.status == 6 else None
+    return found[0] if found else ENDINGS[ran.status]
+
+
+def files_left(session, lines):
+    """The files that a session leaves after these lines."""
+    if session.extended:
+        return {"history": appended_after(session.history, lines)}
+    saved = saved_after(session.history, lines)
+    left = session.history if saved is None else saved
+    return {} if left is None else {"history": left}
 
 
 def judge_run(session, ran):
     """Raises what is wrong with a run, and returns what its display shows at the end."""
     if ran.status not in ENDINGS:
         tell("ending", f"status {ran.status}, with {ran.display[-60:]!r}")
-    words = ENDINGS[ran.status]
+    words = last_words(session, ran)
     if not ran.display.endswith(words or b"\r\n"):
         tell("ending", f"status {ran.status}, and the last words {ran.display[-60:]!r}")
     display = ran.display[:len(ran.display) - len(words)]
@@ -195,9 +214,7 @@ def judge_run(session, ran):
         tell("ending", f"status {ran.status} of keys that have no reason for it")
     ways, shown = shown_lines(session, display, ran.lines)
     judge_search(session, True, ENDED.get(ran.status), ran.lines, display)
-    saved = [saved_after(session.history, lines) for lines in ways]
-    left = [session.history if text is None else text for text in saved]
-    same_as_one("history", ran.files, [{} if text is None else {"history": text} for text in left])
+    same_as_one("history", ran.files, [files_left(session, lines) for lines in ways])
     return shown
 
 

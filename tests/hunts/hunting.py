@@ -205,9 +205,9 @@ def pictured(shown):
     return f"{words}, the cursor in row {shown.cursor[0] - shown.top}{styles}"
 
 
-def entries_of(saved):
+def entries_of(saved, errors="strict"):
     """The entries of a history file: its rows, in which escapes are read if the first row says so."""
-    rows = saved.decode().split("\n")
+    rows = saved.decode(errors=errors).split("\n")
     rows = [row[:-1] if row.endswith("\r") else row for row in rows[:-1]] + rows[-1:]
     if rows[0] != "#V2":
         return rows
@@ -228,6 +228,24 @@ def saved_after(saved, lines):
     if not are_new:
         return None
     return "".join(line.replace("\\", "\\\\").replace("\n", "\\n") + "\n" for line in ["#V2", *kept[-KEPT:]]).encode()
+
+
+def appended_after(saved, lines):
+    """The history file after these lines with --extended: what it had, and a row for each new entry. A text without the first
+    row `#V2` is written again with it."""
+    text, last, rows = saved or b"", None, []
+    for entry in entries_of(text, "replace"):
+        last = entry or last
+    for line in lines:
+        if line and line != last:
+            rows.append(line.replace("\\", "\\\\").replace("\n", "\\n") + "\n")
+            last = line
+    if not rows:
+        return text
+    if text and not re.match(rb"#V2(\r?\n|\Z)", text):
+        text = b"#V2\n" + text.replace(b"\\", b"\\\\")
+    before = b"" if text.endswith(b"\n") else b"\n" if text else b"#V2\n"
+    return text + before + "".join(rows).encode()
 
 
 def without_parts(parts):

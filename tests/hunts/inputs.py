@@ -6,7 +6,7 @@ keys bound to commands and handlers, a helper with fixed answers, and each way t
 import dataclasses
 import re
 
-from hunting import drawing, entries_of, is_text, standard_styles, styled, without_parts
+from hunting import KEPT, drawing, entries_of, is_text, standard_styles, styled, without_parts
 from searching import Completes
 from sessions import NAMED, meant
 
@@ -79,6 +79,11 @@ class Session:
 
     # How clusters are counted.
     clusters = "Unicode"
+
+    @property
+    def kept(self):
+        """The most entries of its history."""
+        return 100_000 if self.extended else KEPT
 
     @property
     def stop(self):
@@ -511,6 +516,9 @@ class RowSession:
 
     keys: bytes
     words: tuple = ()
+
+    # The most entries of its history.
+    kept = KEPT
 
     def __repr__(self):
         return f": {' '.join(self.words)}\n{noted_keys(self.keys)} = nothing"

@@ -11,7 +11,7 @@ import re
 
 from checks import Failed
 from display import Display
-from hunting import KEPT, drawing, entries_of, is_text, same, tell
+from hunting import drawing, entries_of, is_text, same, tell
 
 ESC = "\x1b"
 NAMED = {
@@ -153,8 +153,8 @@ class Cycle:
 class Played:
     """A session after its keys: the accepted lines, how it ended, and what of the last line is shown."""
 
-    def __init__(self, mode, prompt, entries, adds, keys, completes=Completes()):
-        self.mode, self.own_prompt, self.entries, self.adds = mode, prompt, list(entries), adds
+    def __init__(self, mode, prompt, entries, adds, keys, completes, kept):
+        self.mode, self.own_prompt, self.entries, self.adds, self.kept = mode, prompt, list(entries), adds, kept
         self.completes, self.cycle, self.is_tabbed, self.listed = completes, None, False, ""
         self.lines, self.ending, self.last_query = [], None, ""
         self.is_quoting = False
@@ -345,7 +345,7 @@ class Played:
         text = self.line.text
         self.lines.append(text)
         if self.adds and text and text not in self.entries[-1:]:
-            self.entries = [*self.entries, text][-KEPT:]
+            self.entries = [*self.entries, text][-self.kept:]
         self.begin()
 
 
@@ -360,13 +360,13 @@ def tokens(keys):
         at = found.end()
 
 
-def entries_loaded(saved):
-    """The entries that a history has once its text is loaded: none that is empty or equals the one before it."""
+def entries_loaded(saved, most):
+    """The entries that a history of so many has once its text is loaded: none that is empty or equals the one before it."""
     kept = []
     for entry in entries_of(saved) if saved else []:
         if entry and entry not in kept[-1:]:
             kept.append(entry)
-    return kept[-KEPT:]
+    return kept[-most:]
 
 
 def played(session, adds):
@@ -374,11 +374,11 @@ def played(session, adds):
     saved = session.history or b""
     if not (session.is_searched() and is_text(session.keys) and is_text(saved) and PLAIN.fullmatch(session.drawn_prompt)):
         return None
-    entries, completes = entries_loaded(saved), session.completes()
+    entries, completes = entries_loaded(saved, session.kept), session.completes()
     if not all(map(PLAIN.fullmatch, [*entries, *(completes.words or ())])):
         return None
     try:
-        return Played(session.mode, session.drawn_prompt, entries, adds, session.keys, completes)
+        return Played(session.mode, session.drawn_prompt, entries, adds, session.keys, completes, session.kept)
     except Unknown:
         return None
 

@@ -77,19 +77,20 @@ class History:
         return os.listdir(self.folder.name)
 
 
-def by_its_name(*words):
-    """A run without keys, by its name in build/, which its usage texts repeat."""
-    return subprocess.run(["keyline", *words], executable=PROGRAM, stdin=subprocess.DEVNULL, capture_output=True, timeout=HUNG)
+def by_another_name(*words):
+    """A run without keys, by the name of a build without proofs, which no usage text repeats."""
+    return subprocess.run(["build/unproved", *words], executable=PROGRAM, stdin=subprocess.DEVNULL, capture_output=True, timeout=HUNG)
 
 
 def help_is_asked_for():
     with open(os.path.join(ANSWERS, "help.txt"), "rb") as stored:
-        expect(by_its_name("--help"), stored.read(), b"")
+        expect(by_another_name("--help"), stored.read(), b"")
     for flag in ("--help", "-h"):
         run = ran(b"ab\r", flag)
         expect(run, display=b"")
         for part in (b"Usage: keyline", b"--mode <emacs|vi>", b"[default: emacs]", b"[default: 80]",
-                     b"--prompt <TEXT>", b"--history <FILE>", b"--words <FILE>", b"--brackets", b"--extended", b"Ctrl-Y", b"Ctrl-R"):
+                     b"--prompt <TEXT>", b"--history <FILE>", b"--words <FILE>", b"--brackets", b"--extended", b"--plain",
+                     b"--prove", b"--version", b"Ctrl-Y", b"Ctrl-R"):
             same(f"{part!r} is there", part in run.stdout, True)
 
 
@@ -133,8 +134,8 @@ def usage_texts():
     mistake = "error: unexpected argument '%s' found\n\n%sUsage: keyline %s\n\nFor more information, try '--help'.\n"
     near = mistake % ("--colums", "  tip: a similar argument exists: '--columns'\n\n", "--columns <2..1000>")
     far = mistake % ("word", "", "[OPTIONS]")
-    expect(by_its_name("--colums", "3"), b"", near.encode(), 2)
-    expect(by_its_name("word"), b"", far.encode(), 2)
+    expect(by_another_name("--colums", "3"), b"", near.encode(), 2)
+    expect(by_another_name("word"), b"", far.encode(), 2)
 
 
 def no_device_is_touched_before():
@@ -373,7 +374,7 @@ def many_words():
 
 def a_thousand_words():
     for word in ("--brackets", "--columns=80", "--prompt=x", "x", "--", ""):
-        run = by_its_name(*[word] * 1000)
+        run = by_another_name(*[word] * 1000)
         same(f"status, and whether the usage is told, of {word!r}", [run.returncode, b"Usage: keyline" in run.stderr], [2, True])
 
 

@@ -10,13 +10,14 @@ whole run.
 """
 import glob
 import os
+import re
 import subprocess
 import sys
 import tempfile
 
 sys.path += glob.glob(os.path.join(os.path.dirname(os.path.dirname(os.path.realpath(__file__))), "*", ""))
 from checks import HUNG, Failed, built, run_all, same, shim
-from hunting import saved_after
+from hunting import appended_after, saved_after
 from sessions import DATA, rows_of
 
 SESSIONS = "refusals.txt"
@@ -24,6 +25,8 @@ WORDS = b"keyline: out of memory\n"
 # The message if the history's text doesn't fit into memory, after everything else was done.
 NO_TEXT = b"keyline: history text failed\n"
 UNREAD = b"Error: out of memory\n"
+# What a run that appends to its history says of a row: it is appended with the next one, or lost.
+TOLD = re.compile(rb"keyline: history file [^\n]*: out of memory; (the next line tries again|a line is not saved)\n")
 MOST = 10000
 
 
@@ -87,6 +90,22 @@ def check_cut(row, ran, saved, whole):
         raise Failed(f"expected one of the histories {kept}, found {saved!r}")
 
 
+def is_lost(told):
+    return told.group(1) == b"a line is not saved"
+
+
+def check_told(row, ran, saved, told, whole, all_saved):
+    """Compares a run that said that memory ran out for a row of its history with a whole one: only a row that is said to be
+    lost isn't in the file, and then the status is 1."""
+    same("lines and display", [ran.stdout, TOLD.sub(b"", ran.stderr)], [whole.stdout, whole.stderr])
+    same("status", ran.returncode, 1 if is_lost(told) else whole.returncode)
+    lines = [line.decode() for line in row.accepted]
+    fewer = [lines[:index] + lines[index + 1:] for index in range(len(lines))]
+    kept = [appended_after(row.loaded, some) for some in fewer] if is_lost(told) else [all_saved]
+    if saved not in kept:
+        raise Failed(f"expected one of the histories {kept}, found {saved!r}")
+
+
 def by_the_program():
     for row in rows_of(SESSIONS):
         if not row.is_played():
@@ -97,7 +116,10 @@ def by_the_program():
         def play(environment, was_refused):
             with tempfile.TemporaryDirectory() as folder:
                 ran, saved = row.run(folder, environment)
-            if ran.returncode == whole.returncode:
+            told = TOLD.search(ran.stderr)
+            if told and was_refused():
+                check_told(row, ran, saved, told, whole, all_saved)
+            elif ran.returncode == whole.returncode:
                 same("lines, display and history", [ran.stdout, ran.stderr, saved], [whole.stdout, whole.stderr, all_saved])
             elif was_refused():
                 check_cut(row, ran, saved, whole)

@@ -256,17 +256,17 @@ def a_history_that_lasts():
             same(f"after {keys}", (ended.returncode, ended.stdout), (0, printed))
             same(f"the file after {keys}", file.read_text(encoding="utf-8"), f"#V2\n{kept}")
         same("the files", os.listdir(folder), ["history"])
+        file.write_bytes(b"#V2\n\xff\n")
+        ended = run("--history", str(file), keys=b"SELECT 1;\r")
+        same("status and file with a row that isn't UTF-8", (ended.returncode, file.read_bytes()), (0, b"#V2\n\xff\nSELECT 1;\n"))
 
 
 def histories_that_fail():
     """The answers before are printed, and so is the cause."""
     with tempfile.TemporaryDirectory() as folder:
-        file = pathlib.Path(folder, "history")
-        file.write_bytes(b"\xff\n")
         for path, printed, words in (
-            (file, b"", b"sql_console: history text failed\n"),
             ("/dev/null", b"", b"sql_console: the history does not load: invalid input parameter\n"),
-            (f"{folder}/none/history", b"| 1 |\n|---|\n| 1 |\n", b"sql_console: the history is not saved: No such file or directory (os error 2)\n"),
+            (f"{folder}/none/history", b"| 1 |\n|---|\n| 1 |\n", b"sql_console: the history is not saved: entity not found\n"),
         ):
             ended = run("--history", str(path), keys=b"SELECT 1;\r")
             same(f"{path}", (ended.returncode, ended.stdout, ended.stderr[-len(words) :]), (1, printed, words))

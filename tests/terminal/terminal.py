@@ -397,14 +397,15 @@ def stopped_and_then_ended():
 
 
 def ended_behind_another():
-    """Without the terminal no input ends: the program is killed, and the terminal and the history stay as they are."""
+    """Without the terminal no input ends: the program is killed, and the terminal stays as it is. The accepted line is in the
+    history."""
     with in_mid_line() as (terminal, kept):
         terminal.stop()
         os.killpg(terminal.job, signal.SIGTERM)
         terminal.go_on(BEHIND)
         terminal.expect_gone(143)
         terminal.expect_put_back()
-        kept.expect(b"ab\n", OLD)
+        kept.expect(b"ab\n", OLD + b"ab\n")
 
 
 def stopped_in_a_window_that_is_closed():

@@ -1,13 +1,14 @@
 //! Says each line again until Ctrl-D, and keeps the lines in a file, which is its argument or
-//! `lines.history`: at the next start Up goes back to them. Ctrl-C begins a new line.
+//! `lines.history`: each one is there before the next is read, and at the next start Up goes back
+//! to it. Ctrl-C begins a new line.
 #![tactic(auto)]
 
 use anyhow::{Context, Result, bail};
 use keyline::{
     Ending, LineEditor, ReadlineError, SliceSource, StandardEditor, VecSink, standard_builder,
 };
-use keyline_files::{load_history, save_history};
-use std::{env, io};
+use keyline_files::{HistoryFile, load_history_lossy};
+use std::env;
 
 /// An editor whose history is kept.
 type Editor = StandardEditor<(), VecSink>;
@@ -18,27 +19,28 @@ fn main(rt: HostRuntime) -> Result<()> {
         Some(path) => path.as_str(),
         None => "lines.history",
     };
-    let old = load_history(&rt, path).context("the history does not load")?;
+    let old = load_history_lossy(&rt, path).context("the history does not load")?;
     let session = standard_builder(&rt)
         .history(SliceSource::new(&old), VecSink::new(rt.alloc()))
         .open()
         .map_err(|unopened| unopened.why)?;
     let mut editor = LineEditor::new(session);
-    let said = say_again(&rt, &mut editor);
-    let ended = editor.finish();
-    save_history(&rt, path, ended.text_to_save()).context("the history is not saved")?;
-    said?;
-    match ended.ending {
+    say_again(&rt, &mut editor, &mut HistoryFile::new(&rt, path))?;
+    match editor.finish().ending {
         Ending::Eof => Ok(()),
         ending => bail!("{}", ending.text()),
     }
 }
 
 /// Says each line again until no further one comes, which `finish` tells the reason of.
-fn say_again(rt: &HostRuntime, editor: &mut Editor) -> io::Result<()> {
+fn say_again(rt: &HostRuntime, editor: &mut Editor, file: &mut HistoryFile<'_>) -> Result<()> {
     for _ in 0..u64::MAX {
         match editor.read_line("> ") {
-            Ok(line) => println!(rt; "{line}")?,
+            Ok(line) => {
+                println!(rt; "{line}")?;
+                file.add(&editor.take_new_rows()?)?;
+                file.append().context("the history is not saved")?;
+            }
             Err(ReadlineError::Interrupted) => {}
             Err(_) => break,
         }

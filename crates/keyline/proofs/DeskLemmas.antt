@@ -62,7 +62,7 @@ with_held P at old is out helper out_is helper_is p =
     subst P is (subst (λ out. P (record at { out = out })) out_is (subst (λ helper. P (record at { out = out; helper = helper })) helper_is p))
 
 module _ {S H D L K T : Type 0} (k : KnownDevices S D L) (helps : Option H → Helping) (custom : Custom) (config : Config) (prompt : List ℕ)
-    (old : Desk S H D L) (ran : Ran (ScreenRenderer D) H K T) (ring : Ring) (last_query : String Global) (reader : KeyReader S) where
+    (added : Bool) (old : Desk S H D L) (ran : Ran (ScreenRenderer D) H K T) (ring : Ring) (last_query : String Global) (reader : KeyReader S) where
   abbrev pub RunsAt : Type 0
   RunsAt = Runs (canvas_of k.shown k.waits k.show_failed) helps custom prompt old.helper old.history.kept.entries config
       old.out old.ring (string_bytes old.last_query) (items_of k.feed old.reader) ran ring (string_bytes last_query) (items_of k.feed reader)
@@ -96,7 +96,7 @@ module _ {S H D L K T : Type 0} (k : KnownDevices S D L) (helps : Option H → H
         (work (sink_of ran.out) old.lines old.history) (work (sink_of out) lines history) result
 
     abbrev new : Desk S H D L
-    new = record { reader = reader; out = out; helper = ran.helper; history = history; ring = ring; last_query = last_query; lines = lines }
+    new = record { reader = reader; out = out; helper = ran.helper; history = history; ring = ring; last_query = last_query; lines = lines; added = added }
 
     abbrev given : Given
     given = given_of config custom prompt (screen_of old.out) (helps old.helper)

@@ -8,6 +8,7 @@ mod FaultRows
 pub mod HeardBytes
 pub mod HeardLines
 pub mod InvocationLemmas
+pub mod KeepingLemmas
 pub mod LinesLemmas
 pub mod OneByteLemmas
 pub mod OpenedLemmas

@@ -1,6 +1,7 @@
 pub mod Desks
 pub mod Events
 pub mod Helds
+pub mod Keeping
 pub mod Options
 pub mod Pasting
 pub mod SessionEffects

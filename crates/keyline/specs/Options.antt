@@ -28,12 +28,13 @@ abbrev pub flag : Text → Rule
 flag id = record (new_rule id) { long = Some id; action = Some SetTrue }
 
 unfoldable pub command_line : App
-command_line = with_rule (with_rule (with_rule (with_rule (with_rule (with_rule
+command_line = with_rule (with_rule (with_rule (with_rule (with_rule (with_rule (with_rule
     (new_app (codes "keyline"))
     (text_option_with_default (codes "mode") (codes "emacs")))
     (text_option_with_default (codes "columns") (codes "80")))
     (text_option_with_default (codes "prompt") (codes "> ")))
     (text_option (codes "history")))
+    (text_option (codes "history-size")))
     (text_option (codes "words")))
     (flag (codes "brackets"))
 
@@ -50,6 +51,17 @@ WritesColumns text columns =
 abbrev pub AreColumns : Option Text → ℕ → Type 0
 AreColumns text columns = IsSomeAnd text (λ t. WritesColumns (without_leading_plus t) columns)
 
+-- the text is decimal digits, perhaps after a plus, that write a number from 1 to 1,000,000
+abbrev pub WritesSize : Text → ℕ → Type 0
+WritesSize text size =
+    IsNumeral 10 text × (digits_value 10 text ≡ size) × (1 ≤ size) × (size ≤ 1000000)
+
+-- the size of the history by its text; none without one
+abbrev pub IsSize : Option Text → Option ℕ → Type 0
+IsSize None None = ⊤
+IsSize (Some text) (Some size) = WritesSize (without_leading_plus text) size
+IsSize text size = ⊥
+
 -- the options, by the text of each one
 pub record Chooses (rows : List Row) (options : Options) : Type 0 where
   pub mode : first_of (codes "mode") rows ≡ Some (mode_name options.mode)
@@ -57,6 +69,7 @@ pub record Chooses (rows : List Row) (options : Options) : Type 0 where
   pub prompt : first_of (codes "prompt") rows ≡ Some (string_bytes options.prompt)
   pub plain : options.prompt_styles.items ≡ []
   pub history : first_of (codes "history") rows ≡ option_map string_bytes options.history
+  pub history_size : IsSize (first_of (codes "history-size") rows) options.history_size
   pub words : first_of (codes "words") rows ≡ option_map string_bytes options.words
   pub brackets : IsTrue options.brackets ↔ (first_of (codes "brackets") rows ≡ Some (codes "true"))
 

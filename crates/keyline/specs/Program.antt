@@ -1,5 +1,5 @@
 -- The program's session: with its options, and by bytes alone.
-use Rattle.std.specs.Prelude.{ℕ, Bool, true, false, if◌then◌else◌, List, Option, Some, None, is_some, option_map, ◌||◌, ◌⊎◌, nat_lt, Result, Ok, Err, ⊤, map, take, String, string_bytes, ◌≡◌, ◌<◌, ◌^◌, [], IsTrue, IsOk}
+use Rattle.std.specs.Prelude.{ℕ, Bool, true, false, if◌then◌else◌, List, Option, Some, None, is_some, option_map, unwrap_or, ◌||◌, ◌⊎◌, nat_lt, Result, Ok, Err, ⊤, map, take, String, string_bytes, ◌≡◌, ◌<◌, ◌^◌, [], IsTrue, IsOk}
 use Rattle.std.specs.Global.{Global, Vec}
 use Rattle.std.specs.Option.{option_map_or}
 use Rattle.std.specs.declared.env.FillError.{FillError}
@@ -44,10 +44,14 @@ use Rattle.keyline.specs.SessionEffects.{KnownDevices, SessionReason, work}
 abbrev pub standard_config : Config
 standard_config = record default_config { auto_add_history = true }
 
--- the same in the mode that the options choose
+-- the same with a history of so many entries, if they are given
+abbrev pub sized_by : Option ℕ → Config → Config
+sized_by size config = record config { max_history_size = unwrap_or size config.max_history_size }
+
+-- the same in the mode that the options choose, and with their size of the history
 abbrev pub config_of : Options → Config
-config_of options =
-    record standard_config { edit_mode = options.mode; keyseq_timeout = timeout_of options.mode }
+config_of options = sized_by options.history_size
+    (record standard_config { edit_mode = options.mode; keyseq_timeout = timeout_of options.mode })
 
 -- the same, and with `extended` what is off by default
 abbrev pub profile_of : Bool → Config → Config
@@ -57,10 +61,12 @@ profile_of extended config = record config {
   draw_tabs = extended;
   partial_redraw = extended;
   completion_type = if extended then AsList else Circular;
+  max_history_size = if extended then 100000 else config.max_history_size;
 }
 
 abbrev pub invoked_config : Invocation → Config
-invoked_config invocation = profile_of invocation.extended (config_of invocation.options)
+invoked_config invocation = sized_by invocation.options.history_size
+    (profile_of invocation.extended (config_of invocation.options))
 
 abbrev pub config_without_colours : Config → Config
 config_without_colours config = record config { draw_colours = false }

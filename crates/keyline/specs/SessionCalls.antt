@@ -7,7 +7,7 @@ use Rattle.line_config.specs.declared.device.Last.TheVariants.{End}
 use Rattle.line_config.specs.declared.errors.ReadlineError.{ReadlineError}
 use Rattle.line_config.specs.declared.errors.ReadlineError.TheVariants.{Reader, HistoryText, Memory}
 use Rattle.line_editor.specs.LineRun.{Helping}
-use Rattle.line_help.specs.History.{Filed, settings_of, nothing_filed, history_with_line}
+use Rattle.line_help.specs.History.{Filed, settings_of, nothing_filed, history_with_line, all_saved}
 use Rattle.line_help.specs.HistoryText.{ReadsGood, rest_after_load, load_answer, load_leaves, text_rows}
 use Rattle.line_keys.specs.KeyFeeds.{bytes_to_come}
 use Rattle.line_keys.specs.CustomBindings.{custom_of}
@@ -172,6 +172,10 @@ module _ {S H D L T B : Type 0} where
   abbrev pub with_entry : List ℕ → Session S H D L T B → Session S H D L T B
   with_entry line s =
       record s { desk = record s.desk { history = history_with_line (history_of s) line } }
+
+  -- none of its history's entries is new
+  abbrev pub with_saved : Session S H D L T B → Session S H D L T B
+  with_saved s = record s { desk = record s.desk { history = all_saved (history_of s) } }
 
   abbrev pub with_helper : Option H → Session S H D L T B → Session S H D L T B
   with_helper helper s = record s { desk = record s.desk { helper = helper } }

@@ -8,6 +8,7 @@ ghost use Rattle.line_keys.specs.KeyFeeds.{answer_map};
 ghost use Rattle.line_screen.specs.ScreenCalls.{screen_of, sink_of, NothingWaits};
 ghost use Rattle.keyline.specs.SessionEffects.{Closes, DrawsEnd, RowIsCut, RowIsDrawn, breaks, work};
 ghost use Rattle.keyline.specs.Sessions.{given_of, line_text, history_with_if, screen_by};
+ghost use Rattle.keyline.specs.Keeping.{history_ended, is_added, is_ended};
 
 use crate::boxed::Boxed;
 use crate::held::Held;
@@ -140,6 +141,8 @@ fn close<D: Sink + Drop, L: Sink>(
         (answer_map string_bytes outcome)
         (work (sink_of out.old) lines.old history.old)
         (work (sink_of out.new) lines.new history.new) (answer_map string_bytes result) }
+    ensures kept { history.new ≡ history_ended adds (answer_map string_bytes outcome)
+        (answer_map string_bytes result) history.old }
     ensures screen { screen_of out.new ≡ screen_of out.old }
     ensures passes { NothingWaits D.waits D.has_failed (sink_of out.old)
         → NothingWaits D.waits D.has_failed (sink_of out.new) }
@@ -151,6 +154,23 @@ fn close<D: Sink + Drop, L: Sink>(
         Ok(text) => hand_out(lines, text),
         Err(why) => Err(why),
     }
+}
+
+/// Whether an accepted line is to become an entry of the history.
+fn is_added(adds: bool, history: &FileHistory, outcome: &Result<String, ReadlineError>) -> bool
+    ensures { result ≡ is_added adds history.now (answer_map string_bytes outcome.now) }
+{
+    match outcome {
+        Ok(text) => adds && history.takes(text.as_str()),
+        Err(_) => false,
+    }
+}
+
+/// Whether the history has an accepted line after this result of its end.
+fn is_ended(closed: &Result<String, ReadlineError>) -> bool
+    ensures { result ≡ is_ended (answer_map string_bytes closed.now) }
+{
+    !matches!(closed, Err(ReadlineError::Display | ReadlineError::Memory))
 }
 
 /// The state that is passed from line to line, with the devices. The display, which each line takes
@@ -168,12 +188,15 @@ pub struct Desk<S: Source, H, D: Sink, L: Sink> {
     pub(crate) last_query: String,
     /// The sink of accepted lines.
     pub(crate) lines: L,
+    /// Whether the last line became an entry of the history.
+    pub(crate) added: bool,
 }
 
 impl<S: Source + Drop, H: Helper + Drop, D: Sink + Drop, L: Sink + Drop> Desk<S, H, D, L> {
     ghost use Rattle.line_keys.specs.CustomBindings.{custom_of};
     ghost use Rattle.line_editor.specs.LineRun.{helper_from_hooks};
     ghost use Rattle.keyline.specs.Desks.{TakesLine};
+    ghost use Rattle.keyline.specs.Keeping.{AddsEntry};
     ghost use Rattle.keyline.specs.SessionEffects.{devices_by};
 
     /// Reads a line and draws it. An accepted line is added to the history and written.
@@ -184,7 +207,8 @@ impl<S: Source + Drop, H: Helper + Drop, D: Sink + Drop, L: Sink + Drop> Desk<S,
         bindings: &EventMap<B>,
         prompt: &str,
     ) -> Result<String, ReadlineError>
-        ensures { let custom = custom_of bindings.now B.decides in
+        ensures added { AddsEntry self.new.added self.old.history self.new.history }
+        ensures takes { let custom = custom_of bindings.now B.decides in
             let helps = helper_from_hooks H.hint_of H.verdict_of H.completion_of H.update_of
             H.marks in
             let given = given_of config.now custom prompt.now in
@@ -215,8 +239,10 @@ impl<S: Source + Drop, H: Helper + Drop, D: Sink + Drop, L: Sink + Drop> Desk<S,
             &mut self.last_query,
         );
         let adds = config.auto_add_history();
+        let added = is_added(adds, &self.history, &outcome);
         let (history, lines) = (&mut self.history, &mut self.lines);
         let outcome = close(alloc, outcome, adds, &mut out, history, lines);
+        self.added = added && is_ended(&outcome);
         *slot = Some(out);
         self.helper = helper;
         outcome

@@ -1,8 +1,8 @@
 //! A session that an error ends for good.
 
-ghost use Rattle.std.specs.Prelude.{◌≡◌, None, string_bytes, true};
+ghost use Rattle.std.specs.Prelude.{◌≡◌, IfErr, IfOk, None, OnErr, OnOk, string_bytes, true};
 ghost use Rattle.std.specs.Option.{option_map_or};
-ghost use Rattle.line_config.specs.declared.errors.ReadlineError.TheVariants.{Eof};
+ghost use Rattle.line_config.specs.declared.errors.ReadlineError.TheVariants.{Eof, Memory};
 ghost use Rattle.line_keys.specs.KeyFeeds.{answer_map};
 ghost use Rattle.line_editor.specs.LineRun.{helper_from_hooks};
 ghost use Rattle.keyline.specs.SessionEffects.{devices_by, reason_to_end};
@@ -40,7 +40,8 @@ where
     L: Drop,
     T: Drop,
 {
-    ghost use Rattle.keyline.specs.SessionCalls.{EditorReads, desk_of, ending_in, given_in, text_sink};
+    ghost use Rattle.keyline.specs.SessionCalls.{EditorReads, desk_of, ending_in, given_in, history_of, text_sink, with_saved};
+    ghost use Rattle.line_help.specs.HistoryText.{text_to_append};
 
     /// The lines of this session.
     pub fn new(session: Session<S, H, D, L, T, B>) -> Self
@@ -69,6 +70,18 @@ where
         let line = self.session.read_line(prompt);
         self.ended = ended_by(&line);
         line
+    }
+
+    /// The rows of the new entries, like `Session::take_new_rows`.
+    pub fn take_new_rows(&mut self) -> Result<Vec<u8>, ReadlineError>
+        ensures rows { IfOk result
+            (λ rows. rows.items ≡ text_to_append (history_of self.old.session)) }
+        ensures taken { OnOk result
+            (self.new ≡ record self.old { session = with_saved self.old.session }) }
+        ensures kept { OnErr result (self.new ≡ self.old) }
+        ensures fault { IfErr result (λ e. e ≡ Memory) }
+    {
+        self.session.take_new_rows()
     }
 
     /// Ends the session, for the reason that ended the editor, or as at the end of input. Saves the

@@ -3,6 +3,12 @@
 /// The page of the keys: what each key does, in a few words.
 pub(crate) fn keys() -> &'static str {
     "\
+More options:
+      --extended           Turns on what is off by default; ./keyline gives it on a terminal
+      --plain              Leaves --extended out; for ./keyline
+      --prove              Proves the program and builds it; for ./keyline, by itself
+      --version            Prints the version; by itself
+
 The display is drawn on standard error, for the columns that the program was started with: a
 terminal that changes its width while a line is edited is drawn for the old one until the next
 start.
@@ -35,7 +41,7 @@ Emacs mode:
   Alt-T                   swaps two words; Alt-C, Alt-L, Alt-U change a word's case
   Ctrl-P, Ctrl-N          the previous, next line of the history; Alt-<, Alt-> the first, last
   Ctrl-L                  clears the screen
-  Ctrl-] and a character  to the next such character; with Alt back to one
+  Ctrl-] and a character  to before the next such character; with Alt back to one
   Alt-0 to Alt-9, Alt--   a count for the next key
 
 Vi mode, in which Esc acts when the next byte comes:

@@ -47,6 +47,7 @@ pub use line_buffer::LineBuffer;
 pub use line_config::Behavior;
 pub use line_config::BellStyle;
 pub use line_config::Builder;
+pub use line_config::ClosedSink;
 pub use line_config::ColorMode;
 pub use line_config::CompletionType;
 pub use line_config::Config;

@@ -5,7 +5,7 @@ ghost use Rattle.std.specs.Prelude.{false, option_map, string_bytes};
 ghost use Rattle.clap.specs.Words.{app_of, first_of, found_of, kind_of, new_app};
 ghost use Rattle.clap.specs.Words.{rows_of, rule_of};
 ghost use Rattle.keyline.specs.Options.{ParsesTo, AreColumns, Chooses, ChoosesNone, FailsBy};
-ghost use Rattle.keyline.specs.Options.{HasColumns, mode_name};
+ghost use Rattle.keyline.specs.Options.{HasColumns, IsSize, mode_name};
 ghost use Rattle.keyline.specs.Options.{Says, command_line, text_option_with_default, flag, text_option};
 
 use crate::help::keys;
@@ -29,6 +29,8 @@ pub struct Options {
     pub prompt_styles: Vec<Span>,
     /// The path of the history file, if any.
     pub history: Option<String>,
+    /// The most entries of the history, 1 to 1,000,000, if they are given.
+    pub history_size: Option<usize>,
     /// The path of the file with words to complete, if any.
     pub words: Option<String>,
     /// Whether a line with open brackets continues in a new row.
@@ -49,7 +51,8 @@ pub enum Parsed {
 }
 
 /// Parses a command line; the first word is the program's name: `[--mode emacs|vi] [--columns
-/// 2..1000] [--prompt TEXT] [--history FILE] [--words FILE] [--brackets]`.
+/// 2..1000] [--prompt TEXT] [--history FILE] [--history-size 1..1000000] [--words FILE]
+/// [--brackets]`.
 pub fn parse<S: AsStr>(alloc: Global, words: &[S]) -> Parsed
     ensures answers { ParsesTo (map S.text words.now) result }
     ensures columns { HasColumns result }
@@ -84,23 +87,25 @@ fn try_parse<'a, S: AsStr>(alloc: Global, words: &'a [S]) -> Result<Options, Err
     let matches = command_line(alloc)?.try_get_matches_from(words)?;
     match chosen(alloc, &matches)? {
         Some(options) => Ok(options),
-        None => Err(none_chosen(alloc)?),
+        None => Err(none_chosen(alloc, given(&matches, "history-size"))?),
     }
 }
 
-fn none_chosen(alloc: Global) -> Result<Error, AllocError>
+// The error if the texts choose no options, by that of `--history-size`.
+fn none_chosen(alloc: Global, size: Option<&str>) -> Result<Error, AllocError>
     ensures { IfOk result (λ error. kind_of error ≡ ErrorKind.InvalidValue) }
 {
-    command_line(alloc)?.error(
-        ErrorKind::InvalidValue,
-        "--mode is emacs or vi, and --columns a number from 2 to 1000",
-    )
+    let what = match size_of(size) {
+        Some(_) => "--mode is emacs or vi, and --columns a number from 2 to 1000",
+        None => "--history-size is a number from 1 to 1000000",
+    };
+    command_line(alloc)?.error(ErrorKind::InvalidValue, what)
 }
 
 fn command_line<'a>(alloc: Global) -> Result<Command<'a>, AllocError>
     ensures { IfOk result (λ command. app_of command ≡ command_line) }
 {
-    described(alloc)
+    described(alloc)?
         .arg(defaulted(alloc, "mode", "emacs|vi", "emacs", "Keymap"))?
         .arg(defaulted(alloc, "columns", "2..1000", "80", COLUMNS))?
         .arg(defaulted(
@@ -116,22 +121,27 @@ fn command_line<'a>(alloc: Global) -> Result<Command<'a>, AllocError>
             "FILE",
             "File that keeps the lines [default: none]",
         ))?
+        .arg(text_option(alloc, "history-size", "N", HISTORY_SIZE))?
         .arg(text_option(alloc, "words", "FILE", WORDS))?
         .arg(flag(alloc, "brackets", BRACKETS))
 }
 
 const COLUMNS: &str = "Columns of a row; ./keyline takes the terminal's";
 
+const HISTORY_SIZE: &str = "Most lines of the history [default: 100; with --extended 100000]";
+
 const WORDS: &str = "File of words that Tab completes, one a row [default: none]";
 
 const BRACKETS: &str = "Lets a line go on while a bracket is open [default: off]";
 
-fn described<'a>(alloc: Global) -> Command<'a>
-    ensures { app_of result ≡ new_app (codes "keyline") }
+// The command, with the same usage line whatever its file is called.
+fn described<'a>(alloc: Global) -> Result<Command<'a>, AllocError>
+    ensures { IfOk result (λ command. app_of command ≡ new_app (codes "keyline")) }
 {
     Command::new(alloc, "keyline")
         .about("A line editor: keys from standard input, accepted lines to standard output")
         .after_help(keys())
+        .bin_name("keyline")
 }
 
 fn text_option<'a>(alloc: Global, id: &'a str, value: &'a str, help: &'a str) -> Arg<'a>
@@ -184,12 +194,16 @@ fn chosen(alloc: Global, matches: &ArgMatches<'_>) -> Result<Option<Options>, Al
     let Some(prompt) = given(matches, "prompt") else {
         return Ok(None);
     };
+    let Some(history_size) = size_of(given(matches, "history-size")) else {
+        return Ok(None);
+    };
     Ok(Some(Options {
         mode,
         columns,
         prompt: String::from_str(alloc, prompt)?,
         prompt_styles: Vec::new(alloc),
         history: owned(alloc, given(matches, "history"))?,
+        history_size,
         words: owned(alloc, given(matches, "words"))?,
         brackets: is_on(given(matches, "brackets")),
     }))
@@ -233,6 +247,21 @@ fn columns_of(text: Option<&str>) -> Option<u16>
 {
     match text?.parse::<u16>() {
         Ok(columns) if 2 <= columns && columns <= 1000 => Some(columns),
+        _ => None,
+    }
+}
+
+// The number of entries that the text writes, if there is one; `None` for another text.
+fn size_of(text: Option<&str>) -> Option<Option<usize>>
+    ensures { MatchOption result
+        ((size : _) → IsSize (option_map (λ s. s.now) text.entry) size → ⊥)
+        (IsSize (option_map (λ s. s.now) text.entry)) }
+{
+    let Some(text) = text else {
+        return Some(None);
+    };
+    match text.parse::<usize>() {
+        Ok(size) if 1 <= size && size <= 1_000_000 => Some(Some(size)),
         _ => None,
     }
 }

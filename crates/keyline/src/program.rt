@@ -1,10 +1,13 @@
 //! A session with the program's options.
 
-ghost use Rattle.std.specs.Prelude.{◌≡◌, ◌≤◌, IfErr, IfOk, [], false, if◌then◌else◌, true, unwrap_or};
+ghost use Rattle.std.specs.Prelude.{◌≡◌, ◌≤◌, IfErr, IfOk, OnErr, [], false, if◌then◌else◌, true, unwrap_or};
 ghost use Rattle.line_config.specs.Adapters.{reader_of, writer_of};
 ghost use Rattle.keyline.specs.SessionEffects.{devices_by};
-ghost use Rattle.keyline.specs.Program.{EditsBy, PlaysOver, UnopensOver, IsByEnvironment, config_of, has_text, helper_of, helper_with, invoked_config, profile_of, config_without_colours, word_texts};
-ghost use Rattle.keyline.specs.SessionCalls.{Unopens};
+ghost use Rattle.keyline.specs.Program.{EditsBy, PlaysOver, UnopensOver, IsByEnvironment, config_of, has_text, helper_of, helper_with, invoked_config, profile_of, sized_by, config_without_colours, word_texts};
+ghost use Rattle.keyline.specs.SessionCalls.{Unopens, history_loaded_from};
+ghost use Rattle.keyline.specs.Keeping.{KeepsRows};
+ghost use Rattle.line_config.specs.Feed.{AlwaysTold, fresh_feed};
+ghost use Rattle.line_config.specs.declared.device.Last.TheVariants.{End};
 
 use crate::boxed::{Boxed, Devices};
 use crate::edit_helper::EditHelper;
@@ -12,8 +15,8 @@ use crate::invocation::Invocation;
 use crate::options::Options;
 use crate::session::{Ended, Session, Unopened};
 use line_config::{
-    CompletionType, Config, Configurer, Foretold, ReadSource, ReadlineError, Sink, SliceSource,
-    Source, VecSink, WriteSink,
+    ClosedSink, CompletionType, Config, Configurer, Foretold, ReadSource, ReadlineError, Sink,
+    SliceSource, Source, VecSink, WriteSink,
 };
 use line_help::{
     HelperParts, MatchingBracketValidator, PromptHighlighter, Span, StandardHighlighter,
@@ -24,21 +27,39 @@ use std::alloc::Global;
 use std::env::{Env, FillError};
 use std::io::{Read, Write};
 
-/// The settings for the options: each accepted line is added to the history.
+/// The settings for the options: each accepted line is added to the history, which keeps as many as
+/// they say.
 pub fn config_of(options: &Options) -> Config
     ensures { result ≡ config_of options.now }
 {
-    Config::builder()
+    let config = Config::builder()
         .edit_mode(options.mode)
         .auto_add_history(true)
-        .build()
+        .build();
+    sized_by(config, options.history_size)
 }
+
+/// The same settings with a history of so many entries, if they are given.
+fn sized_by(config: Config, size: Option<usize>) -> Config
+    ensures { result ≡ sized_by size config }
+{
+    let mut config = config;
+    if let Some(size) = size {
+        let _ = config.set_max_history_size(size);
+    }
+    config
+}
+
+/// The most entries of a history with what is off by default, if no number is given.
+const HISTORY_SIZE: usize = 100_000;
 
 /// The settings for an invocation.
 pub fn invoked_config(invocation: &Invocation) -> Config
     ensures { result ≡ invoked_config invocation.now }
 {
-    with_profile(config_of(&invocation.options), invocation.extended)
+    let options = &invocation.options;
+    let config = with_profile(config_of(options), invocation.extended);
+    sized_by(config, options.history_size)
 }
 
 /// The same settings, and with `extended` what is off by default: the commands that go on over
@@ -47,6 +68,9 @@ pub(crate) fn with_profile(config: Config, extended: bool) -> Config
     ensures { result ≡ profile_of extended config }
 {
     let mut config = config;
+    if extended {
+        let _ = config.set_max_history_size(HISTORY_SIZE);
+    }
     config.set_modal_commands(extended);
     config.set_draw_colours(extended);
     config.set_draw_tabs(extended);
@@ -155,17 +179,20 @@ pub fn edit<F: Source + Drop, S: Source + Drop, D: Sink + Drop, L: Sink + Drop, 
         display,
         lines,
         text,
+        &mut ClosedSink,
     )
 }
 
 /// The same with other settings, such as those of [`invoked_config`]. The history is saved only if
-/// that is asked for.
+/// that is asked for, and the row of each new entry is handed to a sink before the next line is
+/// read, as `Session::run_keeping` says.
 pub fn edit_with<
     F: Source + Drop,
     S: Source + Drop,
     D: Sink + Drop,
     L: Sink + Drop,
     T: Sink + Drop,
+    K: Sink,
 >(
     alloc: Global,
     saves: bool,
@@ -177,6 +204,7 @@ pub fn edit_with<
     display: D,
     lines: L,
     text: T,
+    keeper: &mut K,
 ) -> Result<Ended<S, D, L, T>, Unopened<F, S, D, L, T>>
     requires columns { (2 ≤ options.now.columns) × (options.now.columns ≤ 1000) }
     requires history { (F.feed history).failed ≡ false }
@@ -188,7 +216,10 @@ pub fn edit_with<
         (devices_by S.feed D.held D.waits D.has_failed L.held L.waits L.has_failed) T.held
         T.has_failed
         saves config options.now (word_texts words) history source display lines text) }
+    ensures kept { IfOk result (λ ended. AlwaysTold F.feed → KeepsRows K.held K.has_failed
+        (history_loaded_from config (F.feed history)) ended.history keeper.old keeper.new) }
     ensures refused { IfErr result (Unopens F.feed config history source display lines text) }
+    ensures unused { OnErr result (keeper.new ≡ keeper.old) }
 {
     let helper = helper_of(&config, options, words);
     let session = match Session::open(
@@ -207,7 +238,7 @@ pub fn edit_with<
         Ok(session) => session,
         Err(unopened) => return Err(unopened),
     };
-    Ok(session.run_to_end(saves))
+    Ok(session.run_to_end(saves, keeper))
 }
 
 /// The same over any reader of keys and any writers, which are flushed at the end, and with a
@@ -251,11 +282,13 @@ pub fn play<'a, K: Foretold<R>, R: Read + Drop, E: Write + Drop, W: Write + Drop
         keys,
         display,
         lines,
+        &mut ClosedSink,
     )
 }
 
-/// The same with other settings, such as those of [`invoked_config`].
-pub fn play_with<'a, K: Foretold<R>, R: Read + Drop, E: Write + Drop, W: Write + Drop>(
+/// The same with other settings, such as those of [`invoked_config`]. The row of each new entry is
+/// handed to a sink before the next line is read.
+pub fn play_with<'a, K: Foretold<R>, R: Read + Drop, E: Write + Drop, W: Write + Drop, T: Sink>(
     alloc: Global,
     config: Config,
     options: &Options,
@@ -264,6 +297,7 @@ pub fn play_with<'a, K: Foretold<R>, R: Read + Drop, E: Write + Drop, W: Write +
     keys: R,
     display: E,
     lines: W,
+    keeper: &mut T,
 ) -> Result<
     Ended<Boxed<ReadSource<R, K>>, Boxed<WriteSink<E>>, Boxed<WriteSink<W>>, VecSink>,
     Unopened<SliceSource<'a>, R, E, W, VecSink>,
@@ -277,8 +311,12 @@ pub fn play_with<'a, K: Foretold<R>, R: Read + Drop, E: Write + Drop, W: Write +
         IfOk result (PlaysOver known ⟦<VecSink as Sink>⟧.held ⟦<VecSink as Sink>⟧.has_failed
         config options.now (word_texts words) (unwrap_or (E.contents display) [])
         (unwrap_or (W.contents lines) []) old.entry.now (K.left keys []) K.last) }
+    ensures kept { IfOk result (λ ended. KeepsRows T.held T.has_failed
+        (history_loaded_from config (fresh_feed old.entry.now End)) ended.history
+        keeper.old keeper.new) }
     ensures refused { IfErr result (UnopensOver ⟦<SliceSource<'a> as Source>⟧.feed
         ⟦<VecSink as Sink>⟧.held config old.entry.now keys display lines) }
+    ensures unused { OnErr result (keeper.new ≡ keeper.old) }
 {
     let Devices {
         source,
@@ -295,7 +333,7 @@ pub fn play_with<'a, K: Foretold<R>, R: Read + Drop, E: Write + Drop, W: Write +
             VecSink::new(alloc),
         )),
     };
-    let mut played = match edit_with::<_, Boxed<ReadSource<R, K>>, _, _, _>(
+    let mut played = match edit_with::<_, Boxed<ReadSource<R, K>>, _, _, _, _>(
         alloc,
         options.history.is_some(),
         config,
@@ -306,6 +344,7 @@ pub fn play_with<'a, K: Foretold<R>, R: Read + Drop, E: Write + Drop, W: Write +
         display,
         lines,
         VecSink::new(alloc),
+        keeper,
     ) {
         Ok(played) => played,
         Err(unopened) => return Err(handed_back(unopened)),

@@ -6,15 +6,17 @@ ghost use Rattle.line_help.specs.History.{takes};
 ghost use Rattle.line_keys.specs.KeyFeeds.{answer_map};
 ghost use Rattle.line_editor.specs.LineRun.{helper_from_hooks};
 ghost use Rattle.keyline.specs.SessionEffects.{SavesIf, devices_by, ending_after};
-ghost use Rattle.keyline.specs.SessionCalls.{HasGiven, ReadsNext, SetsScreen, desk_of, given_in, history_of, prompt_of, text_sink, with_entry, with_helper, Finishes, LoadRefused, Loaded, Opens, Remains, RunsSession, Unopens};
+ghost use Rattle.keyline.specs.SessionCalls.{HasGiven, ReadsNext, SetsScreen, desk_of, given_in, history_of, prompt_of, text_sink, with_entry, with_helper, with_saved, Finishes, LoadRefused, Loaded, Opens, Remains, RunsSession, Unopens};
 ghost use Rattle.keyline.specs.declared.session.TheConstants.{KILL_RING_SIZE};
 ghost use Rattle.line_record.specs.Ring.{new_ring};
+ghost use Rattle.line_help.specs.HistoryText.{text_to_append};
+ghost use Rattle.keyline.specs.Keeping.{AddsEntry, KeepsNewest, KeepsRows};
 
 use crate::boxed::Boxed;
 use crate::desk::{Desk, renderer_over};
 use crate::ending::Ending;
 use crate::held::Held;
-use line_config::{Config, ReadlineError, Sink, Source, VecSink};
+use line_config::{ClosedSink, Config, ReadlineError, Sink, Source, VecSink};
 use line_help::{FileHistory, Helper, History};
 use line_keys::{Decides, EventHandler, EventMap};
 use line_record::KillRing;
@@ -279,6 +281,7 @@ where
             ring,
             last_query: String::new(alloc),
             lines,
+            added: false,
         };
         Ok(Session {
             alloc,
@@ -299,6 +302,18 @@ where
     #[inline(never)]
     pub fn read_line(&mut self, prompt: &str) -> Result<String, ReadlineError>
         ensures { let helps =
+            helper_from_hooks H.hint_of H.verdict_of H.completion_of H.update_of H.marks in
+            let known = devices_by S.feed D.held D.waits D.has_failed L.held L.waits L.has_failed in
+            ReadsNext known (given_in B.decides helps prompt.now) self.old self.new
+            (answer_map string_bytes result) }
+    {
+        self.next_line(prompt)
+    }
+
+    /// The same. The desk then says whether the line became an entry of the history.
+    fn next_line(&mut self, prompt: &str) -> Result<String, ReadlineError>
+        ensures added { AddsEntry self.new.desk.added (history_of self.old) (history_of self.new) }
+        ensures reads { let helps =
             helper_from_hooks H.hint_of H.verdict_of H.completion_of H.update_of H.marks in
             let known = devices_by S.feed D.held D.waits D.has_failed L.held L.waits L.has_failed in
             ReadsNext known (given_in B.decides helps prompt.now) self.old self.new
@@ -356,6 +371,33 @@ where
         &self.desk.history
     }
 
+    /// The rows of the entries that are new since the history was loaded, or since these were last
+    /// taken; empty if none is. They continue the history's text, where `append_history` of
+    /// `keyline_files` appends them. Then no entry is new. If memory runs out, nothing changes.
+    pub fn take_new_rows(&mut self) -> Result<Vec<u8>, ReadlineError>
+        ensures rows { IfOk result (λ rows. rows.items ≡ text_to_append (history_of self.old)) }
+        ensures taken { OnOk result (self.new ≡ with_saved self.old) }
+        ensures kept { OnErr result (self.new ≡ self.old) }
+        ensures fault { IfErr result (λ e. e ≡ Memory) }
+    {
+        let mut rows = VecSink::new(self.alloc);
+        match self.desk.history.append_to(&mut rows) {
+            Ok(()) => Ok(rows.into_bytes()),
+            Err(_) => Err(ReadlineError::Memory),
+        }
+    }
+
+    /// Hands the row of the last line to a sink, if the line became an entry. A sink that fails is
+    /// left as it is.
+    fn keep_newest<K: Sink>(&self, keeper: &mut K)
+        ensures { KeepsNewest K.held K.has_failed self.now.desk.added (history_of self.now)
+            keeper.old keeper.new }
+    {
+        if self.desk.added {
+            let _ = self.desk.history.write_newest(keeper);
+        }
+    }
+
     /// Ends the session, for this reason: saves the history if an entry is new, and returns the
     /// devices. If the history can't be saved, that is the ending, unless a fault came before.
     pub fn finish(self, why: ReadlineError) -> Ended<S, D, L, T>
@@ -404,25 +446,47 @@ where
             (given_in B.decides helps (prompt_of self) self) (desk_of self) (text_sink self)
             result }
     {
-        self.run_to_end(true)
+        self.run_to_end(true, &mut ClosedSink)
     }
 
-    /// The same, but saves the history only if asked to.
+    /// The same, but the row of each new entry is handed to a sink, and passed on, before the next
+    /// line is read, and the history's text is not saved at the end. If this sink fails, lines are
+    /// read on: the session doesn't end by it.
+    pub fn run_keeping<K: Sink>(self, keeper: &mut K) -> Ended<S, D, L, T>
+        ensures runs { let known = devices_by S.feed D.held D.waits D.has_failed L.held L.waits
+            L.has_failed in
+            let helps = helper_from_hooks H.hint_of H.verdict_of H.completion_of H.update_of
+            H.marks in
+            RunsSession known T.held T.has_failed false
+            (given_in B.decides helps (prompt_of self) self) (desk_of self) (text_sink self)
+            result }
+        ensures kept { KeepsRows K.held K.has_failed (history_of self) result.history keeper.old
+            keeper.new }
+    {
+        self.run_to_end(false, keeper)
+    }
+
+    /// Reads lines, draws and writes them, and saves the history at the end only if asked to. The
+    /// row of each new entry is handed to a sink before the next line is read.
     #[inline(never)]
-    pub(crate) fn run_to_end(self, saves: bool) -> Ended<S, D, L, T>
-        ensures { let known = devices_by S.feed D.held D.waits D.has_failed L.held L.waits
+    pub(crate) fn run_to_end<K: Sink>(self, saves: bool, keeper: &mut K) -> Ended<S, D, L, T>
+        ensures runs { let known = devices_by S.feed D.held D.waits D.has_failed L.held L.waits
             L.has_failed in
             let helps = helper_from_hooks H.hint_of H.verdict_of H.completion_of H.update_of
             H.marks in
             RunsSession known T.held T.has_failed saves
             (given_in B.decides helps (prompt_of self) self) (desk_of self) (text_sink self)
             result }
+        ensures kept { KeepsRows K.held K.has_failed (history_of self) result.history keeper.old
+            keeper.new }
     {
         let mut session = self;
         let empty = String::new(session.alloc);
         let prompt = mem::replace(&mut session.prompt, empty);
         loop {
-            match session.read_line(prompt.as_str()) {
+            let line = session.next_line(prompt.as_str());
+            session.keep_newest(keeper);
+            match line {
                 Ok(_) => {}
                 Err(why) => return session.close(why, saves),
             }

@@ -34,6 +34,7 @@ pub record AreMeant (options : KeylineOptions) (prompt : List ℕ) (o : Options)
   pub prompt_is : string_bytes o.prompt ≡ prompt
   pub plain : o.prompt_styles.items ≡ []
   pub no_history : o.history ≡ None
+  pub no_size : o.history_size ≡ None
   pub no_words : o.words ≡ None
   pub brackets_are : o.brackets ≡ options.brackets
 

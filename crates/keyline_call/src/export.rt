@@ -172,6 +172,7 @@ fn options_of(
         prompt: String::from_str(alloc, prompt)?,
         prompt_styles: Vec::new(alloc),
         history: None,
+        history_size: None,
         words: None,
         brackets: options.brackets,
     })

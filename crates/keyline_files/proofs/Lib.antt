@@ -1,1 +1,3 @@
+pub mod CallLemmas
 pub mod PathLemmas
+pub mod ReplayLemmas

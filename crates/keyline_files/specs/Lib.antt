@@ -1,1 +1,2 @@
+pub mod FileCalls
 pub mod Paths

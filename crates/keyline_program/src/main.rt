@@ -12,14 +12,19 @@ ghost use Rattle.keyline.specs.SessionEffects.{devices_by};
 ghost use Rattle.keyline.specs.SessionCalls.{LoadRefused};
 ghost use Rattle.line_config.specs.declared.config.Config.{Config};
 ghost use Rattle.keyline.specs.Program.{IsByEnvironment, PlaysOver, invoked_config, word_texts};
-ghost use Rattle.keyline_program.specs.Saving.{EndsSaved, ending_after};
+ghost use Rattle.keyline_program.specs.Saving.{EndsSaved, ending_after, ending_unsaved};
 
+mod keeping;
+
+use keeping::Rows;
 use keyline::{
-    Boxed, Ended, Ending, Foretold, Invocation, Invoked, Options, ReadlineError, Sink, SliceSource,
-    Source, StandardKeys, Unopened, VecSink, WriteSink, by_environment, invoked_config, load_words,
-    play_with,
+    Boxed, ClosedSink, Ended, Ending, Foretold, Invocation, Invoked, Options, ReadlineError, Sink,
+    SliceSource, Source, StandardKeys, Unopened, VecSink, WriteSink, by_environment,
+    invoked_config, load_words, play_with,
 };
-use keyline_files::{load_history, read_file, save_history};
+use keyline_files::{
+    can_append, cut_history, load_history, load_history_lossy, read_file, save_history,
+};
 use std::env;
 use std::io::{self, ErrorKind, IsTerminal, Stderr, Stdin, Stdout};
 use std::marker::Brand;
@@ -57,7 +62,7 @@ fn main(rt: HostRuntime) -> ExitCode {
         return ExitCode::SUCCESS;
     }
     match Invocation::parse(rt.alloc(), words.as_slice()) {
-        Invoked::Run(invocation) => run(&rt, &invocation),
+        Invoked::Run(invocation) => run(&rt, invocation),
         Invoked::Help(text) => {
             let _ = print!(rt; "{}", text.as_str());
             ExitCode::SUCCESS
@@ -70,17 +75,33 @@ fn main(rt: HostRuntime) -> ExitCode {
     }
 }
 
-/// Loads the words and the history, runs a session, and saves the history.
-fn run(rt: &HostRuntime, invocation: &Invocation) -> ExitCode
+/// Loads the words, and runs a session with the invocation's history.
+fn run(rt: &HostRuntime, mut invocation: Invocation) -> ExitCode
+    requires { let options = invocation.options in
+        (2 ≤ options.columns) × (options.columns ≤ 1000) }
+{
+    let words = match words_of(rt, &invocation.options) {
+        Ok(words) => words,
+        Err((ReadlineError::Memory, _)) => return ended(rt, Ending::Memory),
+        Err((_, cause)) => {
+            let path = told_of(&invocation, &invocation.options.words);
+            return file_not_loaded(rt, "words", path, cause, NO_WORDS);
+        }
+    };
+    if invocation.extended
+        && let Some(path) = invocation.options.history.take()
+    {
+        return run_keeping(rt, &invocation, words, path.as_str());
+    }
+    run_saving(rt, &invocation, words)
+}
+
+/// Loads the history, runs a session, and saves the history at its end.
+fn run_saving(rt: &HostRuntime, invocation: &Invocation, words: Option<Vec<String>>) -> ExitCode
     requires { let options = invocation.now.options in
         (2 ≤ options.columns) × (options.columns ≤ 1000) }
 {
     let options = &invocation.options;
-    let words = match words_of(rt, options) {
-        Ok(words) => words,
-        Err(ReadlineError::Memory) => return ended(rt, Ending::Memory),
-        Err(_) => return not_loaded(rt, "words do not load", NO_WORDS),
-    };
     let old = match &options.history {
         Some(path) => load_history(rt, path.as_str()),
         None => Ok(Vec::new(rt.alloc())),
@@ -90,7 +111,7 @@ fn run(rt: &HostRuntime, invocation: &Invocation) -> ExitCode
         Err(error) if error.kind() == ErrorKind::OutOfMemory => return ended(rt, Ending::Memory),
         Err(_) => return not_loaded(rt, "history does not load", NO_HISTORY),
     };
-    match play::<Brand>(rt, invocation, words, old.as_slice()) {
+    match play::<Brand, _>(rt, invocation, words, old.as_slice(), &mut ClosedSink) {
         Ok(played) => ended(rt, kept(rt, options, &played)),
         Err(unopened) => match unopened.why {
             ReadlineError::HistoryText | ReadlineError::Reader => not_loaded(
@@ -100,6 +121,63 @@ fn run(rt: &HostRuntime, invocation: &Invocation) -> ExitCode
             ),
             why => ended(rt, Ending::from(why)),
         },
+    }
+}
+
+/// The path, if the messages about its file have its name and the cause.
+fn told_of<'a>(invocation: &Invocation, path: &'a Option<String>) -> Option<&'a str> {
+    match path {
+        Some(path) if invocation.extended => Some(path.as_str()),
+        _ => None,
+    }
+}
+
+/// Runs a session with a history whose file has each accepted line before the next one is read. The
+/// file is not replaced at the end. It is cut if a size of the history was given.
+fn run_keeping(
+    rt: &HostRuntime,
+    invocation: &Invocation,
+    words: Option<Vec<String>>,
+    path: &str,
+) -> ExitCode
+    requires { let options = invocation.now.options in
+        (2 ≤ options.columns) × (options.columns ≤ 1000) }
+{
+    let old = match load_history_lossy(rt, path) {
+        Ok(old) => old,
+        Err(error) if error.kind() == ErrorKind::OutOfMemory => return ended(rt, Ending::Memory),
+        Err(error) => return file_not_loaded(rt, "history", Some(path), error.kind(), NO_HISTORY),
+    };
+    let mut rows = WriteSink::new(rows_of(rt, path));
+    let ending = match play::<Brand, _>(rt, invocation, words, old.as_slice(), &mut rows) {
+        Ok(played) => played.ending,
+        Err(unopened) => Ending::from(unopened.why),
+    };
+    if !rows.into_parts().0.finish() {
+        return unsaved(rt, ending);
+    }
+    if let Some(size) = invocation.options.history_size {
+        cut(rt, path, size);
+    }
+    ended(rt, ending)
+}
+
+/// What appends to the file of this path. If it can't be opened for writing, that is told.
+fn rows_of<'a>(rt: &'a HostRuntime, path: &'a str) -> Rows<'a> {
+    let can = can_append(rt, path);
+    if let Err(error) = &can {
+        let cause = error.kind();
+        let _ = eprintln!(rt;
+            "keyline: history file {path}: {cause}; the lines of this run won't be saved"
+        );
+    }
+    Rows::new(rt, path, can.is_err())
+}
+
+/// Cuts a history file that has a quarter more rows than these. A failure is told.
+fn cut(rt: &HostRuntime, path: &str, rows: usize) {
+    if let Err(error) = cut_history(rt, path, rows) {
+        let _ = eprintln!(rt; "keyline: history file {path}: {}", error.kind());
     }
 }
 
@@ -117,12 +195,14 @@ type NotPlayed<'a> = Unopened<SliceSource<'a>, Stdin, Stderr, Stdout, VecSink>;
 
 /// The session. For all bytes that `K` may say of standard input and that agree with what its reads
 /// gave, the writes of standard output and standard error took the lines and the display bytes of
-/// the session of these bytes, by the invocation's settings, or by the same without colours.
-fn play<'a, K: Foretold<Stdin>>(
+/// the session of these bytes, by the invocation's settings, or by the same without colours. The
+/// row of each new entry is handed to a sink before the next line is read.
+fn play<'a, K: Foretold<Stdin>, T: Sink>(
     rt: &HostRuntime,
     invocation: &Invocation,
     words: Option<Vec<String>>,
     old: &'a [u8],
+    rows: &mut T,
 ) -> Result<Played<K>, NotPlayed<'a>>
     requires { let options = invocation.now.options in
         (2 ≤ options.columns) × (options.columns ≤ 1000) }
@@ -140,7 +220,7 @@ fn play<'a, K: Foretold<Stdin>>(
         (fresh_feed old.entry.now End) (⟦<SliceSource<'a> as Source>⟧.feed unopened.history)
         unopened.why) }
 {
-    play_with::<K, _, _, _>(
+    play_with::<K, _, _, _, _>(
         rt.alloc(),
         by_environment(rt, invoked_config(invocation)),
         &invocation.options,
@@ -149,6 +229,7 @@ fn play<'a, K: Foretold<Stdin>>(
         rt.stdin(),
         rt.stderr(),
         rt.stdout(),
+        rows,
     )
 }
 
@@ -177,17 +258,53 @@ fn ending_after(saved: io::Result<()>, ending: Ending) -> Ending
 }
 
 /// The words of the file that the options name, if they name one.
-fn words_of(rt: &HostRuntime, options: &Options) -> Result<Option<Vec<String>>, ReadlineError> {
+fn words_of(
+    rt: &HostRuntime,
+    options: &Options,
+) -> Result<Option<Vec<String>>, (ReadlineError, ErrorKind)> {
     let Some(path) = &options.words else {
         return Ok(None);
     };
     let text = match read_file(rt, path.as_str()) {
         Ok(text) => text,
-        Err(error) if error.kind() == ErrorKind::OutOfMemory => return Err(ReadlineError::Memory),
-        Err(_) => return Err(ReadlineError::Reader),
+        Err(error) => return Err(match error.kind() {
+            ErrorKind::OutOfMemory => (ReadlineError::Memory, ErrorKind::OutOfMemory),
+            cause => (ReadlineError::Reader, cause),
+        }),
     };
-    let words = load_words(rt.alloc(), &mut SliceSource::new(text.as_slice()))?;
-    Ok(Some(words))
+    match load_words(rt.alloc(), &mut SliceSource::new(text.as_slice())) {
+        Ok(words) => Ok(Some(words)),
+        Err(why) => Err((why, ErrorKind::InvalidData)),
+    }
+}
+
+/// Says that the words or the history do not load, with the file's name and the cause if the name
+/// is given, and answers its status.
+fn file_not_loaded(
+    rt: &HostRuntime,
+    what: &str,
+    path: Option<&str>,
+    cause: ErrorKind,
+    status: u8,
+) -> ExitCode
+    ensures { exit_status result ≡ status }
+{
+    let _ = match path {
+        Some(path) => eprintln!(rt; "keyline: {what} file {path}: {cause}"),
+        None => eprintln!(rt; "keyline: {what} do not load"),
+    };
+    ExitCode::from(status)
+}
+
+/// The ending if rows of the history were not appended, which was told: only another fault is
+/// still to be told.
+fn unsaved(rt: &HostRuntime, ending: Ending) -> ExitCode
+    ensures { exit_status result ≡ status_of (ending_unsaved ending) }
+{
+    match ending_after(Err(io::Error::from(ErrorKind::Other)), ending) {
+        Ending::HistoryText => ExitCode::from(Ending::HistoryText.status()),
+        fault => ended(rt, fault),
+    }
 }
 
 /// Says what does not load, and answers its status.

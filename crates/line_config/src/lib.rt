@@ -25,6 +25,6 @@ pub use device::{DeviceFailed, Last, Sink, Source};
 pub use errors::{HookFault, ReadlineError};
 pub use foretold::{Foretold, OwnBytes, ReportsBytes};
 pub use log::Log;
-pub use memory::{SliceSource, VecSink};
+pub use memory::{ClosedSink, SliceSource, VecSink};
 pub use recorded::Recorded;
 pub use settings::{Behavior, BellStyle, ColorMode, CompletionType, EditMode, HistoryDuplicates};

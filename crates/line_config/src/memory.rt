@@ -154,3 +154,27 @@ impl Sink for VecSink {
         self.failed
     }
 }
+
+/// A sink that takes nothing: it has failed from the start.
+#[derive(Clone, Copy, Debug, Default)]
+pub struct ClosedSink;
+
+impl Sink for ClosedSink {
+    ghost held = { λ _. [] };
+
+    ghost waits = { λ _. [] };
+
+    ghost has_failed = { λ _. true };
+
+    fn write(&mut self, _bytes: &[u8]) -> Result<(), DeviceFailed> {
+        Err(DeviceFailed)
+    }
+
+    fn flush(&mut self) -> Result<(), DeviceFailed> {
+        Err(DeviceFailed)
+    }
+
+    fn failed(&self) -> bool {
+        true
+    }
+}

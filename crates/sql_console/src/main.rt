@@ -20,7 +20,7 @@ use keyline::{
     Ending, HelperParts, LineEditor, ReadlineError, SliceSource, StandardEditor, VecSink,
     WholeWordCompleter, standard_builder,
 };
-use keyline_files::{load_history, save_history};
+use keyline_files::{HistoryFile, load_history_lossy};
 use sqlite::Connection;
 use std::io::IsTerminal;
 use std::process::ExitCode;
@@ -33,7 +33,7 @@ const WRONG_ARGUMENTS: u8 = 2;
 
 type Help = HelperParts<WholeWordCompleter, Statements, StatementHighlighter, Statements>;
 
-/// An editor whose history's text can be saved.
+/// An editor whose history is kept.
 type Editor = StandardEditor<Help, VecSink>;
 
 /// Completes the names of tables, a sole one with a space after it, draws a statement in colours,
@@ -47,14 +47,31 @@ fn helper(tables: Vec<String>) -> Help {
     }
 }
 
+/// Appends the rows of the new entries to the history's file, if there is one. If that fails, they
+/// are appended with the next ones.
+fn keep(editor: &mut Editor, file: &mut Option<HistoryFile<'_>>) -> Result<()> {
+    if let Some(file) = file {
+        file.add(&editor.take_new_rows()?)?;
+        let _ = file.append();
+    }
+    Ok(())
+}
+
 /// Reads statements and answers them, until `.quit` or the end of the input.
-fn converse(rt: &HostRuntime, editor: &mut Editor) -> Result<()> {
+fn converse(
+    rt: &HostRuntime,
+    editor: &mut Editor,
+    file: &mut Option<HistoryFile<'_>>,
+) -> Result<()> {
     let mut conn = Connection::open_in_memory(rt.alloc())?;
     let mut text = String::new(rt.alloc());
     for _ in 0..u64::MAX {
         let prompt = if text.is_empty() { "sql> " } else { "...> " };
         match editor.read_line(prompt) {
-            Ok(line) => text.push_str(line.as_str())?,
+            Ok(line) => {
+                keep(editor, file)?;
+                text.push_str(line.as_str())?;
+            }
             Err(ReadlineError::Interrupted) => text.clear(),
             Err(_) => break,
         }
@@ -80,7 +97,7 @@ fn console(rt: &HostRuntime, path: Option<&str>) -> Result<()> {
         eprintln!(rt; "{GREETING}")?;
     }
     let old = match path {
-        Some(path) => load_history(rt, path).context("the history does not load")?,
+        Some(path) => load_history_lossy(rt, path).context("the history does not load")?,
         None => Vec::new(rt.alloc()),
     };
     let session = standard_builder(rt)
@@ -90,13 +107,16 @@ fn console(rt: &HostRuntime, path: Option<&str>) -> Result<()> {
         .open()
         .map_err(|unopened| unopened.why)?;
     let mut editor = LineEditor::new(session);
-    let answered = converse(rt, &mut editor);
-    let ended = editor.finish();
-    if let Some(path) = path {
-        save_history(rt, path, ended.text_to_save()).context("the history is not saved")?;
+    let mut file = match path {
+        Some(path) => Some(HistoryFile::new(rt, path)),
+        None => None,
+    };
+    let answered = converse(rt, &mut editor, &mut file);
+    if let Some(file) = &mut file {
+        file.append().context("the history is not saved")?;
     }
     answered?;
-    match ended.ending {
+    match editor.finish().ending {
         Ending::Eof => Ok(()),
         ending => bail!("{}", ending.text()),
     }

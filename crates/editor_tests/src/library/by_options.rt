@@ -68,13 +68,13 @@ fn told(alloc: Global, made: &Result<Vec<u8>, Ending>) -> Result<String, AllocEr
 }
 
 const COMMAND_LINES: &str = r#"
-    keyline = Options { mode: Emacs, columns: 80, prompt: "> ", prompt_styles: [], history: None, words: None, brackets: false }
-    keyline --mode vi --columns 1000 = Options { mode: Vi, columns: 1000, prompt: "> ", prompt_styles: [], history: None, words: None, brackets: false }
-    keyline --mode=emacs --columns=2 --prompt=$ = Options { mode: Emacs, columns: 2, prompt: "$", prompt_styles: [], history: None, words: None, brackets: false }
-    keyline --prompt ? --history=kept --brackets = Options { mode: Emacs, columns: 80, prompt: "?", prompt_styles: [], history: Some("kept"), words: None, brackets: true }
-    keyline --words listed = Options { mode: Emacs, columns: 80, prompt: "> ", prompt_styles: [], history: None, words: Some("listed"), brackets: false }
-    keyline --brackets --words=a --history b = Options { mode: Emacs, columns: 80, prompt: "> ", prompt_styles: [], history: Some("b"), words: Some("a"), brackets: true }
-    keyline --words= = Options { mode: Emacs, columns: 80, prompt: "> ", prompt_styles: [], history: None, words: Some(""), brackets: false }
+    keyline = Options { mode: Emacs, columns: 80, prompt: "> ", prompt_styles: [], history: None, history_size: None, words: None, brackets: false }
+    keyline --mode vi --columns 1000 = Options { mode: Vi, columns: 1000, prompt: "> ", prompt_styles: [], history: None, history_size: None, words: None, brackets: false }
+    keyline --mode=emacs --columns=2 --prompt=$ = Options { mode: Emacs, columns: 2, prompt: "$", prompt_styles: [], history: None, history_size: None, words: None, brackets: false }
+    keyline --prompt ? --history=kept --brackets = Options { mode: Emacs, columns: 80, prompt: "?", prompt_styles: [], history: Some("kept"), history_size: None, words: None, brackets: true }
+    keyline --words listed = Options { mode: Emacs, columns: 80, prompt: "> ", prompt_styles: [], history: None, history_size: None, words: Some("listed"), brackets: false }
+    keyline --brackets --words=a --history b = Options { mode: Emacs, columns: 80, prompt: "> ", prompt_styles: [], history: Some("b"), history_size: None, words: Some("a"), brackets: true }
+    keyline --words= = Options { mode: Emacs, columns: 80, prompt: "> ", prompt_styles: [], history: None, history_size: None, words: Some(""), brackets: false }
     keyline --columns 1 = usage
     keyline --columns 1001 = usage
     keyline --columns 70000 = usage

@@ -40,7 +40,7 @@ impl Model for FileHistory {
 impl FileHistory {
     ghost use Rattle.std.specs.Prelude.{◌≡◌};
     ghost use Rattle.line_config.specs.Config.{default_config};
-    ghost use Rattle.line_help.specs.History.{settings_of, nothing_filed, entries_left};
+    ghost use Rattle.line_help.specs.History.{settings_of, nothing_filed, entries_left, takes};
 
     /// A history with the default settings.
     pub fn new(alloc: Global) -> Self
@@ -66,12 +66,20 @@ impl FileHistory {
     {
         self.memory.iter()
     }
+
+    /// Whether a line would be added, as `History::add` says.
+    pub fn takes(&self, line: &str) -> bool
+        ensures { result ≡ takes self.now line.now }
+    {
+        !self.memory.ignores(line)
+    }
 }
 
 // Saving.
 impl FileHistory {
     ghost use Rattle.std.specs.Prelude.{◌≡◌, ◌<◌, [], OnOk, drop};
     ghost use Rattle.line_help.specs.HistoryText.{rows_text, text_to_save, text_to_append, SavesNew, SendsText};
+    ghost use Rattle.line_help.specs.History.{newest};
 
     /// Writes the rows of the entries from the first one on, and passes them on.
     fn write_rows<S: Sink>(&self, sink: &mut S, first: usize) -> Result<(), ReadlineError>
@@ -83,6 +91,16 @@ impl FileHistory {
             write_row(sink, self.memory[index].as_str())?;
         }
         pass_on(sink)
+    }
+
+    /// Writes the row of the newest entry, if there is one, and passes it on. It continues a text
+    /// that was saved before. Which entries are new stays as it was.
+    pub fn write_newest<S: Sink>(&self, sink: &mut S) -> Result<(), ReadlineError>
+        ensures sends { SendsText S.held S.has_failed
+            (rows_text (newest 1 self.now.kept.entries)) sink.old sink.new result }
+        ensures passes { OnOk result (S.waits sink.new ≡ []) }
+    {
+        self.write_rows(sink, self.memory.len().saturating_sub(1))
     }
 
     /// Writes the whole text of the history if an entry is new, and passes it on. Then no entry is

@@ -81,7 +81,8 @@ impl MemHistory {
         }
     }
 
-    fn ignores(&self, line: &str) -> bool
+    /// Whether a line is ignored, as `History::add` says.
+    pub(crate) fn ignores(&self, line: &str) -> bool
         ensures { result ≡ ignores_line self.now.settings self.now.entries line.now }
     {
         self.max_len == 0

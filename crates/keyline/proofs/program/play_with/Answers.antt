@@ -1,7 +1,10 @@
 -- The session by options, over what is said of its keys, and then its writers flushed.
-use Rattle.std.proofs.Common.{[], refl, sym, unwrap_or}
+use Rattle.std.proofs.Common.{[], refl, subst, sym, unwrap_or}
 use Rattle.line_config.specs.Adapters.{bytes_not_sent, bytes_sent}
+use Rattle.line_config.specs.Feed.{Feed}
+use Rattle.keyline.specs.Keeping.{KeepsRows}
 use Rattle.keyline.specs.Program.{word_texts}
+use Rattle.keyline.specs.SessionCalls.{history_loaded_from}
 use Rattle.keyline.proofs.PlayedLemmas.{fails_still, fresh_coming, fresh_sink, handed_on, played}
 use Rattle.keyline.proofs.program.play_with.Goals as goal
 
@@ -22,3 +25,8 @@ returns-clause-plays g c =
       drawn = λ works. sym (fresh_sink (bytes_sent c.flush.new.self) (bytes_not_sent c.flush.new.self) _ refl (handed_on c.flush.result _ c.flush.ensures.failure works c.flush.ensures.waits));
       written = λ works. sym (fresh_sink (bytes_sent c.flush-2.new.self) (bytes_not_sent c.flush-2.new.self) _ refl (handed_on c.flush-2.result _ c.flush-2.ensures.failure works c.flush-2.ensures.waits));
     }
+
+pub returns-clause-kept : goal.returns-clause-kept
+returns-clause-kept g c =
+    subst (λ (feed : Feed). KeepsRows g.T.Sink.held g.T.Sink.has_failed (history_loaded_from c.args.config feed) c.in-Ok-edit_with.played.history c.args.keeper.now c.edit_with.new.keeper)
+    c.new-2.ensures (c.in-Ok-edit_with.ensures.kept (λ s. refl))

@@ -1,9 +1,10 @@
--- The lines so far were taken, and the history's text is as it was.
+-- The lines so far were taken, the history's text is as it was, and the rows of its new entries were handed over.
 use Rattle.std.specs.Prelude.{◌≡◌}
 use Rattle.line_editor.specs.LineRun.{helper_from_hooks}
 use Rattle.keyline.specs.Desks.{desk_feed}
+use Rattle.keyline.specs.Keeping.{KeepsRows}
 use Rattle.keyline.specs.SessionEffects.{devices_by}
-use Rattle.keyline.specs.SessionCalls.{given_in, prompt_of}
+use Rattle.keyline.specs.SessionCalls.{given_in, history_of, prompt_of}
 use Rattle.keyline.proofs.LinesLemmas.{Underway}
 use Rattle.keyline.proofs.session.Session.run_to_end.Given as goal
 
@@ -14,6 +15,7 @@ invariant-loop-why g l =
     let self = l.fn.self in
     let given = given_in g.B.Decides.decides helps (prompt_of self) in
     Underway k (given self) (given l.session) self.desk l.session.desk × (l.session.text ≡ self.text)
+    × KeepsRows g.K.Sink.held g.K.Sink.has_failed (history_of self) (history_of l.session) l.fn.keeper l.keeper
 
 abbrev pub decreases-loop-why : goal.decreases-loop-why
 decreases-loop-why g l =
