@@ -111,6 +111,7 @@ class Incoming:
     def __init__(self, descriptor):
         self.descriptor = descriptor
         self.held = b""
+        self.may_come = b""
 
     def more(self, deadline):
         """Reads once; False at the end."""
@@ -125,13 +126,15 @@ class Incoming:
         return read != b""
 
     def expect(self, expected):
-        """Waits for these bytes, and fails at any others before them."""
+        """Waits for these bytes, and fails at any others before them, except for those that may come."""
         deadline = time.monotonic() + HUNG
-        while len(self.held) < len(expected) and expected.startswith(self.held):
-            if not self.more(deadline):
+        ways = [expected, self.may_come + expected]
+        while any(len(self.held) < len(way) and way.startswith(self.held) for way in ways):
+            if self.held == expected or not self.more(deadline):
                 break
-        same("what came", self.held[: len(expected)], expected)
-        self.held = self.held[len(expected) :]
+        come = next((way for way in ways if self.held.startswith(way)), expected)
+        same("what came", self.held[: len(come)], come)
+        self.held, self.may_come = self.held[len(come) :], b""
 
     def expect_end_of(self, expected):
         """Waits until the bytes so far end with these."""

@@ -137,8 +137,11 @@ class Terminal:
             self.master = None
 
     def stop(self):
+        """By the key. Linux sends the signal first and then looks whether the key is echoed: the job may have stopped meanwhile,
+        and put the settings back."""
         self.type(b"\x1a")
         self.expect_stopped()
+        self.display.may_come = b"^Z"
 
     def expect_stopped(self):
         same("report", self.next_report(), "stopped")
